@@ -1,0 +1,131 @@
+-- What a lawful end of a session does: its acts, one after another, and the moves between them.
+use Rattle.std.specs.Prelude.{◌≡◌, ℕ, ◌+◌, ◌<◌, ◌≤◌, ◌==◌, if◌then◌else◌, List, [], ◌∷◌, ◌++◌, length, drop, Bool, true, false, Option, Some, None}
+use Rattle.fix_base.specs.Lists.{Among}
+use Rattle.fix_base.specs.Message as message
+use Rattle.fix_base.specs.Message.{Message, IsAdminNumbered}
+use Rattle.fix_base.specs.Says.{Shows}
+use Rattle.fix_base.specs.End.{Entry, Admin, Record, Push, Expect, Reset, End, new_end, folded, REJECT}
+use Rattle.fix_base.specs.Act as act
+use Rattle.fix_base.specs.Act.{Act}
+use Rattle.fix_base.specs.Session.{Identity}
+use Rattle.fix_base.specs.Wrote.{Wrote}
+
+-- a message that was handed over or rejected
+pub record Handling : Type 0 where
+  pub number : ℕ
+  pub body : List ℕ
+  pub marked : Bool
+  pub rejected : Bool
+
+pub record Connection : Type 0 where
+  pub opened : End  -- the end at Opened
+  pub read : List ℕ
+  pub written : List ℕ
+  pub base : ℕ  -- how long `handled` was at Opened
+  pub gave : List ℕ  -- the numbers of the Handed on this connection
+
+pub record EndState : Type 0 where
+  pub end : End
+  pub expected : ℕ  -- the running expected number
+  pub handled : List Handling
+  pub doubt : Option Record  -- a record that may or may not be kept
+  pub connection : Option Connection
+
+-- an end that never did anything
+abbrev pub new_state : EndState
+new_state = record { end = new_end; expected = 1; handled = []; doubt = None; connection = None }
+
+-- a frame that was read on the connection says this
+pub record WasRead (c : Connection) (x : Message) : Type 0 where
+  pub messages : List Message
+  pub shows : Shows c.read messages
+  pub among : Among x messages
+
+-- the first App frame of this number among these, as rejected
+abbrev pub first_app : ℕ → List Message → Option Handling
+first_app n [] = None
+first_app n (message.App k marked body ∷ xs) = if k == n then Some (record { number = k; body = body; marked = marked; rejected = true }) else first_app n xs
+first_app n (message.Admin k ∷ xs) = first_app n xs
+first_app n (message.GapFill k next ∷ xs) = first_app n xs
+first_app n (message.ResetTo k next ∷ xs) = first_app n xs
+
+-- the entry is a Reject of the App frame with the running number
+pub record Rejects (s : EndState) (e : Entry) (h : Handling) : Type 0 where
+  pub time : ℕ
+  pub is : e ≡ Admin time REJECT s.expected
+  pub connection : Connection
+  pub is_open : s.connection ≡ Some connection
+  pub messages : List Message
+  pub shows : Shows connection.read messages
+  pub first : first_app s.expected messages ≡ Some h
+
+-- `handled` grew by this number on the connection
+pub record Grew (c : Connection) (handled : List Handling) (number : ℕ) : Type 0 where
+  pub item : Handling
+  pub among : Among item (drop c.base handled)
+  pub is : item.number ≡ number
+
+-- the application message handed over is that of the running number, and wasn't given on this connection
+pub record MayHand (s : EndState) (c : Connection) (number : ℕ) (marked : Bool) (body : List ℕ) : Type 0 where
+  pub is_open : s.connection ≡ Some c
+  pub expected : number ≡ s.expected
+  pub frame : WasRead c (message.App number marked body)
+  pub unseen : Among number c.gave → ⊥
+
+-- what each act needs, and what it changes
+pub data Row (id : Identity) (s : EndState) : Act → EndState → Type 0 where
+  -- a new connection, with nothing read or written
+  opened : Row id s act.Opened (record s { connection = Some (record { opened = s.end; read = []; written = []; base = length s.handled; gave = [] }) })
+  now : (time : ℕ) → Row id s (act.Now time) s
+  idle : (c : Connection) → s.connection ≡ Some c → Row id s act.Idle s
+  ended : (c : Connection) → s.connection ≡ Some c → Row id s act.Ended s
+  read : (b : List ℕ) (c : Connection) → s.connection ≡ Some c → Row id s (act.Read b) (record s { connection = Some (record c { read = c.read ++ b }) })
+  wrote : (b : List ℕ) (c : Connection) → s.connection ≡ Some c → Wrote id c.opened s.end (c.written ++ b) → Row id s (act.Wrote b) (record s { connection = Some (record c { written = c.written ++ b }) })
+  -- an entry is added. Where it is a Reject of the expected number, the first message of this number
+  -- that was read may be taken as handled, by being rejected
+  kept_push : (e : Entry) → Row id s (act.Kept (Push e)) (record s { end = folded s.end (Push e) })
+  kept_reject : (e : Entry) (h : Handling) → Rejects s e h → Row id s (act.Kept (Push e)) (record s { end = folded s.end (Push e); handled = s.handled ++ h ∷ [] })
+  -- the number that is kept is the running one: no message is passed before it is handled
+  kept_expect : (k : ℕ) → k ≡ s.expected → Row id s (act.Kept (Expect k)) (record s { end = folded s.end (Expect k) })
+  kept_reset : (t : ℕ) → Row id s (act.Kept (Reset t)) (record s { end = folded s.end (Reset t); expected = 1; handled = []; connection = None })
+  -- the message of the expected number, once on a connection
+  handed : (c : Connection) (n : ℕ) (marked : Bool) (body : List ℕ) → MayHand s c n marked body → Row id s (act.Handed n marked body) (record s { handled = s.handled ++ record { number = n; body = body; marked = marked; rejected = false } ∷ []; connection = Some (record c { gave = n ∷ c.gave }) })
+  hand_lost : (c : Connection) (n : ℕ) (marked : Bool) (body : List ℕ) → MayHand s c n marked body → Row id s (act.HandLost n marked body) (record s { connection = None })
+  -- the record may be kept or not
+  lost_push : (e : Entry) → Row id s (act.KeepLost (Push e)) (record s { doubt = Some (Push e); connection = None })
+  lost_expect : (k : ℕ) → k ≡ s.expected → Row id s (act.KeepLost (Expect k)) (record s { doubt = Some (Expect k); connection = None })
+  lost_reset : (t : ℕ) → Row id s (act.KeepLost (Reset t)) (record s { doubt = Some (Reset t); connection = None })
+  cut : Row id s act.Cut (record s { connection = None })
+  -- the process starts from what is stored
+  stopped : Row id s act.Stop (record s { expected = s.end.stored; connection = None })
+
+-- while a record is in doubt no act is a step
+pub record EndStep (id : Identity) (s : EndState) (a : Act) (s' : EndState) : Type 0 where
+  pub certain : s.doubt ≡ None
+  pub row : Row id s a s'
+
+-- what is left of `handled` where this record was added
+abbrev pub handled_with : List Handling → Record → List Handling
+handled_with handled (Push e) = handled
+handled_with handled (Expect k) = handled
+handled_with handled (Reset t) = []
+
+-- the moves that need no act: a doubt settles, or the running number passes what was read
+pub data Move (s : EndState) : EndState → Type 0 where
+  settles_without : (r : Record) → s.doubt ≡ Some r → Move s (record s { expected = s.end.stored; doubt = None })
+  settles_with : (r : Record) → s.doubt ≡ Some r → Move s (record s { end = folded s.end r; expected = (folded s.end r).stored; handled = handled_with s.handled r; doubt = None })
+  past_admin : (c : Connection) (x : Message) → s.connection ≡ Some c → WasRead c x → IsAdminNumbered s.expected x → Move s (record s { expected = s.expected + 1 })
+  past_app : (c : Connection) (n : ℕ) (marked : Bool) (body : List ℕ) → s.connection ≡ Some c → WasRead c (message.App n marked body) → n ≡ s.expected → Grew c s.handled n → Move s (record s { expected = s.expected + 1 })
+  past_gap : (c : Connection) (n m : ℕ) → s.connection ≡ Some c → WasRead c (message.GapFill n m) → n ≡ s.expected → s.expected < m → Move s (record s { expected = m })
+  reset_to : (c : Connection) (n m : ℕ) → s.connection ≡ Some c → WasRead c (message.ResetTo n m) → s.expected ≤ m → Move s (record s { expected = m })
+
+-- a run of an end: each act in turn is a step, with moves between
+pub data EndRun (id : Identity) : EndState → List Act → EndState → Type 0 where
+  stop : {s : EndState} → EndRun id s [] s
+  step : {s mid s' : EndState} {a : Act} {acts : List Act} → EndStep id s a mid → EndRun id mid acts s' → EndRun id s (a ∷ acts) s'
+  move : {s mid s' : EndState} {acts : List Act} → Move s mid → EndRun id mid acts s' → EndRun id s acts s'
+
+-- a run gets to some state
+pub record RunsSomewhere (id : Identity) (s : EndState) (acts : List Act) : Type 0 where
+  pub to : EndState
+  pub run : EndRun id s acts to

@@ -1,0 +1,82 @@
+-- Which entries a message store may keep, and which ends keep their messages.
+use Rattle.std.specs.Prelude.{◌≡◌, ◌≢◌, ℕ, ◌<◌, ◌≤◌, ◌^◌, ◌==◌, ◌||◌, bytes_eq, codes, IsTrue, List, [], ◌∷◌, ◌++◌, length, Bool, false, None}
+use Rattle.std.specs.List.{AllByRecursion, list_any}
+use Rattle.fix_base.specs.Lists.{Among}
+use Rattle.fix_base.specs.Tags.{is_session_tag}
+use Rattle.fix_base.specs.Fields.{Field, FieldsAfter}
+use Rattle.fix_base.specs.Says.{field_text, fields_text, is_admin_type}
+use Rattle.fix_base.specs.End.{By, Entry, App, Admin, Record, Push, Expect, Reset, End, WITHHELD}
+
+-- the last microsecond of 2099: a clock reading beyond it counts as this one
+abbrev pub LAST_TIME : ℕ
+LAST_TIME = 4102444799999999
+
+-- the longest body of an application message
+abbrev pub LONGEST_BODY : ℕ
+LONGEST_BODY = 1048064
+
+abbrev pub field : ℕ → List ℕ → Field
+field tag value = record { tag = tag; value = value }
+
+-- a field that may stand in a body behind its MsgType
+pub record IsEntryField (f : Field) : Type 0 where
+  pub no_begin : f.tag ≢ 8
+  pub no_length : f.tag ≢ 9
+  pub no_sum : f.tag ≢ 10
+  pub no_type : f.tag ≢ 35
+  pub no_header : is_session_tag f.tag ≡ false
+
+-- the MsgType of an application message: neither administrative nor SequenceReset
+pub record IsAppType (type : List ℕ) : Type 0 where
+  pub no_reset : bytes_eq type (codes "4") ≡ false
+  pub no_admin : is_admin_type type ≡ false
+
+-- the body of an application message, as its MsgType and its other fields
+pub record IsBodyOf (body type : List ℕ) (rest : List Field) : Type 0 where
+  pub spelled : body ≡ fields_text (field 35 type ∷ rest)
+  pub fields : FieldsAfter None body (field 35 type ∷ rest)
+  pub app : IsAppType type
+  pub each : AllByRecursion IsEntryField rest
+
+-- an application message that may be kept
+pub record IsAppPayload (time : ℕ) (body : List ℕ) : Type 0 where
+  pub time_fits : time ≤ LAST_TIME
+  pub short : length body ≤ LONGEST_BODY
+  pub type : List ℕ
+  pub rest : List Field
+  pub named : type ≢ []
+  pub is : IsBodyOf body type rest
+
+-- Heartbeat, TestRequest, ResendRequest, Reject, Logout, Logon, and a message that is withheld
+abbrev pub is_admin_kind : ℕ → Bool
+is_admin_kind kind = list_any (λ k. k == kind) (codes "01235AN")
+
+pub record IsAdminPayload (time kind about : ℕ) : Type 0 where
+  pub time_fits : time ≤ LAST_TIME
+  pub kind_known : IsTrue (is_admin_kind kind)
+  pub about_fits : about < 2 ^ 32
+
+-- an entry that may be kept
+abbrev pub HasPayload : Entry → Type 0
+HasPayload (App time by body) = IsAppPayload time body
+HasPayload (Admin time kind about) = IsAdminPayload time kind about
+
+-- a record that may be kept
+abbrev pub IsKeepable : Record → Type 0
+IsKeepable (Push entry) = HasPayload entry
+IsKeepable (Expect number) = (1 ≤ number) × (number ≤ 1000000000)
+IsKeepable (Reset time) = time ≤ LAST_TIME
+
+-- an application message is no entry that is skipped in a resend
+abbrev pub IsNotWithheld : Entry → Type 0
+IsNotWithheld (App time by body) = Unit {0}
+IsNotWithheld (Admin time kind about) = kind ≢ WITHHELD
+
+-- an entry that may be kept, and sent again
+pub record IsPersistentEntry (entry : Entry) : Type 0 where
+  pub payload : HasPayload entry
+  pub kept : IsNotWithheld entry
+
+-- an end that keeps all its application messages to be sent again
+pub record IsPersistent (e : End) : Type 0 where
+  pub each : (entry : Entry) → Among entry e.out → IsPersistentEntry entry

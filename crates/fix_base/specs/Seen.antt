@@ -1,0 +1,102 @@
+-- What is seen from outside of the parts that an engine calls: the tape of its acts, the stored end, and
+-- how often each part failed.
+use Rattle.std.specs.Prelude.{◌≡◌, ◌⊎◌, ℕ, suc, ◌+◌, ◌<◌, ◌≤◌, List, [], ◌∷◌, ◌++◌, Option, Some, None}
+use Rattle.fix_base.specs.End.{Record, End, folded}
+use Rattle.fix_base.specs.Act.{Act, Opened, Now, Read, Idle, Ended, Wrote, Kept, KeepLost, Handed, HandLost, Cut, Stop}
+
+abbrev pub option_folded : Option End → Record → Option End
+option_folded None r = None
+option_folded (Some e) r = Some (folded e r)
+
+-- what one act may do to a store that is told or not; a lost record may have got there
+abbrev pub ActStores : Act → Option End → Option End → Type 0
+ActStores (Kept r) old new = new ≡ option_folded old r
+ActStores (KeepLost r) old new = (new ≡ old) ⊎ (new ≡ option_folded old r)
+ActStores Opened old new = new ≡ old
+ActStores (Now t) old new = new ≡ old
+ActStores (Read b) old new = new ≡ old
+ActStores Idle old new = new ≡ old
+ActStores Ended old new = new ≡ old
+ActStores (Wrote b) old new = new ≡ old
+ActStores (Handed number marked body) old new = new ≡ old
+ActStores (HandLost number marked body) old new = new ≡ old
+ActStores Cut old new = new ≡ old
+ActStores Stop old new = new ≡ old
+
+abbrev pub Stores : List Act → Option End → Option End → Type 0
+Stores [] old new = new ≡ old
+Stores (act ∷ acts) old new = (mid : Option End) × ActStores act old mid × Stores acts mid new
+
+-- a tape with these acts behind it, where it is told
+abbrev pub grown : Option (List Act) → List Act → Option (List Act)
+grown None acts = None
+grown (Some old) acts = Some (old ++ acts)
+
+-- how often each part has failed
+pub record Faults : Type 0 where
+  pub store : ℕ
+  pub link : ℕ
+  pub app : ℕ
+
+-- what an outside may fail at
+pub data Part : Type 0 where
+  StorePart : Part
+  LinkPart : Part
+  AppPart : Part
+
+-- one thing that came of a call: an act, or that a part failed
+pub data Note : Type 0 where
+  Did : (act : Act) → Note
+  Failed : (part : Part) → Note
+
+-- the acts among these
+abbrev pub acts_of : List Note → List Act
+acts_of [] = []
+acts_of (Did act ∷ notes) = act ∷ acts_of notes
+acts_of (Failed part ∷ notes) = acts_of notes
+
+-- how often each part failed in these
+abbrev pub store_failures : List Note → ℕ
+store_failures [] = 0
+store_failures (Did act ∷ notes) = store_failures notes
+store_failures (Failed StorePart ∷ notes) = suc (store_failures notes)
+store_failures (Failed LinkPart ∷ notes) = store_failures notes
+store_failures (Failed AppPart ∷ notes) = store_failures notes
+
+abbrev pub link_failures : List Note → ℕ
+link_failures [] = 0
+link_failures (Did act ∷ notes) = link_failures notes
+link_failures (Failed StorePart ∷ notes) = link_failures notes
+link_failures (Failed LinkPart ∷ notes) = suc (link_failures notes)
+link_failures (Failed AppPart ∷ notes) = link_failures notes
+
+abbrev pub app_failures : List Note → ℕ
+app_failures [] = 0
+app_failures (Did act ∷ notes) = app_failures notes
+app_failures (Failed StorePart ∷ notes) = app_failures notes
+app_failures (Failed LinkPart ∷ notes) = app_failures notes
+app_failures (Failed AppPart ∷ notes) = suc (app_failures notes)
+
+-- each failure raised its part's count, and no count fell
+pub record Counts (old new : Faults) (notes : List Note) : Type 0 where
+  pub store : old.store + store_failures notes ≤ new.store
+  pub link : old.link + link_failures notes ≤ new.link
+  pub app : old.app + app_failures notes ≤ new.app
+
+-- no count of failures rose
+pub record NoneRose (old new : Faults) : Type 0 where
+  pub store : new.store ≡ old.store
+  pub link : new.link ≡ old.link
+  pub app : new.app ≡ old.app
+
+-- what is seen from outside of an Outside
+pub record Seen : Type 0 where
+  pub tape : Option (List Act)
+  pub stored : Option End
+  pub faults : Faults
+
+-- this came of some calls, and nothing else
+pub record Moves (old new : Seen) (notes : List Note) : Type 0 where
+  pub tape : new.tape ≡ grown old.tape (acts_of notes)
+  pub stored : Stores (acts_of notes) old.stored new.stored
+  pub faults : Counts old.faults new.faults notes

@@ -1,0 +1,59 @@
+-- The items of a stream, from a place on.
+use Rattle.std.specs.Prelude.{◌≡◌, ℕ, Bool, ◌==◌, ◌||◌, IsTrue, List, [], ◌∷◌, ◌++◌, length, drop, slice_index, ◌-◌}
+use Rattle.fix_base.specs.Front.{Begins, NeverBegins}
+use Rattle.fix_base.specs.Shape.{IsShape, IsFrame}
+
+-- the bytes from a place on, and whether the place may be a mark
+pub record Ahead : Type 0 where
+  pub may_mark : Bool
+  pub bytes : List ℕ
+
+-- the place is the first, or follows an SOH
+abbrev pub ahead_of : List ℕ → ℕ → Ahead
+ahead_of stream place = record { may_mark = place == 0 || slice_index stream (place - 1) == 1; bytes = drop place stream }
+
+pub data Item : Type 0 where
+  Frame : (text : List ℕ) → Item
+  Span : (text : List ℕ) → Item
+  Byte : (byte : ℕ) → Item
+
+abbrev pub text_of : Item → List ℕ
+text_of (Frame text) = text
+text_of (Span text) = text
+text_of (Byte byte) = byte ∷ []
+
+-- what the item says of the place where it stands
+abbrev pub IsItem : Ahead → Item → Type 0
+IsItem a (Frame text) = IsTrue a.may_mark × IsFrame text
+IsItem a (Span text) = IsTrue a.may_mark × IsShape text × (IsFrame text → ⊥)
+IsItem a (Byte byte) = IsTrue a.may_mark → NeverBegins IsShape a.bytes
+
+-- whether a mark may follow the text
+abbrev pub ends_in_soh : List ℕ → Bool
+ends_in_soh text = slice_index text (length text - 1) == 1
+
+-- the item stands there, and this is behind it
+pub record Takes (a : Ahead) (item : Item) (b : Ahead) : Type 0 where
+  pub is : IsItem a item
+  pub spelled : a.bytes ≡ text_of item ++ b.bytes
+  pub mark : b.may_mark ≡ ends_in_soh (text_of item)
+
+-- no item stands there
+pub record HasNoItem (a : Ahead) : Type 0 where
+  pub none : (item : Item) (b : Ahead) → Takes a item b → ⊥
+
+-- these items stand there one after the other, and this is behind them
+abbrev pub TakesAll : Ahead → List Item → Ahead → Type 0
+TakesAll a [] b = a ≡ b
+TakesAll a (item ∷ items) b = (between : Ahead) × Takes a item between × TakesAll between items b
+
+abbrev pub frames : List Item → List (List ℕ)
+frames [] = []
+frames (Frame text ∷ items) = text ∷ frames items
+frames (Span text ∷ items) = frames items
+frames (Byte byte ∷ items) = frames items
+
+-- these are the items of the bytes, and the rest has none
+pub record Reads (a : Ahead) (items : List Item) (rest : Ahead) : Type 0 where
+  pub all : TakesAll a items rest
+  pub end : HasNoItem rest

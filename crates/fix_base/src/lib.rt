@@ -1,0 +1,24 @@
+//! The words of a FIX session that every crate speaks: bytes, numbers, entries, records and acts.
+//! `specs/` has the definitions that all promises are made of: fields, frames, the reading of a
+//! stream, an end and its lawful steps, and what two ends may do to each other.
+#![tactic(auto)]
+
+mod act;
+mod bytes;
+mod entry;
+mod fault;
+mod front;
+mod identity;
+mod number;
+mod status;
+mod tags;
+
+pub use act::Act;
+pub use bytes::{Bytes, OutOfMemory};
+pub use entry::{By, Entry, Record, Stored};
+pub use fault::Fault;
+pub use front::Stop;
+pub use identity::{Begin, Identity};
+pub use number::{SeqNum, Tag};
+pub use status::Status;
+pub use tags::{DATA_PAIRS, SESSION_TAGS};
