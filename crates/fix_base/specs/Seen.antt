@@ -1,6 +1,6 @@
 -- What is seen from outside of the parts that an engine calls: the tape of its acts, the stored end, and
 -- how often each part failed.
-use Rattle.std.specs.Prelude.{◌≡◌, ◌⊎◌, ℕ, suc, ◌+◌, ◌<◌, ◌≤◌, List, [], ◌∷◌, ◌++◌, Option, Some, None}
+use Rattle.std.specs.Prelude.{◌≡◌, ◌⊎◌, ℕ, suc, ◌+◌, ◌≤◌, min, List, [], ◌∷◌, ◌++◌, Option, Some, None}
 use Rattle.fix_base.specs.End.{Record, End, folded}
 use Rattle.fix_base.specs.Act.{Act, Opened, Now, Read, Idle, Ended, Wrote, Kept, KeepLost, Handed, HandLost, Cut, Stop}
 
@@ -77,17 +77,25 @@ app_failures (Failed StorePart ∷ notes) = app_failures notes
 app_failures (Failed LinkPart ∷ notes) = app_failures notes
 app_failures (Failed AppPart ∷ notes) = suc (app_failures notes)
 
--- each failure raised its part's count, and no count fell
-pub record Counts (old new : Faults) (notes : List Note) : Type 0 where
-  pub store : old.store + store_failures notes ≤ new.store
-  pub link : old.link + link_failures notes ≤ new.link
-  pub app : old.app + app_failures notes ≤ new.app
+-- the last value of a count
+abbrev pub LAST_COUNT : ℕ
+LAST_COUNT = 18446744073709551615
 
--- no count of failures rose
+-- a count rose at least so often, or stands at its last value; no count falls
+abbrev pub Rises : ℕ → ℕ → ℕ → Type 0
+Rises times old new = min (old + times) LAST_COUNT ≤ new
+
+-- each failure raised its part's count
+pub record Counts (old new : Faults) (notes : List Note) : Type 0 where
+  pub store : Rises (store_failures notes) old.store new.store
+  pub link : Rises (link_failures notes) old.link new.link
+  pub app : Rises (app_failures notes) old.app new.app
+
+-- no count rose, nor stands at its last value
 pub record NoneRose (old new : Faults) : Type 0 where
-  pub store : new.store ≡ old.store
-  pub link : new.link ≡ old.link
-  pub app : new.app ≡ old.app
+  pub store : Rises 1 old.store new.store → ⊥
+  pub link : Rises 1 old.link new.link → ⊥
+  pub app : Rises 1 old.app new.app → ⊥
 
 -- what is seen from outside of an Outside
 pub record Seen : Type 0 where
@@ -100,3 +108,7 @@ pub record Moves (old new : Seen) (notes : List Note) : Type 0 where
   pub tape : new.tape ≡ grown old.tape (acts_of notes)
   pub stored : Stores (acts_of notes) old.stored new.stored
   pub faults : Counts old.faults new.faults notes
+
+-- these notes came of the calls between two moments, and they have P
+abbrev pub Goes : Seen → Seen → (List Note → Type 0) → Type 0
+Goes old new P = (notes : List Note) × Moves old new notes × P notes
