@@ -1,7 +1,7 @@
 -- The fixed places of a frame.
-use Rattle.std.specs.Prelude.{◌≡◌, ◌≢◌, ℕ, ◌+◌, ◌-◌, ◌<◌, ◌≤◌, List, [], ◌∷◌, ◌++◌, length, EachIndex, slice_index, codes}
+use Rattle.std.specs.Prelude.{◌≡◌, ◌≢◌, ℕ, ◌-◌, ◌<◌, ◌≤◌, List, [], ◌∷◌, ◌++◌, length, EachIndex, slice_index, codes}
 use Rattle.std.specs.Str.Parse.{digits_value, AllDigits}
-use Rattle.fix_base.specs.Front.{ThenOf, SomeOf, ◌▹◌}
+use Rattle.fix_base.specs.Front.{◌▹◌}
 
 -- this text alone
 abbrev pub IsText : List ℕ → List ℕ → Type 0

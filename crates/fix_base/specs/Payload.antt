@@ -1,11 +1,11 @@
 -- Which entries a message store may keep, and which ends keep their messages.
-use Rattle.std.specs.Prelude.{◌≡◌, ◌≢◌, ℕ, ◌<◌, ◌≤◌, ◌^◌, ◌==◌, ◌||◌, bytes_eq, codes, IsTrue, List, [], ◌∷◌, ◌++◌, length, Bool, false, None}
+use Rattle.std.specs.Prelude.{◌≡◌, ◌≢◌, ℕ, ◌<◌, ◌≤◌, ◌^◌, ◌==◌, bytes_eq, codes, IsTrue, List, [], ◌∷◌, length, Bool, false, None}
 use Rattle.std.specs.List.{AllByRecursion, list_any}
 use Rattle.fix_base.specs.Lists.{Among}
 use Rattle.fix_base.specs.Tags.{is_session_tag}
 use Rattle.fix_base.specs.Fields.{Field, FieldsAfter}
-use Rattle.fix_base.specs.Says.{field_text, fields_text, is_admin_type}
-use Rattle.fix_base.specs.End.{By, Entry, App, Admin, Record, Push, Expect, Reset, End, WITHHELD}
+use Rattle.fix_base.specs.Says.{fields_text, is_admin_type}
+use Rattle.fix_base.specs.End.{Entry, App, Admin, Record, Push, Expect, Reset, End, WITHHELD}
 
 -- the last microsecond of 2099: a clock reading beyond it counts as this one
 abbrev pub LAST_TIME : ℕ

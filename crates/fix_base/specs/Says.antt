@@ -3,10 +3,9 @@ use Rattle.std.specs.Prelude.{◌≡◌, ℕ, ◌+◌, ◌==◌, ◌&&◌, ◌||
 use Rattle.std.specs.Fmt.{decimal}
 use Rattle.std.specs.Str.{all_ascii_digits}
 use Rattle.std.specs.Str.Parse.{digits_value}
-use Rattle.fix_base.specs.Lists.{IsPrefixOf}
 use Rattle.fix_base.specs.Tags.{is_session_tag}
 use Rattle.fix_base.specs.Fields.{Field, FieldsAfter}
-use Rattle.fix_base.specs.Shape.{Parts, HasShape, IsFrame}
+use Rattle.fix_base.specs.Shape.{Parts, HasShape}
 use Rattle.fix_base.specs.Stream.{Ahead, Item, TakesAll, frames}
 use Rattle.fix_base.specs.Message as message
 use Rattle.fix_base.specs.Message.{Message}

@@ -1,5 +1,5 @@
 -- Who a session is between.
-use Rattle.std.specs.Prelude.{◌≡◌, ℕ, ◌<◌, ◌≤◌, ◌&&◌, nat_le, nat_lt, IsTrue, List, length, Bool, codes}
+use Rattle.std.specs.Prelude.{ℕ, ◌&&◌, nat_le, nat_lt, IsTrue, List, length, Bool, codes}
 use Rattle.std.specs.List.{list_all}
 pub use Rattle.fix_base.specs.declared.identity.Begin.{Begin}
 pub use Rattle.fix_base.specs.declared.identity.Begin.TheVariants.{Fix42, Fix44}

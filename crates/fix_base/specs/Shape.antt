@@ -1,7 +1,7 @@
 -- A frame: its shape, its checksum and its fields (FIX, "Standard Header", "Standard Trailer", "Checksum calculation").
-use Rattle.std.specs.Prelude.{◌≡◌, ◌≢◌, ℕ, ◌+◌, ◌-◌, ◌<◌, ◌≤◌, ◌%◌, ◌⊎◌, List, [], ◌∷◌, ◌++◌, length, drop, slice_index, Option, None, sum, codes}
+use Rattle.std.specs.Prelude.{◌≡◌, ◌≢◌, ℕ, ◌%◌, List, ◌++◌, Option, None, sum}
 use Rattle.std.specs.List.{AllByRecursion}
-use Rattle.fix_base.specs.Front.{Begins, SomeOf}
+use Rattle.fix_base.specs.Front.{SomeOf}
 use Rattle.fix_base.specs.Frame.{IsHead, IsBody, IsTrailer}
 use Rattle.fix_base.specs.Fields.{Field, FieldsAfter}
 

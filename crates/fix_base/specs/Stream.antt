@@ -1,6 +1,6 @@
 -- The items of a stream, from a place on.
 use Rattle.std.specs.Prelude.{◌≡◌, ℕ, Bool, ◌==◌, ◌||◌, IsTrue, List, [], ◌∷◌, ◌++◌, length, drop, slice_index, ◌-◌}
-use Rattle.fix_base.specs.Front.{Begins, NeverBegins}
+use Rattle.fix_base.specs.Front.{NeverBegins}
 use Rattle.fix_base.specs.Shape.{IsShape, IsFrame}
 
 -- the bytes from a place on, and whether the place may be a mark

@@ -1,6 +1,6 @@
 -- The text of a time (FIX, "Data Types", `UTCTimestamp`): `YYYYMMDD-HH:MM:SS`, or the same with a
 -- point and more digits. A time is a count of microseconds since 1970-01-01 00:00:00 UTC.
-use Rattle.std.specs.Prelude.{◌≡◌, ℕ, ◌+◌, ◌-◌, ◌*◌, ◌/◌, ◌%◌, ◌^◌, ◌<◌, ◌≤◌, ◌⊎◌, List, [], ◌∷◌, ◌++◌, length, codes, ℤ, pos, ◌+ℤ◌, ◌*ℤ◌}
+use Rattle.std.specs.Prelude.{◌≡◌, ℕ, ◌+◌, ◌-◌, ◌*◌, ◌/◌, ◌%◌, ◌^◌, ◌<◌, ◌≤◌, ◌⊎◌, List, [], ◌∷◌, ◌++◌, length, ℤ, pos, ◌+ℤ◌, ◌*ℤ◌}
 use Rattle.std.specs.Str.Parse.{digits_value, AllDigits}
 use Rattle.jiff_core.specs.Calendar.{IsCivilDate, days_from_civil}
 

@@ -1,6 +1,6 @@
 -- What an end may write: originals, repeats and gap fills (FIX, "Message Recovery", "Resend Request",
 -- "Sequence Reset", "PossDupFlag").
-use Rattle.std.specs.Prelude.{◌≡◌, ℕ, suc, ◌<◌, ◌≤◌, codes, IsTrue, List, [], ◌∷◌, ◌++◌, length, None}
+use Rattle.std.specs.Prelude.{◌≡◌, ℕ, suc, ◌<◌, ◌≤◌, codes, IsTrue, List, [], ◌∷◌, length, None}
 use Rattle.std.specs.List.{AllByRecursion}
 use Rattle.std.specs.Fmt.{decimal}
 use Rattle.fix_base.specs.Lists.{IsPrefixOf}
@@ -8,7 +8,7 @@ use Rattle.fix_base.specs.Session.{Identity}
 use Rattle.fix_base.specs.Times.{IsTimeText}
 use Rattle.fix_base.specs.Fields.{Field, FieldsAfter}
 use Rattle.fix_base.specs.Sealed.{sealed}
-use Rattle.fix_base.specs.Says.{field_text, fields_text, is_admin_type, joined}
+use Rattle.fix_base.specs.Says.{fields_text, is_admin_type, joined}
 use Rattle.fix_base.specs.End.{By, Entry, App, Admin, End, IsEntry, IsAdminAt, WITHHELD}
 use Rattle.fix_base.specs.Payload.{field, IsEntryField, IsAppType, IsBodyOf}
 

@@ -11,6 +11,7 @@ mod front;
 mod identity;
 mod number;
 mod status;
+mod stream_laws;
 mod tags;
 
 pub use act::Act;
@@ -21,4 +22,8 @@ pub use front::Stop;
 pub use identity::{Begin, Identity};
 pub use number::{SeqNum, Tag};
 pub use status::Status;
+pub use stream_laws::{
+    a_longer_stream_reads_on, a_stream_has_one_reading, a_text_has_one_list_of_fields,
+    frames_of_a_front,
+};
 pub use tags::{DATA_PAIRS, SESSION_TAGS};
