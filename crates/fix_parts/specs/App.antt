@@ -1,0 +1,33 @@
+-- What is seen of an application, and what a hand-over does to that.
+use Rattle.std.specs.Prelude.{◌≡◌, ◌⊎◌, ℕ, List, [], ◌∷◌, Option}
+use Rattle.fix_base.specs.Seen.{Rises}
+use Rattle.fix_parts.specs.declared.app.Given.{Given}
+use Rattle.fix_parts.specs.declared.app.Handed.{Handed}
+use Rattle.fix_parts.specs.declared.app.Said.{Said}
+use Rattle.fix_parts.specs.declared.app.Said.TheVariants as said
+use Rattle.fix_parts.specs.Told.{extended}
+
+pub record AppSeen : Type 0 where
+  pub given : Option (List Given)  -- the messages that it took
+  pub faults : ℕ
+
+-- what the application has of a message
+abbrev pub given_of : Handed → Given
+given_of h = record { number = h.number; marked = h.marked; body = h.body.now }
+
+-- what a hand-over does to the messages; one that failed may have got there
+abbrev pub GivenAfter : Said → Handed → Option (List Given) → Option (List Given) → Type 0
+GivenAfter said.Taken h old new = new ≡ extended old (given_of h ∷ [])
+GivenAfter said.Failed h old new = (new ≡ old) ⊎ (new ≡ extended old (given_of h ∷ []))
+GivenAfter said.OutOfMemory h old new = new ≡ old
+
+-- how often a hand-over failed
+abbrev pub hand_failures : Said → ℕ
+hand_failures said.Taken = 0
+hand_failures said.Failed = 1
+hand_failures said.OutOfMemory = 0
+
+-- what a hand-over does
+pub record AppTakes (turn : Said) (h : Handed) (old new : AppSeen) : Type 0 where
+  pub given : GivenAfter turn h old.given new.given
+  pub faults : Rises (hand_failures turn) old.faults new.faults

@@ -1,0 +1,6 @@
+pub mod Told
+pub mod Link
+pub mod App
+pub mod Clock
+pub mod Sink
+pub mod Tape

@@ -1,0 +1,48 @@
+ghost use Rattle.fix_parts.specs.App.{AppSeen, AppTakes};
+
+use fix_base::Bytes;
+
+/// An application message that is handed over.
+#[derive(Clone, Copy, Debug)]
+pub struct Handed<'a> {
+    /// MsgSeqNum (34).
+    pub number: u32,
+    /// PossDupFlag (43) is Y.
+    pub marked: bool,
+    /// MsgType (35).
+    pub kind: &'a [u8],
+    /// MsgType (35) and the fields that aren't the engine's, each with its SOH.
+    pub body: &'a [u8],
+}
+
+/// What a hand-over came to.
+#[derive(Clone, Copy, Debug, PartialEq, Eq)]
+pub enum Said {
+    /// The application has the message.
+    Taken,
+    /// The application failed: it may have the message or not.
+    Failed,
+    /// Memory was refused, and the application doesn't have the message.
+    OutOfMemory,
+}
+
+/// A message that an application took.
+#[derive(Debug, PartialEq, Eq, Drop)]
+pub struct Given {
+    /// MsgSeqNum (34).
+    pub number: u32,
+    /// PossDupFlag (43) was Y.
+    pub marked: bool,
+    /// The body.
+    pub body: Bytes,
+}
+
+/// An application.
+pub trait App {
+    /// The messages that it took, where they are told, and how often it failed.
+    ghost app: { Self → AppSeen };
+
+    /// Hands the message over.
+    fn hand(&mut self, h: &Handed<'_>) -> Said
+        ensures moves { AppTakes result h.now (app self.old) (app self.new) };
+}

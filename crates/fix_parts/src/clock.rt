@@ -1,0 +1,12 @@
+ghost use Rattle.std.specs.Prelude.{ℕ, List, Option};
+ghost use Rattle.fix_parts.specs.Clock.{ClockReads};
+
+/// A clock.
+pub trait Clock {
+    /// The readings yet to come, where they are told.
+    ghost readings: { Self → Option (List ℕ) };
+
+    /// The time, in microseconds since 1970-01-01 00:00:00 UTC.
+    fn now(&mut self) -> u64
+        ensures moves { ClockReads result (readings self.old) (readings self.new) };
+}

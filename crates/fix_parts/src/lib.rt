@@ -1,0 +1,20 @@
+//! The parts that an engine calls: the connection (`Link`), the application (`App`), the clock
+//! (`Clock`), the tape of its acts (`Tape`), and the place for lines of text (`Sink`). Each is a
+//! trait with an exact meaning, with a version in memory and an adapter to the real thing.
+#![tactic(auto)]
+
+mod app;
+mod clock;
+mod copies;
+mod link;
+mod noted;
+mod sink;
+mod tape;
+
+pub use app::{App, Given, Handed, Said};
+pub use clock::Clock;
+pub use copies::{copy_entry, copy_record};
+pub use link::{Link, ReadTurn, WriteTurn};
+pub use noted::Noted;
+pub use sink::{Sink, SinkFailed};
+pub use tape::{KeptTape, NoTape, Tape};

@@ -1,0 +1,207 @@
+ghost use Rattle.std.specs.Prelude.{◌≡◌, ◌<◌, ◌≤◌, ℕ, List, [], ◌∷◌, ◌++◌, length, Option, Some, None, OnOk, vec_len, vec_capacity};
+ghost use Rattle.std.proofs.Math.Nat.{le_trans};
+ghost use Rattle.fix_base.specs.declared.act.Act.{Act as TheAct};
+ghost use Rattle.fix_base.specs.Seen.{grown};
+ghost use Rattle.fix_parts.specs.Tape.{act_of, bytes_in, bytes_in_entry, bytes_in_record};
+
+use crate::{Handed, Noted};
+use fix_base::{Act, Bytes, Entry, OutOfMemory, Record};
+use std::alloc::Global;
+use std::mem;
+
+/// Where the acts of an end are noted. Room for an act is made before the act is done, so that
+/// the note behind it can't fail.
+pub trait Tape {
+    /// The acts that were noted, where they are told.
+    ghost told: { Self → Option (List TheAct) };
+
+    /// There is room for one act with so many bytes.
+    ghost HasRoom: { Self → ℕ → Type 0 };
+
+    /// Makes room for this act, or for another one with no more bytes: its lost form, a front of
+    /// its bytes, or an act without bytes.
+    fn reserve(&mut self, act: &Noted<'_>) -> Result<(), OutOfMemory>
+        ensures told { told self.new ≡ told self.old }
+        ensures room { OnOk result (HasRoom self.new (bytes_in act.now)) };
+
+    /// Notes the act in the room that was made.
+    fn note(&mut self, act: &Noted<'_>)
+        requires { HasRoom self.old (bytes_in act.now) }
+        ensures noted { told self.new ≡ grown (told self.old) (act_of act.now ∷ []) };
+
+    /// Room for an act is room for one with fewer bytes.
+    ghost less_room: { (t : Self) (m n : ℕ) → m ≤ n → HasRoom t n → HasRoom t m };
+}
+
+/// A tape that keeps nothing.
+#[derive(Drop)]
+pub struct NoTape;
+
+impl Tape for NoTape {
+    ghost told = { λ t. None };
+
+    ghost HasRoom = { λ t n. Unit {0} };
+
+    ghost less_room = { λ t m n le h. tt };
+
+    fn reserve(&mut self, _act: &Noted<'_>) -> Result<(), OutOfMemory> {
+        Ok(())
+    }
+
+    fn note(&mut self, _act: &Noted<'_>) {}
+}
+
+/// A tape that keeps the acts.
+#[derive(Drop)]
+pub struct KeptTape {
+    alloc: Global,
+    acts: Vec<Act>,
+    spare: Vec<u8>,
+}
+
+impl KeptTape {
+    /// A tape without acts.
+    pub fn new(alloc: Global) -> KeptTape
+        ensures { result.acts.items ≡ [] }
+    {
+        KeptTape {
+            alloc,
+            acts: Vec::new(alloc),
+            spare: Vec::new(alloc),
+        }
+    }
+
+    /// The acts that were noted.
+    pub fn acts(&self) -> &[Act]
+        ensures { result.now ≡ self.now.acts.items }
+    {
+        self.acts.as_slice()
+    }
+}
+
+// Puts an act into room that is there.
+fn put(acts: &mut Vec<Act>, act: Act)
+    requires { vec_len acts.old < vec_capacity acts.old }
+    ensures { acts.new.items ≡ acts.old.items ++ act ∷ [] }
+{
+    match acts.push(act) {
+        Ok(()) => {}
+        Err(_) => unreachable!(),
+    }
+}
+
+// The bytes in room that is there.
+fn filled(alloc: Global, spare: &mut Vec<u8>, bytes: &[u8]) -> Bytes
+    requires empty { spare.old.items ≡ [] }
+    requires room { length bytes.now ≤ vec_capacity spare.old }
+    ensures { result ≡ bytes.now }
+{
+    match spare.extend_from_slice(bytes) {
+        Ok(()) => {}
+        Err(_) => unreachable!(),
+    }
+    Bytes::from_vec(mem::replace(spare, Vec::new(alloc)))
+}
+
+// The entry with its body in room that is there.
+fn filled_entry(alloc: Global, spare: &mut Vec<u8>, entry: &Entry) -> Entry
+    requires empty { spare.old.items ≡ [] }
+    requires room { bytes_in_entry entry.now ≤ vec_capacity spare.old }
+    ensures { result ≡ entry.now }
+{
+    match entry {
+        Entry::App { time, by, body } => Entry::App {
+            time: *time,
+            by: *by,
+            body: filled(alloc, spare, body.as_slice()),
+        },
+        Entry::Admin { time, kind, about } => Entry::Admin {
+            time: *time,
+            kind: *kind,
+            about: *about,
+        },
+    }
+}
+
+// The record with its entry's body in room that is there.
+fn filled_record(alloc: Global, spare: &mut Vec<u8>, kept: &Record) -> Record
+    requires empty { spare.old.items ≡ [] }
+    requires room { bytes_in_record kept.now ≤ vec_capacity spare.old }
+    ensures { result ≡ kept.now }
+{
+    match kept {
+        Record::Push(entry) => Record::Push(filled_entry(alloc, spare, entry)),
+        Record::Expect(number) => Record::Expect(*number),
+        Record::Reset(time) => Record::Reset(*time),
+    }
+}
+
+// How many bytes an act has.
+fn size_of_act(act: &Noted<'_>) -> usize
+    ensures { result ≡ bytes_in act.now }
+{
+    match act {
+        Noted::Read(bytes) | Noted::Wrote(bytes) => bytes.len(),
+        Noted::Kept(kept) | Noted::KeepLost(kept) => size_of_record(kept),
+        Noted::Handed(h) | Noted::HandLost(h) => h.body.len(),
+        Noted::Opened | Noted::Now(_) | Noted::Idle | Noted::Ended | Noted::Cut | Noted::Stop => 0,
+    }
+}
+
+fn size_of_record(kept: &Record) -> usize
+    ensures { result ≡ bytes_in_record kept.now }
+{
+    match kept {
+        Record::Push(Entry::App { body, .. }) => body.as_slice().len(),
+        Record::Push(Entry::Admin { .. }) | Record::Expect(_) | Record::Reset(_) => 0,
+    }
+}
+
+// The act with its bytes in room that is there.
+fn filled_act(alloc: Global, spare: &mut Vec<u8>, act: &Noted<'_>) -> Act
+    requires empty { spare.old.items ≡ [] }
+    requires room { bytes_in act.now ≤ vec_capacity spare.old }
+    ensures { result ≡ act_of act.now }
+{
+    match act {
+        Noted::Opened => Act::Opened,
+        Noted::Now(time) => Act::Now(*time),
+        Noted::Read(bytes) => Act::Read(filled(alloc, spare, bytes)),
+        Noted::Idle => Act::Idle,
+        Noted::Ended => Act::Ended,
+        Noted::Wrote(bytes) => Act::Wrote(filled(alloc, spare, bytes)),
+        Noted::Kept(kept) => Act::Kept(filled_record(alloc, spare, kept)),
+        Noted::KeepLost(kept) => Act::KeepLost(filled_record(alloc, spare, kept)),
+        Noted::Handed(h) => Act::Handed {
+            number: h.number,
+            marked: h.marked,
+            body: filled(alloc, spare, h.body),
+        },
+        Noted::HandLost(h) => Act::HandLost {
+            number: h.number,
+            marked: h.marked,
+            body: filled(alloc, spare, h.body),
+        },
+        Noted::Cut => Act::Cut,
+        Noted::Stop => Act::Stop,
+    }
+}
+
+impl Tape for KeptTape {
+    ghost told = { λ t. Some t.acts.items };
+
+    ghost HasRoom = { λ t n. (vec_len t.acts < vec_capacity t.acts) × (t.spare.items ≡ []) × (n ≤ vec_capacity t.spare) };
+
+    ghost less_room = { λ t m n le h. (h.0, h.1, le_trans le h.2) };
+
+    fn reserve(&mut self, act: &Noted<'_>) -> Result<(), OutOfMemory> {
+        self.acts.reserve(1)?;
+        self.spare = Vec::with_capacity(self.alloc, size_of_act(act))?;
+        Ok(())
+    }
+
+    fn note(&mut self, act: &Noted<'_>) {
+        let kept = filled_act(self.alloc, &mut self.spare, act);
+        put(&mut self.acts, kept);
+    }
+}
