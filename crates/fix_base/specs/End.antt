@@ -22,6 +22,11 @@ folded e (Push entry) = record e { out = e.out ++ entry ∷ [] }
 folded e (Expect number) = record e { stored = number }
 folded e (Reset time) = record { out = []; stored = 1; since = Some time }
 
+-- the end after these records, in this order
+abbrev pub folded_all : End → List Record → End
+folded_all e [] = e
+folded_all e (r ∷ rs) = folded_all (folded e r) rs
+
 -- a number and the body of its application message
 pub record Sent : Type 0 where
   pub number : ℕ

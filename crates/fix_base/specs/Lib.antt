@@ -15,4 +15,7 @@ pub mod Payload
 pub mod Act
 pub mod Wrote
 pub mod EndStep
+pub mod Agrees
+pub mod Reader
+pub mod World
 pub mod Seen

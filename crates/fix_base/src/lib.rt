@@ -5,6 +5,7 @@
 
 mod act;
 mod bytes;
+mod end_laws;
 mod entry;
 mod fault;
 mod front;
@@ -13,9 +14,14 @@ mod number;
 mod status;
 mod stream_laws;
 mod tags;
+mod world_laws;
 
 pub use act::Act;
 pub use bytes::{Bytes, OutOfMemory};
+pub use end_laws::{
+    a_front_of_a_run_is_a_run, agreement_in_plain_words, records_fold_in_order,
+    what_was_handled_is_a_prefix,
+};
 pub use entry::{By, Entry, Record, Stored};
 pub use fault::Fault;
 pub use front::Stop;
@@ -27,3 +33,4 @@ pub use stream_laws::{
     frames_of_a_front,
 };
 pub use tags::{DATA_PAIRS, SESSION_TAGS};
+pub use world_laws::{a_reader_keeps_up, what_a_writer_keeps_true, world_agrees};

@@ -1,0 +1,61 @@
+-- What the laws of two ends need of bytes: two facts.
+use Rattle.std.proofs.Common.{◌≡◌, ℕ, List, [], None, sym, ap, ◌∙◌, subst}
+use Rattle.fix_base.specs.Fields.{FieldsAfter}
+use Rattle.fix_base.specs.Shape.{Parts, IsFrame}
+use Rattle.fix_base.specs.Lists.{Among, here, there, IsPrefixOf}
+use Rattle.fix_base.specs.Message.{Message}
+use Rattle.fix_base.specs.Says as says
+use Rattle.fix_base.specs.Says.{message_of, Says, SaysAll, Shows}
+use Rattle.fix_base.proofs.Told as told
+use Rattle.fix_base.proofs.Told.{SaysEach, Spells}
+use Rattle.fix_base.proofs.ListLemmas.{some_same, Among-prefix, prefix_trans, prefix_of_nothing}
+use Rattle.fix_base.proofs.FieldLists.{fields_same}
+use Rattle.fix_base.proofs.Spans.{shape_free}
+use Rattle.fix_base.proofs.FramingLemmas.{front_frames}
+
+-- a frame says one thing
+says_same : (text : List ℕ) (x y : Message) → Says text x → Says text y → x ≡ y
+says_same text x y s t =
+    let parts : s.has.parts ≡ t.has.parts = shape_free.value s.has.parts t.has.parts text s.has.shape t.has.shape in
+    let fields = fields_same None t.has.parts.body s.fields t.fields (subst (λ (p : Parts). FieldsAfter None p.body s.fields) parts s.has.are) t.has.are in
+    some_same x y (sym s.says ∙ ap message_of fields ∙ t.says)
+
+-- one of the frames says it
+record SaidBy (texts : List (List ℕ)) (x : Message) : Type 0 where
+  text : List ℕ
+  among : Among text texts
+  says : Says text x
+
+said_by : {texts : List (List ℕ)} {xs : List Message} {x : Message} → SaysAll texts xs → Among x xs → SaidBy texts x
+said_by says.none m = elim m [ ]
+said_by (says.says {text = text} s others) here = record { text = text; among = here; says = s }
+said_by (says.says s others) (there m) = let b = said_by others m in record { text = b.text; among = there b.among; says = b.says }
+said_by (says.silent s others) m = let b = said_by others m in record { text = b.text; among = there b.among; says = b.says }
+
+-- it is said by one of the frames
+record Saying (text : List ℕ) (xs : List Message) : Type 0 where
+  message : Message
+  among : Among message xs
+  says : Says text message
+
+saying : {texts : List (List ℕ)} {xs : List Message} {text : List ℕ} → SaysEach texts xs → Among text texts → Saying text xs
+saying told.done m = elim m [ ]
+saying (told.one {x = x} f s others) here = record { message = x; among = here; says = s }
+saying (told.one f s others) (there m) = let b = saying others m in record { message = b.message; among = there b.among; says = b.says }
+
+frame_of : {texts : List (List ℕ)} {xs : List Message} {text : List ℕ} → SaysEach texts xs → Among text texts → IsFrame text
+frame_of told.done m = elim m [ ]
+frame_of (told.one f s others) here = f
+frame_of (told.one f s others) (there m) = frame_of others m
+
+-- the frames of a front of frames that were written are among these
+pub read_among : {xs ys : List Message} {w read : List ℕ} {x : Message} → Spells ys w → IsPrefixOf read w → Shows read xs → Among x xs → Among x ys
+read_among {ys = ys} {read = read} {x = x} spells front shows m =
+    let fronts = front_frames spells.texts read shows.items shows.rest (record { each = λ t k. frame_of spells.says k }) (prefix_trans front spells.front) shows.takes in
+    let by = said_by shows.says m in
+    let is = saying spells.says (Among-prefix fronts by.among) in
+    subst (λ y. Among y ys) (says_same by.text is.message x is.says by.says) is.among
+
+-- no frames are spelled by no bytes
+pub spells_nothing : Spells [] []
+spells_nothing = record { texts = []; says = told.done; front = prefix_of_nothing [] }

@@ -1,0 +1,61 @@
+-- What stays true of the world of two ends.
+use Rattle.std.proofs.Common.{◌≡◌, ℕ, ◌<◌, ◌≤◌, List, [], ◌∷◌, length, Some}
+use Rattle.fix_base.specs.Lists.{Among, IsPrefixOf}
+use Rattle.fix_base.specs.End.{Record, End}
+use Rattle.fix_base.specs.Payload.{IsPersistent}
+use Rattle.fix_base.proofs.Told.{WroteMessages}
+use Rattle.fix_base.specs.EndStep.{Connection}
+use Rattle.fix_base.specs.Reader.{Follows}
+use Rattle.fix_base.specs.World.{Logged, Given, Side, IsPlainRecord}
+
+-- an end as it is, or as it was when a connection with a number above this one was opened: all that it
+-- may still write where a reader at this number or beyond can read it is kept by each of these, or
+-- comes as an original above it
+pub data Later (a : Side) (c : ℕ) : End → Type 0 where
+  now : Later a c a.state.end
+  opened : (l : Logged) → Among l a.log → c < l.number → Later a c l.opened
+
+-- the connection is the one logged last
+pub record IsLast (a : Side) (c : Connection) : Type 0 where
+  pub before : List Logged
+  pub last : Logged
+  pub log : a.log ≡ last ∷ before
+  pub number : last.number ≡ a.number
+  pub opened : last.opened ≡ c.opened
+  pub wrote : last.wrote ≡ c.written
+
+-- what is true of a side alone
+pub record Own (a : Side) : Type 0 where
+  pub below : (l : Logged) → Among l a.log → l.number ≤ a.number
+  pub last : (c : Connection) → a.state.connection ≡ Some c → IsLast a c
+  -- what was written with a number is lawful for each later moment
+  pub wrote : (l : Logged) → Among l a.log → (f : End) → Later a l.number f → WroteMessages l.opened f l.wrote
+  pub plain : (r : Record) → a.state.doubt ≡ Some r → IsPlainRecord r
+  pub persistent : (c : ℕ) (f : End) → Later a c f → IsPersistent f
+
+-- the bytes are none, or a front of what was written with this number
+pub data Comes (f : Side) (n : ℕ) (bytes : List ℕ) : Type 0 where
+  nothing : bytes ≡ [] → Comes f n bytes
+  some : (l : Logged) → Among l f.log → l.number ≡ n → IsPrefixOf bytes l.wrote → Comes f n bytes
+
+-- what is true of a reader e beside a writer f
+pub record Way (e f : Side) : Type 0 where
+  -- the reader keeps up with each later moment of the writer
+  pub follows : (h : End) → Later f e.number h → Follows e.state h
+  pub read : (c : Connection) → e.state.connection ≡ Some c → Comes f e.number c.read
+  pub told : (g : Given) → Among g e.given → g.connection ≤ e.number
+  -- each number that was given is one of an entry at each later moment
+  pub known : (g : Given) → Among g e.given → (h : End) → Later f e.number h → g.number ≤ length h.out
+  -- a number given before is one of an entry at the writer's Opened of this connection
+  pub before : (g : Given) → Among g e.given → (l : Logged) → Among l f.log → l.number ≡ e.number → g.connection < e.number → g.number ≤ length l.opened.out
+  pub gave : (c : Connection) → e.state.connection ≡ Some c → (g : Given) → Among g e.given → g.connection ≡ e.number → Among g.number c.gave
+
+-- what is true of two ends
+pub record Pair (a o : Side) : Type 0 where
+  pub own : Own a
+  pub own_other : Own o
+  pub way : Way a o
+  pub back : Way o a
+
+pub swapped : {a o : Side} → Pair a o → Pair o a
+swapped p = record { own = p.own_other; own_other = p.own; way = p.back; back = p.way }

@@ -1,0 +1,140 @@
+-- The law of two ends: what holds of them stays true over all events.
+use Rattle.std.proofs.Common.{◌≡◌, ℕ, List, [], ◌∷◌, ◌++◌, Bool, true, refl, subst}
+use Rattle.fix_base.specs.Lists.{Among, here, there}
+use Rattle.fix_base.specs.End.{End}
+use Rattle.fix_base.specs.Payload.{IsPersistent}
+use Rattle.fix_base.specs.Act.{Act}
+use Rattle.fix_base.specs.Session.{Identity}
+use Rattle.fix_base.specs.EndStep.{EndState, Move}
+use Rattle.fix_base.specs.World as world
+use Rattle.fix_base.specs.World.{Side, World, new_side, new_world, rested, SideStep, First, Second, Who, identity_of, side_of, other_of, with_side, Event, Does, WorldRun, IsPlain, EachPlain, AgreesWith, GivesBy, gives, MarksRepeats, WorldAgrees}
+use Rattle.fix_base.proofs.FollowsLemmas.{Agrees-new, KeepsUp-more}
+use Rattle.fix_base.proofs.Ways as ways
+use Rattle.fix_base.proofs.Ways.{Later, Own, Way, Pair, swapped}
+use Rattle.fix_base.proofs.RowLemmas.{folded_grows}
+use Rattle.fix_base.proofs.WriterLemmas.{writer_steps, writer_moves, own_steps, own_moves}
+use Rattle.fix_base.proofs.SideLemmas.{reader_steps, reader_moves, HasGiven, step_marks, step_given, step_gives}
+
+-- ---- the invariant
+
+step_pair : {id : Identity} (a o a' : Side) (x : Act) → Pair a o → SideStep id a o x a' → IsPlain x → Pair a' o
+step_pair a o a' x p step h = record { own = own_steps a o a' x p.own step h; own_other = p.own_other; way = reader_steps a o a' x p.own_other p.way step; back = writer_steps o a o a' x p.back step h }
+
+move_pair : (a o : Side) (s' : EndState) → Pair a o → Move a.state s' → Pair (rested a s') o
+move_pair a o s' p m = record { own = own_moves a s' p.own m; own_other = p.own_other; way = reader_moves a o s' p.own_other p.way m; back = writer_moves o a s' p.back p.own m }
+
+abbrev Holds : World → Type 0
+Holds w = Pair w.first w.second
+
+along : {id : Identity} {w w' : World} {events : List Event} → WorldRun id w events w' → EachPlain events → Holds w → Holds w'
+along world.stop plain p = p
+along (world.step {w = w} {a' = a'} First x step d) plain p = along d plain.1 (step_pair w.first w.second a' x p step plain.0)
+along (world.step {w = w} {a' = a'} Second x step d) plain p = along d plain.1 (swapped (step_pair w.second w.first a' x (swapped p) step plain.0))
+along (world.move {w = w} {s' = s'} First m d) plain p = along d plain (move_pair w.first w.second s' p m)
+along (world.move {w = w} {s' = s'} Second m d) plain p = along d plain (swapped (move_pair w.second w.first s' (swapped p) m))
+
+later_new : (c : ℕ) (h : End) → Later new_side c h → IsPersistent h
+later_new c h ways.now = record { each = λ x m. elim m [ ] }
+later_new c h (ways.opened l m lt) = elim m [ ]
+
+new_own : Own new_side
+new_own = record { below = λ l m. elim m [ ]; last = λ c o. cc; wrote = λ l m. elim m [ ]; plain = λ r e. cc; persistent = later_new }
+
+new_way : Way new_side new_side
+new_way =
+    record {
+      follows = λ h later. record { now = Agrees-new h.out; running = λ e. Agrees-new h.out; settled = λ r e. cc };
+      read = λ c o. cc;
+      told = λ g m. elim m [ ];
+      known = λ g m. elim m [ ];
+      before = λ g m. elim m [ ];
+      gave = λ c o. cc;
+    }
+
+new_holds : Holds new_world
+new_holds = record { own = new_own; own_other = new_own; way = new_way; back = new_way }
+
+-- ---- agreement
+
+agrees_with : (a o : Side) → Own o → Way a o → AgreesWith a.state o.state
+agrees_with a o own w =
+    let now = w.follows o.state.end ways.now in
+    record { now = now; settled = λ r e. KeepsUp-more (folded_grows o.state.end r (own.plain r e)) now }
+
+-- ---- marks
+
+record Split (id : Identity) (w : World) (xs ys : List Event) (w' : World) : Type 0 where
+  mid : World
+  front : WorldRun id w xs mid
+  back : WorldRun id mid ys w'
+
+split : {id : Identity} {w w' : World} {events : List Event} (xs ys : List Event) → WorldRun id w events w' → events ≡ xs ++ ys → Split id w xs ys w'
+split {id = id} {w = w} {w' = w'} [] ys d e = record { mid = w; front = world.stop; back = subst (λ z. WorldRun id w z w') e d }
+split (x ∷ xs) ys world.stop e = cc
+split {id = id} {w' = w'} (y ∷ xs) ys (world.step {w = w} {events = events} who x step d) e =
+    let same : Does who x ≡ y = cc in
+    let others : events ≡ xs ++ ys = cc in
+    let s = split xs ys d others in
+    record { mid = s.mid; front = subst (λ z. WorldRun id w (z ∷ xs) s.mid) same (world.step who x step s.front); back = s.back }
+split (y ∷ xs) ys (world.move who m d) e =
+    let s = split (y ∷ xs) ys d e in
+    record { mid = s.mid; front = world.move who m s.front; back = s.back }
+
+plain_front : (xs ys : List Event) → EachPlain (xs ++ ys) → EachPlain xs
+plain_front [] ys h = tt
+plain_front (Does who x ∷ xs) ys h = (h.0, plain_front xs ys h.1)
+
+given_stays : {id : Identity} {w w' : World} {events : List Event} (who : Who) (n : ℕ) → WorldRun id w events w' → HasGiven (side_of who w) n → HasGiven (side_of who w') n
+given_stays who n world.stop had = had
+given_stays First n (world.step {w = w} {a' = a'} First x step d) had = given_stays First n d (step_given w.first w.second a' x n step had)
+given_stays First n (world.step Second x step d) had = given_stays First n d had
+given_stays Second n (world.step First x step d) had = given_stays Second n d had
+given_stays Second n (world.step {w = w} {a' = a'} Second x step d) had = given_stays Second n d (step_given w.second w.first a' x n step had)
+given_stays First n (world.move First m d) had = given_stays First n d (record { given = had.given; among = had.among; number = had.number })
+given_stays First n (world.move Second m d) had = given_stays First n d had
+given_stays Second n (world.move First m d) had = given_stays Second n d had
+given_stays Second n (world.move Second m d) had = given_stays Second n d (record { given = had.given; among = had.among; number = had.number })
+
+event_gives : (id : Identity) (who by : Who) (w : World) (a' : Side) (x : Act) (n : ℕ) (marked : Bool) → GivesBy who n marked (Does by x) → SideStep (identity_of by id) (side_of by w) (other_of by w) x a' → HasGiven (side_of who (with_side by w a')) n
+event_gives id First First w a' x n marked (gives y g) step = step_gives w.first w.second a' x n marked g step
+event_gives id First Second w a' x n marked g step = elim g [ ]
+event_gives id Second First w a' x n marked g step = elim g [ ]
+event_gives id Second Second w a' x n marked (gives y g) step = step_gives w.second w.first a' x n marked g step
+
+-- what one of the events gave is known behind them
+given_along : {id : Identity} {w w' : World} {events : List Event} (who : Who) (n : ℕ) (marked : Bool) (e : Event) → WorldRun id w events w' → Among e events → GivesBy who n marked e → HasGiven (side_of who w') n
+given_along who n marked e world.stop m g = elim m [ ]
+given_along {id = id} who n marked e (world.step {w = w} {a' = a'} by x step d) here g = given_stays who n d (event_gives id who by w a' x n marked g step)
+given_along who n marked e (world.step by x step d) (there m) g = given_along who n marked e d m g
+given_along who n marked e (world.move by m d) k g = given_along who n marked e d k g
+
+event_marked : (id : Identity) (who by : Who) (w : World) (a' : Side) (x : Act) (n : ℕ) (marked : Bool) → GivesBy who n marked (Does by x) → Holds w → SideStep (identity_of by id) (side_of by w) (other_of by w) x a' → HasGiven (side_of who w) n → marked ≡ true
+event_marked id First First w a' x n marked (gives y g) p step had = step_marks w.first w.second a' x n marked p.own_other p.way g step had
+event_marked id First Second w a' x n marked g p step had = elim g [ ]
+event_marked id Second First w a' x n marked g p step had = elim g [ ]
+event_marked id Second Second w a' x n marked (gives y g) p step had = step_marks w.second w.first a' x n marked p.own p.back g step had
+
+next_marked : {id : Identity} {w w' : World} {events : List Event} (who : Who) (n : ℕ) (marked : Bool) (e : Event) (after : List Event) → WorldRun id w events w' → events ≡ e ∷ after → GivesBy who n marked e → Holds w → HasGiven (side_of who w) n → marked ≡ true
+next_marked who n marked e after world.stop same g p had = cc
+next_marked {id = id} who n marked e after (world.step {w = w} {a' = a'} by x step d) same g p had =
+    let first : e ≡ Does by x = cc in
+    event_marked id who by w a' x n marked (subst (GivesBy who n marked) first g) p step had
+next_marked First n marked e after (world.move {w = w} {s' = s'} First m d) same g p had = next_marked First n marked e after d same g (move_pair w.first w.second s' p m) (record { given = had.given; among = had.among; number = had.number })
+next_marked Second n marked e after (world.move {w = w} {s' = s'} First m d) same g p had = next_marked Second n marked e after d same g (move_pair w.first w.second s' p m) had
+next_marked First n marked e after (world.move {w = w} {s' = s'} Second m d) same g p had = next_marked First n marked e after d same g (swapped (move_pair w.second w.first s' (swapped p) m)) had
+next_marked Second n marked e after (world.move {w = w} {s' = s'} Second m d) same g p had = next_marked Second n marked e after d same g (swapped (move_pair w.second w.first s' (swapped p) m)) (record { given = had.given; among = had.among; number = had.number })
+
+marks : {id : Identity} (w : World) (events : List Event) → WorldRun id new_world events w → EachPlain events → MarksRepeats events
+marks w events d plain =
+    record {
+      each = λ before after e earlier who n marked was same m g0 g. (
+          let s = split before (e ∷ after) d same in
+          let plain_before = plain_front before (e ∷ after) (subst EachPlain same plain) in
+          next_marked who n marked e after s.back refl g (along s.front plain_before new_holds) (given_along who n was earlier s.front m g0));
+    }
+
+-- the law
+pub agrees : (id : Identity) (w : World) (events : List Event) → WorldRun id new_world events w → EachPlain events → WorldAgrees events w
+agrees id w events d plain =
+    let p = along d plain new_holds in
+    record { first = agrees_with w.first w.second p.own_other p.way; second = agrees_with w.second w.first p.own p.back; marks = marks w events d plain }

@@ -1,0 +1,251 @@
+-- The frames that an end may write are frames, and say what they are meant to.
+use Rattle.std.proofs.Common.{◌≡◌, inl, inr, ℕ, ◌+◌, ◌^◌, ◌<◌, ◌≤◌, ◌==◌, if◌then◌else◌, nat_lt, nat_le, codes, bytes_eq, List, [], ◌∷◌, ◌++◌, length, length-append, true, false, Some, None, refl, sym, ap, ◌∙◌, subst, lt-ltb, lit<, le_refl, arith}
+use Rattle.std.specs.List.{AllByRecursion}
+use Rattle.std.specs.Fmt.{decimal}
+use Rattle.std.specs.Str.{all_ascii_digits}
+use Rattle.std.specs.Str.Parse.{digits_value}
+use Rattle.std.proofs.lemmas.Bool.{eqb-true, le-leb}
+use Rattle.std.proofs.lemmas.Fmt.{digits_decimal, digits_value-decimal, decimal_nonempty, length-decimal-le}
+use Rattle.std.proofs.lemmas.Str.Parse.{IsNumeralModel, numerals_by_value, tells_all_ascii_digits}
+use Rattle.std.proofs.lemmas.Slice.Eq.{bytes_eq-Decides}
+use Rattle.fix_base.specs.Tags.{is_session_tag}
+use Rattle.fix_base.specs.Session.{Identity}
+use Rattle.fix_base.specs.Fields.{Field}
+use Rattle.fix_base.specs.Shape.{IsBodyField, IsFrame}
+use Rattle.fix_base.specs.Message as message
+use Rattle.fix_base.specs.Message.{Message}
+use Rattle.fix_base.specs.Says.{value_of, times_of, field_text, fields_text, body_of, number_in, seq_num_in, seq_num_of, new_seq_no_in, is_yes, is_admin_type, reset_of, message_with, message_from, message_of, Says}
+use Rattle.fix_base.specs.End.{Entry, End, IsEntry}
+use Rattle.fix_base.specs.Payload.{field, IsEntryField, IsAppType}
+use Rattle.fix_base.specs.Wrote as wrote
+use Rattle.fix_base.specs.Wrote.{IsSealed, original_fields, repeat_fields, gap_fields, Carries, IsOriginal, AdminsBetween, Writes, Wrote}
+use Rattle.fix_base.proofs.HandledLemmas.{test}
+use Rattle.fix_base.proofs.Seals.{AreOfMessage, sealed_is_frame, sealed_has_fields}
+use Rattle.fix_base.proofs.Told as told
+use Rattle.fix_base.proofs.Told.{OriginalSays, WritesMessages, SaysEach, WroteMessages}
+
+-- ---- numbers as texts
+
+number_from : (low high : ℕ) (d : List ℕ) (n : ℕ) → all_ascii_digits d ≡ true → 0 < length d → digits_value 10 d ≡ n → low ≤ n → n ≤ high → number_in low high d ≡ Some n
+number_from low high d n digits some value above below =
+    let long : nat_lt 0 (length d) ≡ true = lt-ltb 0 (length d) some in
+    let at_least : nat_le low n ≡ true = le-leb low n above in
+    let at_most : nat_le n high ≡ true = le-leb n high below in
+    rw (digits, long, value, at_least, at_most) refl
+
+numerals : IsNumeralModel (λ ds. all_ascii_digits ds ≡ true) (digits_value 10)
+numerals = numerals_by_value (λ ds. all_ascii_digits ds ≡ true) tells_all_ascii_digits
+
+number_decimal : (low high n : ℕ) → low ≤ n → n ≤ high → high < 2 ^ 64 → number_in low high (decimal n) ≡ Some n
+number_decimal low high n above below fits =
+    let small : n < 2 ^ 64 = omega arith in
+    number_from low high (decimal n) n (digits_decimal numerals n small) (decimal_nonempty n small) (digits_value-decimal numerals n small) above below
+
+short_number : (d : List ℕ) (n : ℕ) → length d ≤ 9 → number_in 1 999999999 d ≡ Some n → seq_num_in (Some d) ≡ Some n
+short_number d n short e = let s : nat_le (length d) 9 ≡ true = le-leb (length d) 9 short in rw s e
+
+-- a MsgSeqNum (34) as it is written is readable
+seq_num_decimal : (n : ℕ) → 1 ≤ n → n ≤ 999999999 → seq_num_in (Some (decimal n)) ≡ Some n
+seq_num_decimal n above below =
+    let small : n < 2 ^ 64 = omega arith in
+    short_number (decimal n) n (length-decimal-le 9 n (lit< tt) (omega arith) small) (number_decimal 1 999999999 n above below (lit< tt))
+
+-- and so is a NewSeqNo (36)
+new_seq_no_decimal : (n : ℕ) → 1 ≤ n → n ≤ 1000000000 → new_seq_no_in (Some (decimal n)) ≡ Some n
+new_seq_no_decimal n above below = number_decimal 1 1000000000 n above below (lit< tt)
+
+-- ---- the fields behind the header
+
+-- a header tag is none of theirs
+not_header : (f : Field) (tag : ℕ) → is_session_tag tag ≡ true → IsEntryField f → (f.tag == tag) ≡ false
+not_header f tag header h = elim (test (f.tag == tag)) as (λ t. (f.tag == tag) ≡ false) [
+  | inl t ↦ (let wrong : is_session_tag tag ≡ false = subst (λ k. is_session_tag k ≡ false) (eqb-true f.tag tag t) h.no_header in cc)
+  | inr t ↦ t
+]
+
+none_of_these : (tag : ℕ) → is_session_tag tag ≡ true → (rest : List Field) → AllByRecursion IsEntryField rest → times_of tag rest ≡ 0
+none_of_these tag header [] each = refl
+none_of_these tag header (f ∷ rest) each = let no = not_header f tag header each.0 in rw no (none_of_these tag header rest each.1)
+
+no_value : (tag : ℕ) → is_session_tag tag ≡ true → (rest : List Field) → AllByRecursion IsEntryField rest → value_of tag rest ≡ None
+no_value tag header [] each = refl
+no_value tag header (f ∷ rest) each = let no = not_header f tag header each.0 in rw no (no_value tag header rest each.1)
+
+body_is : (rest : List Field) → AllByRecursion IsEntryField rest → body_of rest ≡ fields_text rest
+body_is [] each = refl
+body_is (f ∷ rest) each = let in_body : is_session_tag f.tag ≡ false = each.0.no_header in rw in_body (ap (λ w. field_text f ++ w) (body_is rest each.1))
+
+body_fields : (rest : List Field) → AllByRecursion IsEntryField rest → AllByRecursion IsBodyField rest
+body_fields [] each = tt
+body_fields (f ∷ rest) each = (record { no_begin = each.0.no_begin; no_length = each.0.no_length; no_sum = each.0.no_sum }, body_fields rest each.1)
+
+-- ---- the three kinds of frames are fields of a message
+
+body_field : (tag : ℕ) (value : List ℕ) → 10 < tag → IsBodyField (field tag value)
+body_field tag value high = record { no_begin = λ e. omega arith; no_length = λ e. omega arith; no_sum = λ e. omega arith }
+
+two_long : (a b others : List ℕ) → 3 ≤ length a → 3 ≤ length b → 5 ≤ length (a ++ (b ++ others))
+two_long a b others p q = omega (arith, length-append a (b ++ others), length-append b others)
+
+three_long : (tag value : List ℕ) → 0 < length tag → 3 ≤ length (tag ++ 61 ∷ value ++ 1 ∷ [])
+three_long tag value some = omega (arith, length-append (tag ++ 61 ∷ value) (1 ∷ []), length-append tag (61 ∷ value))
+
+-- MsgType (35) and MsgSeqNum (34) alone have five bytes
+long_enough : (type number : List ℕ) (fs : List Field) → 5 ≤ length (fields_text (field 35 type ∷ field 34 number ∷ fs))
+long_enough type number fs =
+    two_long (field_text (field 35 type)) (field_text (field 34 number)) (fields_text fs)
+    (three_long (decimal 35) type (decimal_nonempty 35 (lit< tt))) (three_long (decimal 34) number (decimal_nonempty 34 (lit< tt)))
+
+original_is : (id : Identity) (number at type : List ℕ) (rest : List Field) → AllByRecursion IsEntryField rest → AreOfMessage (original_fields id number at type rest)
+original_is id number at type rest each = record {
+  first = field 35 type;
+  others = field 34 number ∷ field 49 id.sender ∷ field 52 at ∷ field 56 id.target ∷ rest;
+  spelled = refl;
+  type = refl;
+  long = long_enough type number (field 49 id.sender ∷ field 52 at ∷ field 56 id.target ∷ rest);
+  each = (body_field 35 type (lit< tt), (body_field 34 number (lit< tt), (body_field 49 id.sender (lit< tt), (body_field 52 at (lit< tt), (body_field 56 id.target (lit< tt), body_fields rest each)))));
+}
+
+repeat_is : (id : Identity) (number at was type : List ℕ) (rest : List Field) → AllByRecursion IsEntryField rest → AreOfMessage (repeat_fields id number at was type rest)
+repeat_is id number at was type rest each = record {
+  first = field 35 type;
+  others = field 34 number ∷ field 43 (codes "Y") ∷ field 49 id.sender ∷ field 52 at ∷ field 56 id.target ∷ field 122 was ∷ rest;
+  spelled = refl;
+  type = refl;
+  long = long_enough type number (field 43 (codes "Y") ∷ field 49 id.sender ∷ field 52 at ∷ field 56 id.target ∷ field 122 was ∷ rest);
+  each = (body_field 35 type (lit< tt), (body_field 34 number (lit< tt), (body_field 43 (codes "Y") (lit< tt), (body_field 49 id.sender (lit< tt), (body_field 52 at (lit< tt), (body_field 56 id.target (lit< tt), (body_field 122 was (lit< tt), body_fields rest each)))))));
+}
+
+gap_is : (id : Identity) (number next at : List ℕ) → AreOfMessage (gap_fields id number next at)
+gap_is id number next at = record {
+  first = field 35 (codes "4");
+  others = field 34 number ∷ field 43 (codes "Y") ∷ field 49 id.sender ∷ field 52 at ∷ field 56 id.target ∷ field 122 at ∷ field 36 next ∷ field 123 (codes "Y") ∷ [];
+  spelled = refl;
+  type = refl;
+  long = long_enough (codes "4") number (field 43 (codes "Y") ∷ field 49 id.sender ∷ field 52 at ∷ field 56 id.target ∷ field 122 at ∷ field 36 next ∷ field 123 (codes "Y") ∷ []);
+  each = (body_field 35 (codes "4") (lit< tt), (body_field 34 number (lit< tt), (body_field 43 (codes "Y") (lit< tt), (body_field 49 id.sender (lit< tt), (body_field 52 at (lit< tt), (body_field 56 id.target (lit< tt), (body_field 122 at (lit< tt), (body_field 36 next (lit< tt), (body_field 123 (codes "Y") (lit< tt), tt)))))))));
+}
+
+-- ---- what the fields say
+
+app_from : (type : List ℕ) (n : ℕ) (fs : List Field) → IsAppType type → message_with type n fs ≡ message.App n (is_yes (value_of 43 fs)) (body_of fs)
+app_from type n fs app = rw (app.no_reset, app.no_admin) refl
+
+admin_from : (type : List ℕ) (n : ℕ) (fs : List Field) → bytes_eq type (codes "4") ≡ false → is_admin_type type ≡ true → message_with type n fs ≡ message.Admin n
+admin_from type n fs no_reset admin = rw (no_reset, admin) refl
+
+-- the one MsgSeqNum (34) among fields that have none behind it
+one_number : (number : List ℕ) (n times : ℕ) → times ≡ 0 → seq_num_in (Some number) ≡ Some n → (if 1 + times == 1 then seq_num_in (Some number) else None) ≡ Some n
+one_number number n times none is = rw none is
+
+original_number : (id : Identity) (number : List ℕ) (n : ℕ) (at type : List ℕ) (rest : List Field) → seq_num_in (Some number) ≡ Some n → AllByRecursion IsEntryField rest → seq_num_of (original_fields id number at type rest) ≡ Some n
+original_number id number n at type rest is each = one_number number n (times_of 34 rest) (none_of_these 34 refl rest each) is
+
+repeat_number : (id : Identity) (number : List ℕ) (n : ℕ) (at was type : List ℕ) (rest : List Field) → seq_num_in (Some number) ≡ Some n → AllByRecursion IsEntryField rest → seq_num_of (repeat_fields id number at was type rest) ≡ Some n
+repeat_number id number n at was type rest is each = one_number number n (times_of 34 rest) (none_of_these 34 refl rest each) is
+
+original_app : (id : Identity) (number : List ℕ) (n : ℕ) (at type : List ℕ) (rest : List Field) → seq_num_in (Some number) ≡ Some n → IsAppType type → AllByRecursion IsEntryField rest → message_of (original_fields id number at type rest) ≡ Some (message.App n false (fields_text (field 35 type ∷ rest)))
+original_app id number n at type rest is app each =
+    ap (λ o. message_from (Some type) o (original_fields id number at type rest)) (original_number id number n at type rest is each) ∙ ap Some (app_from type n (original_fields id number at type rest) app) ∙
+    ap (λ o. Some (message.App n (is_yes o) (field_text (field 35 type) ++ body_of rest))) (no_value 43 refl rest each) ∙
+    ap (λ w. Some (message.App n false (field_text (field 35 type) ++ w))) (body_is rest each)
+
+original_admin : (id : Identity) (number : List ℕ) (n : ℕ) (at type : List ℕ) (rest : List Field) → seq_num_in (Some number) ≡ Some n → bytes_eq type (codes "4") ≡ false → is_admin_type type ≡ true → AllByRecursion IsEntryField rest → message_of (original_fields id number at type rest) ≡ Some (message.Admin n)
+original_admin id number n at type rest is no_reset admin each =
+    ap (λ o. message_from (Some type) o (original_fields id number at type rest)) (original_number id number n at type rest is each) ∙ ap Some (admin_from type n (original_fields id number at type rest) no_reset admin)
+
+repeat_app : (id : Identity) (number : List ℕ) (n : ℕ) (at was type : List ℕ) (rest : List Field) → seq_num_in (Some number) ≡ Some n → IsAppType type → AllByRecursion IsEntryField rest → message_of (repeat_fields id number at was type rest) ≡ Some (message.App n true (fields_text (field 35 type ∷ rest)))
+repeat_app id number n at was type rest is app each =
+    ap (λ o. message_from (Some type) o (repeat_fields id number at was type rest)) (repeat_number id number n at was type rest is each) ∙ ap Some (app_from type n (repeat_fields id number at was type rest) app) ∙
+    ap (λ w. Some (message.App n true (field_text (field 35 type) ++ w))) (body_is rest each)
+
+gap_says : (id : Identity) (number next : List ℕ) (n m : ℕ) (at : List ℕ) → seq_num_in (Some number) ≡ Some n → new_seq_no_in (Some next) ≡ Some m → message_of (gap_fields id number next at) ≡ Some (message.GapFill n m)
+gap_says id number next n m at is next_is =
+    ap (λ o. message_from (Some (codes "4")) o (gap_fields id number next at)) (one_number number n 0 refl is) ∙ ap (λ o. Some (reset_of n true o)) next_is
+
+-- ---- the frames
+
+-- an original, and what it says
+record Original (n : ℕ) (e : Entry) (text : List ℕ) : Type 0 where
+  message : Message
+  is : OriginalSays n e message
+  frame : IsFrame text
+  says : Says text message
+
+says_of : (id : Identity) (fields : List Field) (text : List ℕ) (x : Message) → AreOfMessage fields → IsSealed id fields text → message_of fields ≡ Some x → Says text x
+says_of id fields text x are s e = record { fields = fields; has = sealed_has_fields id fields text are s; says = e }
+
+-- no SequenceReset is among the other administrative types
+no_reset_type : (type : List ℕ) → is_admin_type type ≡ true → bytes_eq type (codes "4") ≡ false
+no_reset_type type admin = elim (test (bytes_eq type (codes "4"))) as (λ t. bytes_eq type (codes "4") ≡ false) [
+  | inl t ↦ (let wrong : is_admin_type (codes "4") ≡ true = subst (λ w. is_admin_type w ≡ true) ((bytes_eq-Decides type (codes "4")).0 t) admin in cc)
+  | inr t ↦ t
+]
+
+app_original : (id : Identity) (n : ℕ) (text at : List ℕ) (type : List ℕ) (rest : List Field) → 1 ≤ n → n ≤ 999999999 → IsAppType type → AllByRecursion IsEntryField rest → IsSealed id (original_fields id (decimal n) at type rest) text → Says text (message.App n false (fields_text (field 35 type ∷ rest)))
+app_original id n text at type rest some le app each sealed_so =
+    says_of id (original_fields id (decimal n) at type rest) text _ (original_is id (decimal n) at type rest each) sealed_so (original_app id (decimal n) n at type rest (seq_num_decimal n some le) app each)
+
+original_of : (id : Identity) (n : ℕ) (e : Entry) (text at type : List ℕ) (rest : List Field) → 1 ≤ n → n ≤ 999999999 → Carries e type rest → IsSealed id (original_fields id (decimal n) at type rest) text → Original n e text
+original_of id n e text at type rest some le (wrote.app {time = time} {by = by} {body = body} is) sealed_so =
+    record {
+      message = message.App n false body;
+      is = told.app time by body;
+      frame = sealed_is_frame id (original_fields id (decimal n) at type rest) text (original_is id (decimal n) at type rest is.each) sealed_so;
+      says = subst (λ w. Says text (message.App n false w)) (sym is.spelled) (app_original id n text at type rest some le is.app is.each sealed_so);
+    }
+original_of id n e text at type rest some le (wrote.admin {time = time} {kind = kind} {about = about} admin each) sealed_so =
+    let are = original_is id (decimal n) at (kind ∷ []) rest each in
+    record {
+      message = message.Admin n;
+      is = told.admin time kind about;
+      frame = sealed_is_frame id (original_fields id (decimal n) at (kind ∷ []) rest) text are sealed_so;
+      says = says_of id (original_fields id (decimal n) at (kind ∷ []) rest) text _ are sealed_so (original_admin id (decimal n) n at (kind ∷ []) rest (seq_num_decimal n some le) (no_reset_type (kind ∷ []) admin) admin each);
+    }
+original_of id n e text at type rest some le (wrote.withheld {time = time} {kind = kind} {about = about} is app each) sealed_so =
+    record {
+      message = message.App n false (fields_text (field 35 type ∷ rest));
+      is = told.withheld time kind about (fields_text (field 35 type ∷ rest)) is;
+      frame = sealed_is_frame id (original_fields id (decimal n) at type rest) text (original_is id (decimal n) at type rest each) sealed_so;
+      says = app_original id n text at type rest some le app each sealed_so;
+    }
+
+-- an entry's number is 1 or more
+entry_some : {out : List Entry} {n : ℕ} {e : Entry} → IsEntry out n e → 1 ≤ n
+entry_some h = let at = h.place in omega arith
+
+gap_some : {out : List Entry} {n m : ℕ} → n < m → AdminsBetween out n m → 1 ≤ n
+gap_some {n = n} lt h = entry_some (h.each n (le_refl n) lt).entry
+
+-- what the frames say, and that it may be written
+record Tells (out : List Entry) (last : ℕ) (texts : List (List ℕ)) (to : ℕ) : Type 0 where
+  messages : List Message
+  says : SaysEach texts messages
+  writes : WritesMessages out last messages to
+
+tells : {id : Identity} {out : List Entry} {last to : ℕ} {texts : List (List ℕ)} → Writes id out last texts to → Tells out last texts to
+tells wrote.done = record { messages = []; says = told.done; writes = told.done }
+tells {id = id} (wrote.original {text = text} n e le above entry is others) =
+    let o = original_of id n e text is.at is.type is.rest (entry_some entry) le is.carries is.sealed_so in
+    let t = tells others in
+    record { messages = o.message ∷ t.messages; says = told.one o.frame o.says t.says; writes = told.original n e above entry o.is t.writes }
+tells {id = id} (wrote.again {text = text} n time by body t le entry is others) =
+    let fields = repeat_fields id (decimal n) is.at is.was is.type is.rest in
+    let are = repeat_is id (decimal n) is.at is.was is.type is.rest is.carries.each in
+    let whole = says_of id fields text _ are is.sealed_so (repeat_app id (decimal n) n is.at is.was is.type is.rest (seq_num_decimal n (entry_some entry) le) is.carries.app is.carries.each) in
+    let s = subst (λ w. Says text (message.App n true w)) (sym is.carries.spelled) whole in
+    let o = tells others in
+    record { messages = message.App n true body ∷ o.messages; says = told.one (sealed_is_frame id fields text are is.sealed_so) s o.says; writes = told.again n body (record { time = time; by = by; entry = entry }) o.writes }
+tells {id = id} (wrote.gap_fill {text = text} n m t le some inside admins is others) =
+    let fields = gap_fields id (decimal n) (decimal m) is.at in
+    let are = gap_is id (decimal n) (decimal m) is.at in
+    let above = gap_some some admins in
+    let s = says_of id fields text _ are is.sealed_so (gap_says id (decimal n) (decimal m) n m is.at (seq_num_decimal n above (omega arith)) (new_seq_no_decimal m (omega arith) le)) in
+    let o = tells others in
+    record { messages = message.GapFill n m ∷ o.messages; says = told.one (sealed_is_frame id fields text are is.sealed_so) s o.says; writes = told.gap_fill n m some inside admins o.writes }
+
+-- what may have been written, as messages
+pub wrote_of : (id : Identity) (old new : End) (w : List ℕ) → Wrote id old new w → WroteMessages old new w
+wrote_of id old new w h =
+    let t = tells h.writes in
+    record { grew = h.grew; messages = t.messages; last = h.last; writes = t.writes; spells = record { texts = h.texts; says = t.says; front = h.front } }

@@ -1,0 +1,30 @@
+//! What holds of every end of a session, each law on a function that does nothing.
+ghost use Rattle.std.specs.Prelude.{◌≡◌, ◌++◌, ◌↔◌, ℕ, List};
+ghost use Rattle.fix_base.specs.Lists.{IsPrefixOf};
+ghost use Rattle.fix_base.specs.Session.{Identity};
+ghost use Rattle.fix_base.specs.End.{Entry, Record, End, folded_all, app_entries};
+ghost use Rattle.fix_base.specs.Act.{Act};
+ghost use Rattle.fix_base.specs.EndStep.{Handling, EndState, EndRun, RunsSomewhere};
+ghost use Rattle.fix_base.specs.Agrees.{Agrees, AgreesInPlainWords, fresh};
+
+/// What an end has done up to any moment is a lawful run too, whatever it does later.
+pub fn a_front_of_a_run_is_a_run()
+    ensures { (id : Identity) (s s' : EndState) (xs ys : List Act) → EndRun id s (xs ++ ys) s' → RunsSomewhere id s xs }
+{}
+
+/// A journal that is read in two parts gives the same message store as one that is read whole.
+pub fn records_fold_in_order()
+    ensures { (e : End) (xs ys : List Record) → folded_all e (xs ++ ys) ≡ folded_all (folded_all e xs) ys }
+{}
+
+/// Agreement of two ends, in plain words: what the one handled, each MsgSeqNum (34) once, is the
+/// list of the application messages that the other stored with numbers below the expected one.
+pub fn agreement_in_plain_words()
+    ensures { (expected : ℕ) (handled : List Handling) (out : List Entry) → Agrees expected handled out ↔ AgreesInPlainWords expected handled out }
+{}
+
+/// Where two ends agree, what was handed over or rejected, repeats removed, is a prefix of what
+/// the other end stored, with equal bodies: nothing was lost, made up or put out of order.
+pub fn what_was_handled_is_a_prefix()
+    ensures { (expected : ℕ) (handled : List Handling) (out : List Entry) → Agrees expected handled out → IsPrefixOf (fresh handled) (app_entries out) }
+{}

@@ -1,0 +1,44 @@
+//! What holds of two ends of a session and the connections between them, each law on a function
+//! that does nothing.
+ghost use Rattle.std.specs.Prelude.{◌≡◌, ℕ, List, [], ◌∷◌, ◌++◌, length};
+ghost use Rattle.fix_base.specs.Lists.{IsPrefixOf};
+ghost use Rattle.fix_base.specs.Session.{Identity, mirrored};
+ghost use Rattle.fix_base.specs.End.{End};
+ghost use Rattle.fix_base.specs.Payload.{IsPersistent};
+ghost use Rattle.fix_base.specs.Act;
+ghost use Rattle.fix_base.specs.Act.{Act};
+ghost use Rattle.fix_base.specs.Wrote.{Writes, Wrote, WroteWhole};
+ghost use Rattle.fix_base.specs.EndStep.{EndState, EndStep, EndRun};
+ghost use Rattle.fix_base.specs.Agrees.{Agrees};
+ghost use Rattle.fix_base.specs.Reader.{bytes_read, AreOfOneConnection, ReaderKeepsUp};
+ghost use Rattle.fix_base.specs.World.{Event, World, WorldRun, EachPlain, WorldAgrees, new_world};
+
+/// What a writer has written stays lawful: nothing at the opening of a connection, with more
+/// entries stored, with one more original, repeat or gap fill, and where a write is cut at any
+/// byte.
+pub fn what_a_writer_keeps_true()
+    ensures start { (id : Identity) (e : End) → WroteWhole id e e (length e.out) [] }
+    ensures grown { (id : Identity) (old new more : End) (last : ℕ) (w : List ℕ) → IsPrefixOf new.out more.out → WroteWhole id old new last w → WroteWhole id old more last w }
+    ensures more { (id : Identity) (old new : End) (last to : ℕ) (w text : List ℕ) → Writes id new.out last (text ∷ []) to → WroteWhole id old new last w → WroteWhole id old new to (w ++ text) }
+    ensures wrote { (id : Identity) (old new : End) (last : ℕ) (w : List ℕ) → WroteWhole id old new last w → Wrote id old new w }
+    ensures cut { (id : Identity) (old new : End) (w bytes : List ℕ) → IsPrefixOf bytes w → Wrote id old new w → Wrote id old new bytes }
+{}
+
+/// Over one connection, an end that agrees with its counterparty at the opening goes on agreeing
+/// with it, however it reads, hands over, rejects, stores and stops, as long as the bytes that
+/// come are a front of what the counterparty may have written. What the counterparty had before
+/// its connection comes marked (PossDupFlag 43 = Y).
+pub fn a_reader_keeps_up()
+    ensures { (id : Identity) (s opened s' : EndState) (acts : List Act) (f0 f1 : End) (w : List ℕ) →
+        IsPersistent f1 → Wrote (mirrored id) f0 f1 w →
+        EndStep id s Act.Opened opened → EndRun id opened acts s' → AreOfOneConnection acts → IsPrefixOf (bytes_read acts) w →
+        Agrees s.end.stored s.handled f0.out → Agrees s.expected s.handled f0.out → ReaderKeepsUp f0 f1 acts s' }
+{}
+
+/// Two ends that both keep to FIX's rules of numbering, resending and gap filling agree after
+/// whatever happens: connections that break at any byte, crashes of either, records of which
+/// nobody knows whether they were kept. No application message is lost, made up, changed or put
+/// out of order, and one that an application was given before comes marked (PossDupFlag 43 = Y).
+pub fn world_agrees()
+    ensures { (id : Identity) (w : World) (events : List Event) → WorldRun id new_world events w → EachPlain events → WorldAgrees events w }
+{}
