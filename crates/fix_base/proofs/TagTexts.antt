@@ -1,8 +1,8 @@
 -- A tag and its `=`.
-use Rattle.std.proofs.Common.{◌≡◌, ◌≢◌, ℕ, ◌+◌, ◌*◌, ◌^◌, ◌<◌, ◌≤◌, List, [], ◌∷◌, ◌++◌, length, get_or, take, drop, refl, sym, ap, ◌∙◌, append_assoc, arith, inl, inr}
+use Rattle.std.proofs.Common.{◌==◌, true, false, Some, ◌≡◌, ◌≢◌, ℕ, ◌+◌, ◌*◌, ◌^◌, ◌<◌, ◌≤◌, List, [], ◌∷◌, ◌++◌, length, get_or, take, drop, refl, sym, ap, ◌∙◌, append_assoc, arith, inl, inr}
 use Rattle.std.specs.Fmt.{decimal}
 use Rattle.std.specs.Str.Parse.{digits_value, AllDigits}
-use Rattle.std.proofs.lemmas.Bool.{cases_lt, cases_eq}
+use Rattle.std.proofs.lemmas.Bool.{cases_lt, cases_eq, eq-eqb, ne_eqb}
 use Rattle.std.proofs.lemmas.List.{length-append, length-take-le, get_or_at, get_or-take, take-append-drop, take_rest, drop_more, take_at}
 use Rattle.std.proofs.lemmas.List.Prefix.{front_reads}
 use Rattle.std.proofs.lemmas.Int.Digits.{digits_more}
@@ -11,6 +11,7 @@ use Rattle.std.proofs.lemmas.Str.{digit_value_digit}
 use Rattle.std.proofs.lemmas.Str.Parse.{digits_value_short, digit_at}
 use Rattle.fix_base.specs.Front.{Begins}
 use Rattle.fix_base.specs.Fields.{IsTag}
+use Rattle.fix_base.specs.Tags.{beside}
 use Rattle.fix_base.proofs.Fronts.{rest_is}
 use Rattle.fix_base.proofs.Pieces.{from}
 use Rattle.fix_base.proofs.Digits.{numerals, value_more}
@@ -25,6 +26,10 @@ pub record HasTag (i : ℕ) (bytes : List ℕ) (n : ℕ) : Type 0 where
 
 pub tag_small : (k i : ℕ) (bytes : List ℕ) (n : ℕ) → i ≤ length bytes → i ≤ k → HasTag i bytes n → n < 10 ^ k
 tag_small k i bytes n le few h = rw (← h.number) (digits_value_short numerals (take i bytes) k h.digits (omega (arith, length-take-le i bytes le)))
+
+-- no digit yet
+pub tag_none : (i : ℕ) (bytes : List ℕ) (n : ℕ) → i ≡ 0 → HasTag i bytes n → n ≡ 0
+tag_none i bytes n zero h = sym h.number ∙ ap (λ k. digits_value 10 (take k bytes)) zero
 
 pub tag_more : (bytes : List ℕ) (i n d : ℕ) → i < length bytes → i ≢ 9 → HasTag i bytes n → 48 ≤ get_or bytes i 0 → get_or bytes i 0 ≤ 57 → d + 48 ≡ get_or bytes i 0 → (n ≡ 0 → get_or bytes i 0 ≢ 48) → HasTag (i + 1) bytes (n * 10 + d)
 tag_more bytes i n d lt room h low high is first = record {
@@ -122,3 +127,17 @@ pub goes_on : (bytes : List ℕ) (i n len : ℕ) → i < length bytes → HasTag
 goes_on bytes i n len lt h other e =
     let le = ends_behind bytes i n len (omega arith) h e in
     elim (cases_eq i len) [ inl same ↦ absurd (other (ap (λ k. get_or bytes k 0) same ∙ e.end)) | inr apart ↦ omega arith ]
+
+-- ---- the tag that is paired with one
+
+-- the pairs behind one of another tag
+pub beside_more : (tag : ℕ) (pairs : List (ℕ × ℕ)) (k : ℕ) (d : ℕ × ℕ) → k < length pairs → (get_or pairs k d).0 ≢ tag → beside tag (drop k pairs) ≡ beside tag (drop (k + 1) pairs)
+beside_more tag pairs k d lt other =
+    let first : ((get_or pairs k d).0 == tag) ≡ false = ne_eqb (get_or pairs k d).0 tag other in
+    rw (drop_more pairs k d lt, first) refl
+
+-- the pair that is found
+pub beside_here : (tag : ℕ) (pairs : List (ℕ × ℕ)) (k : ℕ) (d : ℕ × ℕ) → k < length pairs → (get_or pairs k d).0 ≡ tag → beside tag (drop k pairs) ≡ Some (get_or pairs k d).1
+beside_here tag pairs k d lt same =
+    let first : ((get_or pairs k d).0 == tag) ≡ true = eq-eqb (get_or pairs k d).0 tag same in
+    rw (drop_more pairs k d lt, first) refl
