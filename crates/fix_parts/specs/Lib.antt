@@ -5,3 +5,4 @@ pub mod Clock
 pub mod Sink
 pub mod Tape
 pub mod Memory
+pub mod Line
