@@ -4,3 +4,5 @@ pub mod App
 pub mod Clock
 pub mod Sink
 pub mod Tape
+pub mod Memory
+pub mod Line

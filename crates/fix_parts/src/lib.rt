@@ -6,15 +6,27 @@
 mod app;
 mod clock;
 mod copies;
+mod failing;
+mod line_app;
 mod link;
+mod memory_app;
+mod memory_clock;
+mod memory_link;
+mod memory_sink;
 mod noted;
+mod room;
 mod sink;
 mod tape;
 
 pub use app::{App, Given, Handed, Said};
 pub use clock::Clock;
 pub use copies::{copy_entry, copy_record};
+pub use line_app::LineApp;
 pub use link::{Link, ReadTurn, WriteTurn};
+pub use memory_app::MemoryApp;
+pub use memory_clock::MemoryClock;
+pub use memory_link::MemoryLink;
+pub use memory_sink::MemorySink;
 pub use noted::Noted;
 pub use sink::{Sink, SinkFailed};
 pub use tape::{KeptTape, NoTape, Tape};

@@ -1,0 +1,112 @@
+ghost use Rattle.std.specs.Prelude.{◌≡◌, ◌++◌, ◌<◌, OnOk};
+ghost use Rattle.fix_parts.specs.App.{AppTakes};
+ghost use Rattle.fix_parts.specs.Line.{hex_digit, byte_text, body_text, line_of, LineWrites};
+
+use crate::{App, Handed, Said, Sink, SinkFailed};
+use itoa::Buffer;
+use std::alloc::{AllocError, Global};
+use std::marker::Model;
+
+/// An application that writes a line of text for each message. Contracts see it as its sink.
+#[derive(Drop)]
+pub struct LineApp<S: Sink> {
+    // The line of the message in hand. It is kept to be used again.
+    line: Vec<u8>,
+    sink: S,
+}
+
+impl<S: Sink> Model for LineApp<S> {
+    ghost Value = { S };
+
+    ghost view = { λ a. a.sink };
+}
+
+impl<S: Sink> LineApp<S> {
+    /// An application that writes to the sink.
+    pub fn new(alloc: Global, sink: S) -> LineApp<S>
+        ensures { result ≡ sink }
+    {
+        LineApp {
+            line: Vec::new(alloc),
+            sink,
+        }
+    }
+
+    pub fn sink(&self) -> &S
+        ensures { result.now ≡ self.now }
+    {
+        &self.sink
+    }
+}
+
+impl<S: Sink> App for LineApp<S> {
+    ghost use Rattle.std.specs.Prelude.{None};
+
+    ghost app = { λ a. record { given = None; faults = (S.sink a).faults } };
+
+    fn hand(&mut self, h: &Handed<'_>) -> Said
+        ensures moves { AppTakes result h.now (record { given = None; faults = (S.sink self.old).faults }) (record { given = None; faults = (S.sink self.new).faults }) }
+        ensures line { LineWrites result h.now (S.sink self.old) (S.sink self.new) }
+    {
+        self.line.clear();
+        if push_line(&mut self.line, h).is_err() {
+            return Said::OutOfMemory;
+        }
+        match self.sink.write(self.line.as_slice()) {
+            Ok(()) => Said::Taken,
+            Err(SinkFailed) => Said::Failed,
+        }
+    }
+}
+
+// The line of the message, behind what is there.
+fn push_line(line: &mut Vec<u8>, h: &Handed<'_>) -> Result<(), AllocError>
+    ensures { OnOk result (line.new.items ≡ line.old.items ++ line_of h.now) }
+{
+    let mut number = Buffer::new();
+    line.extend_from_slice(number.format(h.number).as_bytes())?;
+    line.extend_from_slice(if h.marked { b" Y " } else { b" N " })?;
+    push_body(line, h.body)?;
+    line.push(b'\n')?;
+    Ok(())
+}
+
+// The body text of the bytes.
+fn push_body(line: &mut Vec<u8>, body: &[u8]) -> Result<(), AllocError>
+    ensures { OnOk result (line.new.items ≡ line.old.items ++ body_text body.now) }
+{
+    for byte in body {
+        push_byte(line, *byte)?;
+    }
+    Ok(())
+}
+
+// The text of one byte.
+fn push_byte(line: &mut Vec<u8>, byte: u8) -> Result<(), AllocError>
+    ensures { OnOk result (line.new.items ≡ line.old.items ++ byte_text byte) }
+{
+    match byte {
+        1 => line.push(b'|')?,
+        b'\\' => line.extend_from_slice(b"\\\\")?,
+        b'|' => line.extend_from_slice(b"\\|")?,
+        0..=0x1F | 0x7F..=0xFF => {
+            line.extend_from_slice(b"\\x")?;
+            line.push(digit(byte / 16))?;
+            line.push(digit(byte % 16))?;
+        }
+        _ => line.push(byte)?,
+    }
+    Ok(())
+}
+
+// 0 to 9 and a to f.
+fn digit(value: u8) -> u8
+    requires { value < 16 }
+    ensures { result ≡ hex_digit value }
+{
+    if value < 10 {
+        b'0' + value
+    } else {
+        b'a' + (value - 10)
+    }
+}
