@@ -1,8 +1,10 @@
 -- The text of a time (FIX, "Data Types", `UTCTimestamp`): `YYYYMMDD-HH:MM:SS`, or the same with a
 -- point and more digits. A time is a count of microseconds since 1970-01-01 00:00:00 UTC.
-use Rattle.std.specs.Prelude.{◌≡◌, ℕ, ◌+◌, ◌-◌, ◌*◌, ◌/◌, ◌%◌, ◌^◌, ◌<◌, ◌≤◌, ◌⊎◌, List, [], ◌∷◌, ◌++◌, length, ℤ, pos, ◌+ℤ◌, ◌*ℤ◌}
+use Rattle.std.specs.Prelude.{◌≡◌, ℕ, ◌+◌, ◌-◌, ◌*◌, ◌/◌, ◌%◌, ◌^◌, ◌<◌, ◌≤◌, ◌⊎◌, List, [], ◌∷◌, ◌++◌, length, take, ℤ, pos, ◌+ℤ◌, ◌*ℤ◌}
 use Rattle.std.specs.Str.Parse.{digits_value, AllDigits}
 use Rattle.jiff_core.specs.Calendar.{IsCivilDate, days_from_civil}
+pub use Rattle.fix_base.specs.declared.precision.Precision.{Precision}
+pub use Rattle.fix_base.specs.declared.precision.Precision.TheVariants.{Seconds, Millis, Micros}
 
 -- a number below 100, or below 10000, in so many digits
 abbrev pub two_digits : ℕ → List ℕ
@@ -74,3 +76,21 @@ pub record IsTimeText (time : ℕ) (text : List ℕ) : Type 0 where
   pub digits : ℕ
   pub precision : IsPrecision digits
   pub is : IsTimeTextOf digits time text
+
+-- how many digits stand behind the point
+abbrev pub digits_of_precision : Precision → ℕ
+digits_of_precision Seconds = 0
+digits_of_precision Millis = 3
+digits_of_precision Micros = 6
+
+-- how many digits may stand behind the point of a UTCTimestamp
+abbrev pub IsFractionLength : ℕ → Type 0
+IsFractionLength n = (n ≡ 0) ⊎ (n ≡ 3) ⊎ (n ≡ 6) ⊎ (n ≡ 9)
+
+-- the value is a UTCTimestamp that says this time; digits behind the sixth are cut off
+pub record IsUtcTimestamp (value : List ℕ) (time : ℤ) : Type 0 where
+  pub moment : Moment
+  pub is : IsMoment moment
+  pub many : IsFractionLength (length moment.fraction)
+  pub spelled : value ≡ moment_text moment
+  pub says : time ≡ time_of (record moment { fraction = take 6 moment.fraction })

@@ -11,6 +11,7 @@ mod fault;
 mod front;
 mod identity;
 mod number;
+mod precision;
 mod status;
 mod stream_laws;
 mod tags;
@@ -27,6 +28,7 @@ pub use fault::Fault;
 pub use front::Stop;
 pub use identity::{Begin, Identity};
 pub use number::{SeqNum, Tag};
+pub use precision::Precision;
 pub use status::Status;
 pub use stream_laws::{
     a_longer_stream_reads_on, a_stream_has_one_reading, a_text_has_one_list_of_fields,

@@ -1,13 +1,17 @@
-//! Fields at the front of bytes: the step from a frame's body to its tags and values.
-//! Values are lent, and nothing is copied.
+//! Fields at the front of bytes: the step from a frame's body to its tags and values, and what the
+//! values say: times and numbers. Values are lent, and nothing is copied.
 #![tactic(auto)]
 
 mod field;
+mod number;
 mod scanning;
 mod tag;
+mod times;
 mod value;
 
 pub use field::{FieldRef, due_after, field_at, is_body, is_body_field};
+pub use number::{boolean, int};
 pub use scanning::{after_text, soh_at};
 pub use tag::{paired, tag_at};
+pub use times::{TimeText, time_text, utc_time};
 pub use value::{data_length, value_at};

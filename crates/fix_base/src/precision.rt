@@ -1,0 +1,10 @@
+/// How finely a time is written: TimeStampPrecision of a session's settings.
+#[derive(Clone, Copy, Debug, PartialEq, Eq)]
+pub enum Precision {
+    /// Whole seconds, as `20240102-10:00:00`.
+    Seconds,
+    /// Three digits behind the point.
+    Millis,
+    /// Six digits behind the point.
+    Micros,
+}
