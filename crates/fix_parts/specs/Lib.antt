@@ -6,3 +6,4 @@ pub mod Sink
 pub mod Tape
 pub mod Memory
 pub mod Line
+pub mod Streams
