@@ -7,3 +7,4 @@ pub mod Tape
 pub mod Memory
 pub mod Line
 pub mod Streams
+pub mod Adapters

@@ -1,8 +1,7 @@
 -- What the calls over a stream do to its bytes, where the stream tells them.
-use Rattle.std.specs.Prelude.{◌≡◌, ℕ, List, [], take, Option, None, Result, Ok, Err}
+use Rattle.std.specs.Prelude.{◌≡◌, ℕ, List, [], take, Option, Result, Ok, Err}
 use Rattle.std.specs.Io.KnownBytes.{Keeps, Appends, Consumes, IsAtEnd}
 use Rattle.fix_base.specs.Lists.{IsPrefixOf}
-use Rattle.fix_parts.specs.Link.{LinkSeen}
 use Rattle.fix_parts.specs.declared.link.ReadTurn.{ReadTurn}
 use Rattle.fix_parts.specs.declared.link.ReadTurn.TheVariants as read
 use Rattle.fix_parts.specs.declared.link.WriteTurn.{WriteTurn}
@@ -27,7 +26,3 @@ StreamTakes write.OutOfMemory bytes old new = ⊥
 abbrev pub StreamSinks : {T : Type 0} → Result T SinkFailed → List ℕ → Option (List ℕ) → Option (List ℕ) → Type 0
 StreamSinks (Ok x) bytes old new = Appends old new bytes
 StreamSinks (Err e) bytes old new = (part : List ℕ) × IsPrefixOf part bytes × Appends old new part
-
--- what is seen of a connection that tells only how often it failed
-abbrev pub untold : ℕ → LinkSeen
-untold faults = record { to_come = None; written = None; faults = faults }

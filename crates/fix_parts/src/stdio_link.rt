@@ -10,7 +10,7 @@ use std::io::{Read, Write};
 /// `rt.stdout()`. A read waits for bytes, so it is never Idle. The end of the input is End. A write
 /// is passed on at once.
 #[derive(Drop)]
-pub struct StdioLink<I: Read, O: Write> {
+pub struct StdioLink<I, O> {
     pub input: I,
     pub output: O,
     faults: u64,
@@ -18,10 +18,13 @@ pub struct StdioLink<I: Read, O: Write> {
 
 impl<I: Read, O: Write> StdioLink<I, O> {
     ghost use Rattle.std.specs.Prelude.{◌≡◌};
+    ghost use Rattle.fix_parts.specs.Adapters.{stdio_link_of};
 
     /// A connection that reads from the input and writes to the output.
     pub fn new(input: I, output: O) -> StdioLink<I, O>
-        ensures { result ≡ record { input = input; output = output; faults = 0 } }
+        ensures input { result.input ≡ input }
+        ensures output { result.output ≡ output }
+        ensures faults { (stdio_link_of result).faults ≡ 0 }
     {
         StdioLink {
             input,
@@ -32,14 +35,14 @@ impl<I: Read, O: Write> StdioLink<I, O> {
 }
 
 impl<I: Read, O: Write> Link for StdioLink<I, O> {
-    ghost use Rattle.std.specs.Prelude.{◌≡◌, None};
-    ghost use Rattle.fix_parts.specs.Streams.{untold};
+    ghost use Rattle.std.specs.Prelude.{◌≡◌};
+    ghost use Rattle.fix_parts.specs.Adapters.{stdio_link_of};
 
-    ghost link = { λ l. untold l.faults };
+    ghost link = { stdio_link_of };
 
     fn read(&mut self, room: &mut [u8]) -> ReadTurn
         requires { 0 < length room.old }
-        ensures moves { LinkReads result room.new (untold self.old.faults) (untold self.new.faults) }
+        ensures moves { LinkReads result room.new (stdio_link_of self.old) (stdio_link_of self.new) }
         ensures bytes { StreamGives result room.new (I.remaining self.old.input) (I.remaining self.new.input) }
         ensures output { self.new.output ≡ self.old.output }
     {
@@ -51,7 +54,7 @@ impl<I: Read, O: Write> Link for StdioLink<I, O> {
     }
 
     fn write(&mut self, bytes: &[u8]) -> WriteTurn
-        ensures moves { LinkWrites result bytes.now (untold self.old.faults) (untold self.new.faults) }
+        ensures moves { LinkWrites result bytes.now (stdio_link_of self.old) (stdio_link_of self.new) }
         ensures bytes { StreamTakes result bytes.now (O.contents self.old.output) (O.contents self.new.output) }
         ensures input { self.new.input ≡ self.old.input }
     {

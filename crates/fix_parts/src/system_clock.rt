@@ -8,15 +8,17 @@ use std::{io, rt};
 /// The system's clock: microseconds since 1970-01-01 00:00:00 UTC. Where it can't be read or
 /// stands before 1970, the last reading is given again, at first 0.
 #[derive(Drop)]
-pub struct SystemClock<R: rt::Clock> {
+pub struct SystemClock<R> {
     rt: R,
     last: u64,
 }
 
 impl<R: rt::Clock> SystemClock<R> {
+    ghost use Rattle.fix_parts.specs.Adapters.{last_reading};
+
     /// The clock of the runtime.
     pub fn new(rt: R) -> SystemClock<R>
-        ensures { result ≡ record { rt = rt; last = 0 } }
+        ensures { last_reading result ≡ 0 }
     {
         SystemClock { rt, last: 0 }
     }
@@ -24,10 +26,15 @@ impl<R: rt::Clock> SystemClock<R> {
 
 impl<R: rt::Clock> Clock for SystemClock<R> {
     ghost use Rattle.std.specs.Prelude.{None};
+    ghost use Rattle.fix_parts.specs.Adapters.{last_reading};
+    ghost use Rattle.fix_parts.specs.Clock.{ClockReads};
 
     ghost readings = { λ c. None };
 
-    fn now(&mut self) -> u64 {
+    fn now(&mut self) -> u64
+        ensures moves { ClockReads result None None }
+        ensures last { last_reading self.new ≡ result }
+    {
         self.last = micros_or(self.rt.since_1970(), self.last);
         self.last
     }
