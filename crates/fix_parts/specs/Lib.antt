@@ -6,3 +6,5 @@ pub mod Sink
 pub mod Tape
 pub mod Memory
 pub mod Line
+pub mod Streams
+pub mod Adapters

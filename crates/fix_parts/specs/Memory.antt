@@ -1,11 +1,13 @@
 -- What is seen of the parts in memory, and which of their calls fail.
-use Rattle.std.specs.Prelude.{◌≡◌, ℕ, ◌+◌, ◌-◌, min, List, [], ◌∷◌, length, drop, Option, Some, Contains}
+use Rattle.std.specs.Prelude.{◌≡◌, ℕ, ◌+◌, ◌-◌, ◌<◌, ◌≤◌, vec_len, vec_capacity, min, List, [], ◌∷◌, length, drop, Option, Some, Contains}
+use Rattle.fix_base.specs.declared.act.Act.{Act}
 use Rattle.fix_base.specs.Seen.{LAST_COUNT}
 use Rattle.fix_parts.specs.declared.failing.Failing.{Failing}
 use Rattle.fix_parts.specs.declared.memory_link.MemoryLink.{MemoryLink}
 use Rattle.fix_parts.specs.declared.memory_app.MemoryApp.{MemoryApp}
 use Rattle.fix_parts.specs.declared.memory_clock.MemoryClock.{MemoryClock}
 use Rattle.fix_parts.specs.declared.memory_sink.MemorySink.{MemorySink}
+use Rattle.fix_parts.specs.declared.tape.KeptTape.{KeptTape}
 use Rattle.fix_parts.specs.Link.{LinkSeen}
 use Rattle.fix_parts.specs.App.{AppSeen}
 use Rattle.fix_parts.specs.Sink.{SinkSeen}
@@ -71,3 +73,10 @@ sink_script m = script_with m.failing m.capacity
 -- how many bytes it can keep yet
 abbrev pub sink_room : MemorySink → ℕ
 sink_room m = m.capacity - length m.out.items
+
+abbrev pub acts_in : KeptTape → List Act
+acts_in t = t.acts.items
+
+-- there is room for one act, and a buffer for its bytes
+abbrev pub KeptRoom : KeptTape → ℕ → Type 0
+KeptRoom t n = (vec_len t.acts < vec_capacity t.acts) × (t.spare.items ≡ []) × (n ≤ vec_capacity t.spare)

@@ -16,6 +16,10 @@ mod memory_sink;
 mod noted;
 mod room;
 mod sink;
+mod stdio_link;
+mod stream_sink;
+mod streams;
+mod system_clock;
 mod tape;
 
 pub use app::{App, Given, Handed, Said};
@@ -29,4 +33,7 @@ pub use memory_link::MemoryLink;
 pub use memory_sink::MemorySink;
 pub use noted::Noted;
 pub use sink::{Sink, SinkFailed};
+pub use stdio_link::StdioLink;
+pub use stream_sink::StreamSink;
+pub use system_clock::SystemClock;
 pub use tape::{KeptTape, NoTape, Tape};

@@ -4,7 +4,8 @@ ghost use Rattle.fix_base.specs.declared.act.Act.{Act as TheAct};
 ghost use Rattle.fix_base.specs.Seen.{grown};
 ghost use Rattle.fix_parts.specs.Tape.{act_of, bytes_in, bytes_in_entry, bytes_in_record};
 
-use crate::{Handed, Noted};
+use crate::Noted;
+use crate::room::{put, put_bytes};
 use fix_base::{Act, Bytes, Entry, OutOfMemory, Record};
 use std::alloc::Global;
 use std::mem;
@@ -60,9 +61,11 @@ pub struct KeptTape {
 }
 
 impl KeptTape {
+    ghost use Rattle.fix_parts.specs.Memory.{acts_in};
+
     /// A tape without acts.
     pub fn new(alloc: Global) -> KeptTape
-        ensures { result.acts.items ≡ [] }
+        ensures { acts_in result ≡ [] }
     {
         KeptTape {
             alloc,
@@ -73,20 +76,9 @@ impl KeptTape {
 
     /// The acts that were noted.
     pub fn acts(&self) -> &[Act]
-        ensures { result.now ≡ self.now.acts.items }
+        ensures { result.now ≡ acts_in self.now }
     {
         self.acts.as_slice()
-    }
-}
-
-// Puts an act into room that is there.
-fn put(acts: &mut Vec<Act>, act: Act)
-    requires { vec_len acts.old < vec_capacity acts.old }
-    ensures { acts.new.items ≡ acts.old.items ++ act ∷ [] }
-{
-    match acts.push(act) {
-        Ok(()) => {}
-        Err(_) => unreachable!(),
     }
 }
 
@@ -96,10 +88,7 @@ fn filled(alloc: Global, spare: &mut Vec<u8>, bytes: &[u8]) -> Bytes
     requires room { length bytes.now ≤ vec_capacity spare.old }
     ensures { result ≡ bytes.now }
 {
-    match spare.extend_from_slice(bytes) {
-        Ok(()) => {}
-        Err(_) => unreachable!(),
-    }
+    put_bytes(spare, bytes);
     Bytes::from_vec(mem::replace(spare, Vec::new(alloc)))
 }
 
@@ -188,9 +177,11 @@ fn filled_act(alloc: Global, spare: &mut Vec<u8>, act: &Noted<'_>) -> Act
 }
 
 impl Tape for KeptTape {
-    ghost told = { λ t. Some t.acts.items };
+    ghost use Rattle.fix_parts.specs.Memory.{acts_in, KeptRoom};
 
-    ghost HasRoom = { λ t n. (vec_len t.acts < vec_capacity t.acts) × (t.spare.items ≡ []) × (n ≤ vec_capacity t.spare) };
+    ghost told = { λ t. Some (acts_in t) };
+
+    ghost HasRoom = { KeptRoom };
 
     ghost less_room = { λ t m n le h. (h.0, h.1, le_trans le h.2) };
 
