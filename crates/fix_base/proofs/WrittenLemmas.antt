@@ -96,35 +96,46 @@ long_enough type number fs =
     two_long (field_text (field 35 type)) (field_text (field 34 number)) (fields_text fs)
     (three_long (decimal 35) type (decimal_nonempty 35 (lit< tt))) (three_long (decimal 34) number (decimal_nonempty 34 (lit< tt)))
 
+-- the fields behind the first
+abbrev behind : List Field → List Field
+behind [] = []
+behind (f ∷ fs) = fs
+
 original_is : (id : Identity) (number at type : List ℕ) (rest : List Field) → AllByRecursion IsEntryField rest → AreOfMessage (original_fields id number at type rest)
-original_is id number at type rest each = record {
-  first = field 35 type;
-  others = field 34 number ∷ field 49 id.sender ∷ field 52 at ∷ field 56 id.target ∷ rest;
-  spelled = refl;
-  type = refl;
-  long = long_enough type number (field 49 id.sender ∷ field 52 at ∷ field 56 id.target ∷ rest);
-  each = (body_field 35 type (lit< tt), (body_field 34 number (lit< tt), (body_field 49 id.sender (lit< tt), (body_field 52 at (lit< tt), (body_field 56 id.target (lit< tt), body_fields rest each)))));
-}
+original_is id number at type rest each =
+    let fields = original_fields id number at type rest in
+    record {
+      first = field 35 type;
+      others = behind fields;
+      spelled = refl;
+      type = refl;
+      long = long_enough type number (behind (behind fields));
+      each = (body_field 35 type (lit< tt), (body_field 34 number (lit< tt), (body_field 49 id.sender (lit< tt), (body_field 52 at (lit< tt), (body_field 56 id.target (lit< tt), body_fields rest each)))));
+    }
 
 repeat_is : (id : Identity) (number at was type : List ℕ) (rest : List Field) → AllByRecursion IsEntryField rest → AreOfMessage (repeat_fields id number at was type rest)
-repeat_is id number at was type rest each = record {
-  first = field 35 type;
-  others = field 34 number ∷ field 43 (codes "Y") ∷ field 49 id.sender ∷ field 52 at ∷ field 56 id.target ∷ field 122 was ∷ rest;
-  spelled = refl;
-  type = refl;
-  long = long_enough type number (field 43 (codes "Y") ∷ field 49 id.sender ∷ field 52 at ∷ field 56 id.target ∷ field 122 was ∷ rest);
-  each = (body_field 35 type (lit< tt), (body_field 34 number (lit< tt), (body_field 43 (codes "Y") (lit< tt), (body_field 49 id.sender (lit< tt), (body_field 52 at (lit< tt), (body_field 56 id.target (lit< tt), (body_field 122 was (lit< tt), body_fields rest each)))))));
-}
+repeat_is id number at was type rest each =
+    let fields = repeat_fields id number at was type rest in
+    record {
+      first = field 35 type;
+      others = behind fields;
+      spelled = refl;
+      type = refl;
+      long = long_enough type number (behind (behind fields));
+      each = (body_field 35 type (lit< tt), (body_field 34 number (lit< tt), (body_field 43 _ (lit< tt), (body_field 49 id.sender (lit< tt), (body_field 52 at (lit< tt), (body_field 56 id.target (lit< tt), (body_field 122 was (lit< tt), body_fields rest each)))))));
+    }
 
 gap_is : (id : Identity) (number next at : List ℕ) → AreOfMessage (gap_fields id number next at)
-gap_is id number next at = record {
-  first = field 35 (codes "4");
-  others = field 34 number ∷ field 43 (codes "Y") ∷ field 49 id.sender ∷ field 52 at ∷ field 56 id.target ∷ field 122 at ∷ field 36 next ∷ field 123 (codes "Y") ∷ [];
-  spelled = refl;
-  type = refl;
-  long = long_enough (codes "4") number (field 43 (codes "Y") ∷ field 49 id.sender ∷ field 52 at ∷ field 56 id.target ∷ field 122 at ∷ field 36 next ∷ field 123 (codes "Y") ∷ []);
-  each = (body_field 35 (codes "4") (lit< tt), (body_field 34 number (lit< tt), (body_field 43 (codes "Y") (lit< tt), (body_field 49 id.sender (lit< tt), (body_field 52 at (lit< tt), (body_field 56 id.target (lit< tt), (body_field 122 at (lit< tt), (body_field 36 next (lit< tt), (body_field 123 (codes "Y") (lit< tt), tt)))))))));
-}
+gap_is id number next at =
+    let fields = gap_fields id number next at in
+    record {
+      first = field 35 (codes "4");
+      others = behind fields;
+      spelled = refl;
+      type = refl;
+      long = long_enough (codes "4") number (behind (behind fields));
+      each = (body_field 35 _ (lit< tt), (body_field 34 number (lit< tt), (body_field 43 _ (lit< tt), (body_field 49 id.sender (lit< tt), (body_field 52 at (lit< tt), (body_field 56 id.target (lit< tt), (body_field 122 at (lit< tt), (body_field 36 next (lit< tt), (body_field 123 _ (lit< tt), tt)))))))));
+    }
 
 -- ---- what the fields say
 
