@@ -1,3 +1,4 @@
 pub mod Lent
+pub mod Faulty
 pub mod Value
 pub mod Timed

@@ -6,6 +6,7 @@ mod field;
 mod number;
 mod scanning;
 mod tag;
+mod time_laws;
 mod times;
 mod value;
 
@@ -13,5 +14,8 @@ pub use field::{FieldRef, due_after, field_at, is_body, is_body_field};
 pub use number::{boolean, int};
 pub use scanning::{after_text, soh_at};
 pub use tag::{paired, tag_at};
+pub use time_laws::{
+    a_timestamp_says_one_time, a_written_time_is_a_value, a_written_time_is_read,
+};
 pub use times::{TimeText, time_text, utc_time};
 pub use value::{data_length, value_at};
