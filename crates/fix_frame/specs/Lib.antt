@@ -1,0 +1,4 @@
+pub mod Span
+pub mod Answer
+pub mod Seeks
+pub mod Given
