@@ -4,18 +4,15 @@
 
 mod item;
 mod places;
-
-
+mod reader;
+mod sealing;
 mod seeking;
 mod shape;
 mod summing;
-
-
-
-
+mod whole;
 
 pub use item::{Framed, frame_at};
-
-
+pub use reader::Reader;
+pub use sealing::{SealFault, seal};
 pub use summing::checksum;
-
+pub use whole::frames_of;
