@@ -103,7 +103,7 @@ field_opened : (f : Field) (fs : List Field) → fields_text (f ∷ fs) ≡ (dec
 field_opened f fs = simp append_assoc
 
 -- `35=`
-type_tag : decimal 35 ++ 61 ∷ [] ≡ codes "35="
+pub type_tag : decimal 35 ++ 61 ∷ [] ≡ codes "35="
 type_tag = ap (λ (t : List ℕ). t ++ 61 ∷ []) (decimal-digits_value numerals (codes "35") (lit< tt, (lit< tt, tt)) (lit< tt) (λ e. absurd (omega (arith, e))) (lit< tt))
 
 -- fields end with an SOH

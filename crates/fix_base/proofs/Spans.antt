@@ -1,9 +1,9 @@
 -- A whole shape at the front of bytes.
-use Rattle.std.proofs.Common.{◌≡◌, ℕ, ◌-◌, ◌<◌, List, [], ◌++◌, length, take, refl, sym, ap, ◌∙◌, subst, append_assoc, arith}
+use Rattle.std.proofs.Common.{◌≡◌, ℕ, ◌+◌, ◌-◌, ◌<◌, ◌≤◌, List, [], ◌∷◌, ◌++◌, length, take, refl, sym, ap, ◌∙◌, subst, append_assoc, arith}
 use Rattle.std.proofs.lemmas.List.{length-append, take_at}
 use Rattle.fix_base.specs.declared.front.Stop.{Stop}
-use Rattle.fix_base.specs.Front.{Begins, Stops, SomeOf, ThenOf, ◌▹◌}
-use Rattle.fix_base.specs.Frame.{IsHead, IsBody, IsTrailer}
+use Rattle.fix_base.specs.Front.{IsPartOf, Begins, Stops, SomeOf, ThenOf, ◌▹◌}
+use Rattle.fix_base.specs.Frame.{IsLine, IsVersion, IsLengthOf, IsSumOf, IsHead, IsBody, IsTrailer}
 use Rattle.fix_base.specs.Shape.{Parts, HasShape, IsShape}
 use Rattle.fix_base.proofs.Fronts.{IsPrefixFree, rest_is, first_stops, second_stops, stops_first, stops_second, stops_same}
 use Rattle.fix_base.proofs.Places.{head_free, body_free, trailer_free, some_body, some_trailer}
@@ -118,3 +118,37 @@ shape_long parts text s =
 -- the same whatever the parts are
 pub any_shape_free : IsPrefixFree (λ (_ : Unit {0}). IsShape)
 any_shape_free = record { same = λ _ _ a b u v s t e. shape_free.same s.0 t.0 a b u v s.1 t.1 e; value = λ _ _ a s t. refl }
+
+-- the most bytes of each part
+line_short : (P : List ℕ → Type 0) (n : ℕ) (text : List ℕ) → ((v : List ℕ) → P v → length v ≤ n) → IsLine P text → length text ≤ n + 1
+line_short P n text most l = omega (arith, most l.value l.is, ap length l.spelled, length-append l.value (1 ∷ []))
+
+head_short : (n : ℕ) (text : List ℕ) → IsHead n text → length text ≤ 29
+head_short n text h =
+    let version = line_short IsVersion 13 h.is_second.first (λ v p. p) h.is_second.is_first in
+    let behind = h.is_second.is_second in
+    let number = line_short (IsLengthOf n) 7 behind.second (λ v p. p.few) behind.is_second in
+    omega (arith, ap length h.spelled, length-append h.first h.second, ap length h.is_first, ap length h.is_second.spelled, length-append h.is_second.first h.is_second.second, version, ap length behind.spelled, length-append behind.first behind.second, ap length behind.is_first, number)
+
+length_high : (n : ℕ) (text : List ℕ) → IsHead n text → (5 ≤ n) × (n ≤ 1048576)
+length_high n text h = let l = h.is_second.is_second.is_second in (l.is.low, l.is.high)
+
+body_long : (n : ℕ) (text : List ℕ) → 5 ≤ n → IsBody n text → length text ≡ n
+body_long n text low b =
+    let t = b.is_second in
+    omega (arith, ap length b.spelled, length-append b.first b.second, ap length b.is_first, ap length t.spelled, length-append t.first t.second, t.is_first, ap length t.is_second)
+
+trailer_short : (n : ℕ) (text : List ℕ) → IsTrailer n text → length text ≤ 7
+trailer_short n text t =
+    let sum = line_short (IsSumOf n) 3 t.second (λ v p. omega (arith, p.three)) t.is_second in
+    omega (arith, ap length t.spelled, length-append t.first t.second, ap length t.is_first, sum)
+
+-- a shape has at most 29 bytes of head, 1,048,576 of body and 7 of trailer
+pub shape_short : (parts : Parts) (text : List ℕ) → HasShape parts text → length text ≤ 1048612
+shape_short parts text s =
+    let range = length_high s.len s.head s.is_head in
+    omega (arith, head_short s.len s.head s.is_head, range.1, body_long s.len parts.body range.0 s.is_body, trailer_short parts.sum s.trailer s.is_trailer, ap length s.spelled, length-append parts.before_sum s.trailer, ap length s.front, length-append s.head parts.body)
+
+-- a front of one has fewer
+pub part_short : (bytes : List ℕ) → IsPartOf IsShape bytes → length bytes < 1048612
+part_short bytes h = omega (arith, h.nonempty, shape_short h.is.0 (bytes ++ h.missing) h.is.1, length-append bytes h.missing)

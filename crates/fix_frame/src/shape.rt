@@ -1,0 +1,65 @@
+ghost use Rattle.std.specs.Prelude.{◌≤◌};
+ghost use Rattle.fix_base.specs.Front.{Scans, ScansOf};
+ghost use Rattle.fix_base.specs.Frame.{IsBody, IsHead, IsTrailer};
+ghost use Rattle.fix_base.specs.Shape.{HasShape};
+ghost use Rattle.fix_frame.specs.Span.{parts_of};
+
+use crate::places::{SOH, after_any, after_length, after_sum, after_version};
+use fix_base::Stop;
+use fix_fields::after_text;
+
+/// The number of the BodyLength (9), and the bytes behind the head.
+fn after_head(bytes: &[u8]) -> Result<(usize, &[u8]), Stop>
+    ensures { ScansOf (λ x. x.0) (λ x. x.1.now) IsHead bytes.now result }
+{
+    let rest = after_text(bytes, b"8=FIX")?;
+    let rest = after_version(rest)?;
+    let rest = after_text(rest, b"9=")?;
+    after_length(rest)
+}
+
+/// The bytes behind a body of this length. Only its fixed places are looked at.
+fn after_body(bytes: &[u8], length: usize) -> Result<&[u8], Stop>
+    requires { 5 ≤ length }
+    ensures { Scans (λ rest. rest.now) (IsBody length) bytes.now result }
+{
+    let rest = after_text(bytes, b"35=")?;
+    let rest = after_any(rest, length - 4)?;
+    after_text(rest, &[SOH])
+}
+
+/// The number of the CheckSum (10), and the bytes behind the trailer.
+fn after_trailer(bytes: &[u8]) -> Result<(u32, &[u8]), Stop>
+    ensures { ScansOf (λ x. x.0) (λ x. x.1.now) IsTrailer bytes.now result }
+{
+    let rest = after_text(bytes, b"10=")?;
+    after_sum(rest)
+}
+
+/// Bytes at whose front all fixed places of a frame are right.
+#[derive(Clone, Copy)]
+pub struct Span<'a> {
+    /// What the CheckSum (10) sums up.
+    pub before_sum: &'a [u8],
+    /// The bytes that the BodyLength (9) counts.
+    pub body: &'a [u8],
+    /// The number of the CheckSum (10).
+    pub sum: u32,
+    /// What is behind the trailer.
+    pub rest: &'a [u8],
+}
+
+/// The head, the body and the trailer at the front.
+pub fn span_of(bytes: &[u8]) -> Result<Span<'_>, Stop>
+    ensures { ScansOf parts_of (λ x. x.rest.now) HasShape bytes.now result }
+{
+    let (length, behind_head) = after_head(bytes)?;
+    let behind_body = after_body(behind_head, length)?;
+    let (sum, rest) = after_trailer(behind_body)?;
+    Ok(Span {
+        before_sum: &bytes[..bytes.len() - behind_body.len()],
+        body: &behind_head[..behind_head.len() - behind_body.len()],
+        sum,
+        rest,
+    })
+}
