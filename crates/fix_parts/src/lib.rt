@@ -22,6 +22,9 @@ mod streams;
 mod system_clock;
 mod tape;
 
+#[cfg(test)]
+mod tests;
+
 pub use app::{App, Given, Handed, Said};
 pub use clock::Clock;
 pub use copies::{copy_entry, copy_record};
