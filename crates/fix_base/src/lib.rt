@@ -35,4 +35,6 @@ pub use stream_laws::{
     frames_of_a_front,
 };
 pub use tags::{DATA_PAIRS, SESSION_TAGS};
-pub use world_laws::{a_reader_keeps_up, what_a_writer_keeps_true, world_agrees};
+pub use world_laws::{
+    a_message_arrives, a_reader_keeps_up, what_a_writer_keeps_true, world_agrees,
+};

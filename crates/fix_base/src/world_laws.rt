@@ -2,7 +2,7 @@
 //! that does nothing.
 ghost use Rattle.std.specs.Prelude.{◌≡◌, ℕ, List, [], ◌∷◌, ◌++◌, length};
 ghost use Rattle.fix_base.specs.Lists.{IsPrefixOf};
-ghost use Rattle.fix_base.specs.Session.{Identity, mirrored};
+ghost use Rattle.fix_base.specs.Session.{Identity, IsValidIdentity, mirrored};
 ghost use Rattle.fix_base.specs.End.{End};
 ghost use Rattle.fix_base.specs.Payload.{IsPersistent};
 ghost use Rattle.fix_base.specs.Act;
@@ -11,7 +11,7 @@ ghost use Rattle.fix_base.specs.Wrote.{Writes, Wrote, WroteWhole};
 ghost use Rattle.fix_base.specs.EndStep.{EndState, EndStep, EndRun};
 ghost use Rattle.fix_base.specs.Agrees.{Agrees};
 ghost use Rattle.fix_base.specs.Reader.{bytes_read, AreOfOneConnection, ReaderKeepsUp};
-ghost use Rattle.fix_base.specs.World.{Event, World, WorldRun, EachPlain, WorldAgrees, new_world};
+ghost use Rattle.fix_base.specs.World.{Event, World, WorldRun, EachPlain, WorldAgrees, Arrives, new_world};
 
 /// What a writer has written stays lawful: nothing at the opening of a connection, with more
 /// entries stored, with one more original, repeat or gap fill, and where a write is cut at any
@@ -41,4 +41,11 @@ pub fn a_reader_keeps_up()
 /// out of order, and one that an application was given before comes marked (PossDupFlag 43 = Y).
 pub fn world_agrees()
     ensures { (id : Identity) (w : World) (events : List Event) → WorldRun id new_world events w → EachPlain events → WorldAgrees events w }
+{}
+
+/// A message does arrive: between any two CompIDs there is a run of two new ends in which one
+/// keeps a NewOrderSingle (35=D) and writes it, and the other reads it, hands it over and expects
+/// the next MsgSeqNum (34). So the laws above are not about nothing.
+pub fn a_message_arrives()
+    ensures { (id : Identity) → IsValidIdentity id → Arrives id }
 {}
