@@ -18,7 +18,8 @@ pub fn records_fold_in_order()
 {}
 
 /// Agreement of two ends, in plain words: what the one handled, each MsgSeqNum (34) once, is the
-/// list of the application messages that the other stored with numbers below the expected one.
+/// list of the application messages that the other stored with numbers below the expected one, or
+/// up to the greatest that was handled where that is more.
 pub fn agreement_in_plain_words()
     ensures { (expected : ℕ) (handled : List Handling) (out : List Entry) → Agrees expected handled out ↔ AgreesInPlainWords expected handled out }
 {}

@@ -26,8 +26,9 @@ pub fn what_a_writer_keeps_true()
 
 /// Over one connection, an end that agrees with its counterparty at the opening goes on agreeing
 /// with it, however it reads, hands over, rejects, stores and stops, as long as the bytes that
-/// come are a front of what the counterparty may have written. What the counterparty had before
-/// its connection comes marked (PossDupFlag 43 = Y).
+/// come are a front of what such a counterparty may have written, and the counterparty keeps each
+/// application message to be sent again. What it had before its connection comes marked
+/// (PossDupFlag 43 = Y).
 pub fn a_reader_keeps_up()
     ensures { (id : Identity) (s opened s' : EndState) (acts : List Act) (f0 f1 : End) (w : List ℕ) →
         IsPersistent f1 → Wrote (mirrored id) f0 f1 w →
@@ -39,6 +40,8 @@ pub fn a_reader_keeps_up()
 /// whatever happens: connections that break at any byte, crashes of either, records of which
 /// nobody knows whether they were kept. No application message is lost, made up, changed or put
 /// out of order, and one that an application was given before comes marked (PossDupFlag 43 = Y).
+/// This is said of ends whose stores are not reset, and that keep each application message to be
+/// sent again.
 pub fn world_agrees()
     ensures { (id : Identity) (w : World) (events : List Event) → WorldRun id new_world events w → EachPlain events → WorldAgrees events w }
 {}
