@@ -1,5 +1,5 @@
 -- One message that a counterparty keeps and writes: the frame is lawful, and says it.
-use Rattle.std.proofs.Common.{◌≡◌, inl, ℕ, ◌+◌, ◌*◌, ◌≤◌, ◌&&◌, nat_le, codes, Bool, false, true, List, [], ◌∷◌, ◌++◌, length, length-append, None, refl, sym, ap, ◌∙◌, subst, lit<, lit≤, arith}
+use Rattle.std.proofs.Common.{◌≡◌, inl, ℕ, ◌+◌, ◌*◌, ◌≤◌, ◌&&◌, nat_le, codes, Bool, false, true, List, [], ◌∷◌, ◌++◌, length, length-append, refl, sym, ap, ◌∙◌, lit<, lit≤, arith}
 use Rattle.std.specs.Prelude.{IsTrue, pos, ◌+ℤ◌, ◌*ℤ◌}
 use Rattle.std.specs.List.{AllByRecursion, list_all}
 use Rattle.std.specs.Fmt.{decimal}
@@ -9,10 +9,9 @@ use Rattle.std.proofs.lemmas.Fmt.{digits_decimal, length-decimal-le}
 use Rattle.std.proofs.lemmas.List.{append-nil}
 use Rattle.std.proofs.lemmas.List.Folds.{list_all_at}
 use Rattle.jiff_core.specs.Calendar.{day_count, days_from_civil}
-use Rattle.fix_base.specs.Tags.{data_tag}
 use Rattle.fix_base.specs.Session.{Identity, IsValidIdentity, is_comp_id}
 use Rattle.fix_base.specs.Frame.{HasNoSoh}
-use Rattle.fix_base.specs.Fields.{Field, FieldsAfter, data_after}
+use Rattle.fix_base.specs.Fields.{Field}
 use Rattle.fix_base.specs.Stream.{Ahead, Frame, ends_in_soh}
 use Rattle.fix_base.specs.Sealed.{sealed}
 use Rattle.fix_base.specs.Times.{Moment, IsTimeText, moment_text}
@@ -26,6 +25,8 @@ use Rattle.fix_base.specs.Payload.{field, IsBodyOf, IsPersistentEntry}
 use Rattle.fix_base.specs.Wrote as wrote
 use Rattle.fix_base.specs.Wrote.{IsSealed, original_fields, Wrote}
 use Rattle.fix_base.proofs.Digits.{numerals, digits_no_soh}
+use Rattle.fix_base.proofs.PlainFields.{IsPlainField, plain_fields}
+use Rattle.fix_base.proofs.TimeTexts.{any_time_text_no_soh}
 use Rattle.fix_base.proofs.Seals.{sealed_is_frame}
 use Rattle.fix_base.proofs.ListLemmas.{prefix_of_nothing}
 use Rattle.fix_base.proofs.WrittenLemmas.{original_is, app_original}
@@ -48,38 +49,22 @@ comp_id_short text h = leb-true (length text) 64 (and_both _ _ (and_both _ _ h).
 number_clear : HasNoSoh (decimal 1)
 number_clear = digits_no_soh (decimal 1) (digits_decimal numerals 1 (lit< tt))
 
--- ---- short fields with no data behind them
+-- ---- short fields
 
-record IsPlainField (f : Field) : Type 0 where
-  first : 1 ≤ f.tag
+record IsShortField (f : Field) : Type 0 where
   last : f.tag ≤ 999999999
-  alone : data_tag f.tag ≡ None
-  clear : HasNoSoh f.value
   short : length f.value ≤ 64
-
-alone_after : (f : Field) → data_tag f.tag ≡ None → data_after f ≡ None
-alone_after f e = rw e refl
-
-plain_fields : (fs : List Field) → AllByRecursion IsPlainField fs → FieldsAfter None (fields_text fs) fs
-plain_fields [] each = refl
-plain_fields (f ∷ fs) each = (
-  field_text f,
-  fields_text fs,
-  record { first = each.0.first; last = each.0.last; value = each.0.clear; spelled = refl },
-  refl,
-  subst (λ d. FieldsAfter d (fields_text fs) fs) (sym (alone_after f each.0.alone)) (plain_fields fs each.1),
-)
 
 text_long : (tag value : List ℕ) → length (tag ++ 61 ∷ value ++ 1 ∷ []) ≡ length tag + length value + 2
 text_long tag value = omega (arith, length-append (tag ++ 61 ∷ value) (1 ∷ []), length-append tag (61 ∷ value))
 
-short_field : (f : Field) → IsPlainField f → length (field_text f) ≤ 100
+short_field : (f : Field) → IsShortField f → length (field_text f) ≤ 100
 short_field f h =
     let low = h.last in
     let tag = length-decimal-le 9 f.tag (lit< tt) (omega arith) (omega arith) in
     omega (arith, text_long (decimal f.tag) f.value, tag, h.short)
 
-short_fields : (fs : List Field) → AllByRecursion IsPlainField fs → length (fields_text fs) ≤ 100 * length fs
+short_fields : (fs : List Field) → AllByRecursion IsShortField fs → length (fields_text fs) ≤ 100 * length fs
 short_fields [] each = lit≤ tt
 short_fields (f ∷ fs) each = omega (arith, length-append (field_text f) (fields_text fs), short_field f each.0, short_fields fs each.1)
 
@@ -110,7 +95,7 @@ at_epoch = record {
 }
 
 at_clear : HasNoSoh at
-at_clear = clear_of (λ b. nat_le 2 b) at refl refl
+at_clear = any_time_text_no_soh 0 at at_epoch
 
 -- ---- the message: a NewOrderSingle
 
@@ -118,7 +103,10 @@ abbrev order : List ℕ
 order = codes "D"
 
 order_field : IsPlainField (field 35 order)
-order_field = record { first = lit≤ tt; last = lit≤ tt; alone = refl; clear = clear_of (λ b. nat_le 2 b) order refl refl; short = lit≤ tt }
+order_field = record { first = lit≤ tt; last = lit≤ tt; no_soh = clear_of (λ b. nat_le 2 b) order refl refl; no_length = refl }
+
+order_short : IsShortField (field 35 order)
+order_short = record { last = lit≤ tt; short = lit≤ tt }
 
 abbrev body : List ℕ
 body = fields_text (field 35 order ∷ [])
@@ -136,7 +124,7 @@ entry_keepable : IsPersistentEntry entry
 entry_keepable = record {
   payload = record {
     time_fits = lit≤ tt;
-    short = (let short = short_fields (field 35 order ∷ []) (order_field, tt) in omega arith);
+    short = (let short = short_fields (field 35 order ∷ []) (order_short, tt) in omega arith);
     type = order;
     rest = [];
     named = some_type;
@@ -154,13 +142,28 @@ plain : (id : Identity) → IsValidIdentity id → AllByRecursion IsPlainField (
 plain id valid = (
   order_field,
   (
-    record { first = lit≤ tt; last = lit≤ tt; alone = refl; clear = number_clear; short = (let l = length-decimal-le 1 1 (lit< tt) (lit< tt) (lit< tt) in omega arith) },
+    record { first = lit≤ tt; last = lit≤ tt; no_soh = number_clear; no_length = refl },
     (
-      record { first = lit≤ tt; last = lit≤ tt; alone = refl; clear = comp_id_clear id.sender valid.sender; short = comp_id_short id.sender valid.sender },
+      record { first = lit≤ tt; last = lit≤ tt; no_soh = comp_id_clear id.sender valid.sender; no_length = refl },
       (
-        record { first = lit≤ tt; last = lit≤ tt; alone = refl; clear = at_clear; short = lit≤ tt },
-        (record { first = lit≤ tt; last = lit≤ tt; alone = refl; clear = comp_id_clear id.target valid.target; short = comp_id_short id.target valid.target }, tt),
+        record { first = lit≤ tt; last = lit≤ tt; no_soh = at_clear; no_length = refl },
+        (record { first = lit≤ tt; last = lit≤ tt; no_soh = comp_id_clear id.target valid.target; no_length = refl }, tt),
       ),
+    ),
+  ),
+)
+
+number_short : length (decimal 1) ≤ 64
+number_short = let l = length-decimal-le 1 1 (lit< tt) (lit< tt) (lit< tt) in omega arith
+
+short : (id : Identity) → IsValidIdentity id → AllByRecursion IsShortField (fields id)
+short id valid = (
+  order_short,
+  (
+    record { last = lit≤ tt; short = number_short },
+    (
+      record { last = lit≤ tt; short = comp_id_short id.sender valid.sender },
+      (record { last = lit≤ tt; short = lit≤ tt }, (record { last = lit≤ tt; short = comp_id_short id.target valid.target }, tt)),
     ),
   ),
 )
@@ -170,7 +173,7 @@ frame id = sealed id.begin (fields_text (fields id))
 
 frame_sealed : (id : Identity) → IsValidIdentity id → IsSealed id (fields id) (frame id)
 frame_sealed id valid =
-    let short : length (fields_text (fields id)) ≤ 500 = short_fields (fields id) (plain id valid) in
+    let bound : length (fields_text (fields id)) ≤ 500 = short_fields (fields id) (short id valid) in
     record { spelled = refl; are = plain_fields (fields id) (plain id valid); short = omega arith }
 
 -- a message that a new end keeps and writes, and what a reader has of it
