@@ -20,8 +20,8 @@ mod world_laws;
 pub use act::Act;
 pub use bytes::{Bytes, OutOfMemory};
 pub use end_laws::{
-    a_front_of_a_run_is_a_run, agreement_in_plain_words, records_fold_in_order,
-    what_was_handled_is_a_prefix,
+    a_front_of_a_run_is_a_run, agreement_in_plain_words, no_message_is_passed_over,
+    records_fold_in_order, what_was_handled_is_a_prefix,
 };
 pub use entry::{By, Entry, Record, Stored};
 pub use fault::Fault;
