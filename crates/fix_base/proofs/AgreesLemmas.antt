@@ -92,10 +92,11 @@ entry_among below rest {r = r} {body = body} is app low =
     subst (λ (w : List Sent). Among (record { number = r; body = body }) w) (sym items) (Among-append_right (app_entries entry.before) here)
 
 -- an App entry below the top was handled
+handled_item : {n r : ℕ} {handled : List Handling} {out : List Entry} {body : List ℕ} → Agrees n handled out → IsAppAt out r body → r < top n handled → Among (record { number = r; body = body }) (fresh handled)
+handled_item {r = r} {body = body} a app low = subst (λ (w : List Sent). Among (record { number = r; body = body }) w) (sym a.same) (entry_among a.below a.rest a.is app (omega (arith, a.many)))
+
 handled_below : {n r : ℕ} {handled : List Handling} {out : List Entry} {body : List ℕ} → Agrees n handled out → IsAppAt out r body → r < top n handled → has_number r (seen_after [] handled) ≡ true
-handled_below {n = n} {r = r} {handled = handled} {body = body} a app low =
-    let s : Sent = record { number = r; body = body } in
-    fresh-seen s handled (subst (λ w. Among s w) (sym a.same) (entry_among a.below a.rest a.is app (omega (arith, a.many))))
+handled_below {r = r} {handled = handled} {body = body} a app low = fresh-seen (record { number = r; body = body }) handled (handled_item a app low)
 
 -- the message comes again
 grow_again : {n : ℕ} {handled : List Handling} {out : List Entry} (h : Handling) → has_number h.number (seen_after [] handled) ≡ true → Agrees n handled out → Agrees n (handled ++ h ∷ []) out
@@ -131,6 +132,10 @@ Agrees-grow {n = n} {r = r} {handled = handled} {out = out} h e app a b =
 
     was_seen : r < top n handled → has_number h.number (seen_after [] handled) ≡ true
     was_seen low = subst (λ k. has_number k (seen_after [] handled) ≡ true) (sym e) (handled_below a app low)
+
+-- a message below the expected number was handled
+pub Agrees-below : (expected : ℕ) (handled : List Handling) (out : List Entry) (n : ℕ) (body : List ℕ) → Agrees expected handled out → IsAppAt out n body → n < expected → Among (record { number = n; body = body }) (fresh handled)
+Agrees-below expected handled out n body a app low = handled_item a app (omega arith)
 
 -- what was handled, repeats removed, is a front of what the writer stored
 pub Agrees-prefix : (stored : ℕ) (handled : List Handling) (out : List Entry) → Agrees stored handled out → IsPrefixOf (fresh handled) (app_entries out)

@@ -1,7 +1,8 @@
 -- What the laws of two ends need of bytes: two facts.
-use Rattle.std.proofs.Common.{◌≡◌, ℕ, List, [], None, sym, ap, ◌∙◌, subst}
+use Rattle.std.proofs.Common.{◌≡◌, ℕ, List, [], ◌∷◌, ◌++◌, true, None, refl, sym, ap, ◌∙◌, subst}
 use Rattle.fix_base.specs.Fields.{FieldsAfter}
 use Rattle.fix_base.specs.Shape.{Parts, IsFrame}
+use Rattle.fix_base.specs.Stream.{Ahead, Item, Frame, Takes, TakesAll, frames}
 use Rattle.fix_base.specs.Lists.{Among, here, there, IsPrefixOf}
 use Rattle.fix_base.specs.Message.{Message}
 use Rattle.fix_base.specs.Says as says
@@ -11,6 +12,7 @@ use Rattle.fix_base.proofs.Told.{SaysEach, Spells}
 use Rattle.fix_base.proofs.ListLemmas.{some_same, Among-prefix, prefix_trans, prefix_of_nothing}
 use Rattle.fix_base.proofs.FieldLists.{fields_same}
 use Rattle.fix_base.proofs.Spans.{shape_free}
+use Rattle.fix_base.proofs.Runs.{with_more, all_more, all_then, frames-append}
 use Rattle.fix_base.proofs.FramingLemmas.{front_frames}
 
 -- a frame says one thing
@@ -59,3 +61,31 @@ read_among {ys = ys} {read = read} {x = x} spells front shows m =
 -- no frames are spelled by no bytes
 pub spells_nothing : Spells [] []
 spells_nothing = record { texts = []; says = told.done; front = prefix_of_nothing [] }
+
+-- ---- for those who read: what was shown stays shown, and one more frame
+
+pub shows_more : (read more : List ℕ) (xs : List Message) → Shows read xs → Shows (read ++ more) xs
+shows_more read more xs h = record { items = h.items; rest = with_more h.rest more; takes = all_more (record { may_mark = true; bytes = read }) h.items h.rest more h.takes; says = h.says }
+
+all-append : {ts us : List (List ℕ)} {xs ys : List Message} → SaysAll ts xs → SaysAll us ys → SaysAll (ts ++ us) (xs ++ ys)
+all-append says.none d = d
+all-append (says.says s others) d = says.says s (all-append others d)
+all-append (says.silent s others) d = says.silent s (all-append others d)
+
+-- behind the frames shown some items are skipped, and a frame stands that says these: one message, or
+-- none that counts
+pub shows_next : (read : List ℕ) (xs ys : List Message) (h : Shows read xs) (skipped : List Item) (at after : Ahead) (text : List ℕ) → TakesAll h.rest skipped at → frames skipped ≡ [] → Takes at (Frame text) after → SaysAll (text ∷ []) ys → Shows read (xs ++ ys)
+shows_next read xs ys h skipped at after text skips none takes so =
+    let others = skipped ++ Frame text ∷ [] in
+    let last : TakesAll at (Frame text ∷ []) after = (after, takes, refl) in
+    let behind : TakesAll h.rest others after = all_then h.rest skipped at (Frame text ∷ []) after skips last in
+    let texts : frames (h.items ++ others) ≡ frames h.items ++ text ∷ [] = frames-append h.items others ∙ ap (λ w. frames h.items ++ w) (frames-append skipped (Frame text ∷ []) ∙ ap (λ w. w ++ text ∷ []) none) in
+    record {
+      items = h.items ++ others;
+      rest = after;
+      takes = all_then (record { may_mark = true; bytes = read }) h.items h.rest others after h.takes behind;
+      says = subst (λ w. SaysAll w (xs ++ ys)) (sym texts) (all-append h.says so);
+    }
+
+pub shows_frame : (read : List ℕ) (xs : List Message) (x : Message) (h : Shows read xs) (skipped : List Item) (at after : Ahead) (text : List ℕ) → TakesAll h.rest skipped at → frames skipped ≡ [] → Takes at (Frame text) after → Says text x → Shows read (xs ++ x ∷ [])
+shows_frame read xs x h skipped at after text skips none takes so = shows_next read xs (x ∷ []) h skipped at after text skips none takes (says.says so says.none)

@@ -22,6 +22,12 @@ front_of s s' (x ∷ xs) ys (steps.move {mid = mid} m d) e =
 pub front_runs : (id : Identity) (s s' : EndState) (xs ys : List Act) → EndRun id s (xs ++ ys) s' → RunsSomewhere id s xs
 front_runs id s s' xs ys d = front_of s s' xs ys d refl
 
+-- a run goes on
+pub EndRun-append : {id : Identity} {s mid s' : EndState} {xs ys : List Act} → EndRun id s xs mid → EndRun id mid ys s' → EndRun id s (xs ++ ys) s'
+EndRun-append steps.stop d = d
+EndRun-append (steps.step one others) d = steps.step one (EndRun-append others d)
+EndRun-append (steps.move m others) d = steps.move m (EndRun-append others d)
+
 -- records in two parts
 pub folded_all-append : (e : End) (xs ys : List Record) → folded_all e (xs ++ ys) ≡ folded_all (folded_all e xs) ys
 folded_all-append e [] ys = refl

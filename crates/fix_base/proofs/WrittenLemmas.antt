@@ -101,7 +101,7 @@ abbrev behind : List Field → List Field
 behind [] = []
 behind (f ∷ fs) = fs
 
-original_is : (id : Identity) (number at type : List ℕ) (rest : List Field) → AllByRecursion IsEntryField rest → AreOfMessage (original_fields id number at type rest)
+pub original_is : (id : Identity) (number at type : List ℕ) (rest : List Field) → AllByRecursion IsEntryField rest → AreOfMessage (original_fields id number at type rest)
 original_is id number at type rest each =
     let fields = original_fields id number at type rest in
     record {
@@ -193,7 +193,7 @@ no_reset_type type admin = elim (test (bytes_eq type (codes "4"))) as (λ t. byt
   | inr t ↦ t
 ]
 
-app_original : (id : Identity) (n : ℕ) (text at : List ℕ) (type : List ℕ) (rest : List Field) → 1 ≤ n → n ≤ 999999999 → IsAppType type → AllByRecursion IsEntryField rest → IsSealed id (original_fields id (decimal n) at type rest) text → Says text (message.App n false (fields_text (field 35 type ∷ rest)))
+pub app_original : (id : Identity) (n : ℕ) (text at : List ℕ) (type : List ℕ) (rest : List Field) → 1 ≤ n → n ≤ 999999999 → IsAppType type → AllByRecursion IsEntryField rest → IsSealed id (original_fields id (decimal n) at type rest) text → Says text (message.App n false (fields_text (field 35 type ∷ rest)))
 app_original id n text at type rest some le app each sealed_so =
     says_of id (original_fields id (decimal n) at type rest) text _ (original_is id (decimal n) at type rest each) sealed_so (original_app id (decimal n) n at type rest (seq_num_decimal n some le) app each)
 

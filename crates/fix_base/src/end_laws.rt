@@ -1,8 +1,8 @@
 //! What holds of every end of a session, each law on a function that does nothing.
-ghost use Rattle.std.specs.Prelude.{◌≡◌, ◌++◌, ◌↔◌, ℕ, List};
-ghost use Rattle.fix_base.specs.Lists.{IsPrefixOf};
+ghost use Rattle.std.specs.Prelude.{◌≡◌, ◌<◌, ◌++◌, ◌↔◌, ℕ, List};
+ghost use Rattle.fix_base.specs.Lists.{Among, IsPrefixOf};
 ghost use Rattle.fix_base.specs.Session.{Identity};
-ghost use Rattle.fix_base.specs.End.{Entry, Record, End, folded_all, app_entries};
+ghost use Rattle.fix_base.specs.End.{Entry, Record, End, folded_all, app_entries, IsAppAt};
 ghost use Rattle.fix_base.specs.Act.{Act};
 ghost use Rattle.fix_base.specs.EndStep.{Handling, EndState, EndRun, RunsSomewhere};
 ghost use Rattle.fix_base.specs.Agrees.{Agrees, AgreesInPlainWords, fresh};
@@ -18,7 +18,8 @@ pub fn records_fold_in_order()
 {}
 
 /// Agreement of two ends, in plain words: what the one handled, each MsgSeqNum (34) once, is the
-/// list of the application messages that the other stored with numbers below the expected one.
+/// list of the application messages that the other stored with numbers below the expected one, or
+/// up to the greatest that was handled where that is more.
 pub fn agreement_in_plain_words()
     ensures { (expected : ℕ) (handled : List Handling) (out : List Entry) → Agrees expected handled out ↔ AgreesInPlainWords expected handled out }
 {}
@@ -27,4 +28,11 @@ pub fn agreement_in_plain_words()
 /// the other end stored, with equal bodies: nothing was lost, made up or put out of order.
 pub fn what_was_handled_is_a_prefix()
     ensures { (expected : ℕ) (handled : List Handling) (out : List Entry) → Agrees expected handled out → IsPrefixOf (fresh handled) (app_entries out) }
+{}
+
+/// Where two ends agree, each application message that the other end stored under a number below
+/// the expected one was handed over or rejected, with the body that was stored: none was passed
+/// over.
+pub fn no_message_is_passed_over()
+    ensures { (expected : ℕ) (handled : List Handling) (out : List Entry) (n : ℕ) (body : List ℕ) → Agrees expected handled out → IsAppAt out n body → n < expected → Among (record { number = n; body = body }) (fresh handled) }
 {}

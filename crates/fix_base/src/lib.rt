@@ -20,8 +20,8 @@ mod world_laws;
 pub use act::Act;
 pub use bytes::{Bytes, OutOfMemory};
 pub use end_laws::{
-    a_front_of_a_run_is_a_run, agreement_in_plain_words, records_fold_in_order,
-    what_was_handled_is_a_prefix,
+    a_front_of_a_run_is_a_run, agreement_in_plain_words, no_message_is_passed_over,
+    records_fold_in_order, what_was_handled_is_a_prefix,
 };
 pub use entry::{By, Entry, Record, Stored};
 pub use fault::Fault;
@@ -35,4 +35,6 @@ pub use stream_laws::{
     frames_of_a_front,
 };
 pub use tags::{DATA_PAIRS, SESSION_TAGS};
-pub use world_laws::{a_reader_keeps_up, what_a_writer_keeps_true, world_agrees};
+pub use world_laws::{
+    a_message_arrives, a_reader_keeps_up, what_a_writer_keeps_true, world_agrees,
+};

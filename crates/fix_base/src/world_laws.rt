@@ -2,7 +2,7 @@
 //! that does nothing.
 ghost use Rattle.std.specs.Prelude.{◌≡◌, ℕ, List, [], ◌∷◌, ◌++◌, length};
 ghost use Rattle.fix_base.specs.Lists.{IsPrefixOf};
-ghost use Rattle.fix_base.specs.Session.{Identity, mirrored};
+ghost use Rattle.fix_base.specs.Session.{Identity, IsValidIdentity, mirrored};
 ghost use Rattle.fix_base.specs.End.{End};
 ghost use Rattle.fix_base.specs.Payload.{IsPersistent};
 ghost use Rattle.fix_base.specs.Act;
@@ -11,7 +11,7 @@ ghost use Rattle.fix_base.specs.Wrote.{Writes, Wrote, WroteWhole};
 ghost use Rattle.fix_base.specs.EndStep.{EndState, EndStep, EndRun};
 ghost use Rattle.fix_base.specs.Agrees.{Agrees};
 ghost use Rattle.fix_base.specs.Reader.{bytes_read, AreOfOneConnection, ReaderKeepsUp};
-ghost use Rattle.fix_base.specs.World.{Event, World, WorldRun, EachPlain, WorldAgrees, new_world};
+ghost use Rattle.fix_base.specs.World.{Event, World, WorldRun, EachPlain, WorldAgrees, Arrives, new_world};
 
 /// What a writer has written stays lawful: nothing at the opening of a connection, with more
 /// entries stored, with one more original, repeat or gap fill, and where a write is cut at any
@@ -26,8 +26,9 @@ pub fn what_a_writer_keeps_true()
 
 /// Over one connection, an end that agrees with its counterparty at the opening goes on agreeing
 /// with it, however it reads, hands over, rejects, stores and stops, as long as the bytes that
-/// come are a front of what the counterparty may have written. What the counterparty had before
-/// its connection comes marked (PossDupFlag 43 = Y).
+/// come are a front of what such a counterparty may have written, and the counterparty keeps each
+/// application message to be sent again. What it had before its connection comes marked
+/// (PossDupFlag 43 = Y).
 pub fn a_reader_keeps_up()
     ensures { (id : Identity) (s opened s' : EndState) (acts : List Act) (f0 f1 : End) (w : List ℕ) →
         IsPersistent f1 → Wrote (mirrored id) f0 f1 w →
@@ -39,6 +40,15 @@ pub fn a_reader_keeps_up()
 /// whatever happens: connections that break at any byte, crashes of either, records of which
 /// nobody knows whether they were kept. No application message is lost, made up, changed or put
 /// out of order, and one that an application was given before comes marked (PossDupFlag 43 = Y).
+/// This is said of ends whose stores are not reset, and that keep each application message to be
+/// sent again.
 pub fn world_agrees()
     ensures { (id : Identity) (w : World) (events : List Event) → WorldRun id new_world events w → EachPlain events → WorldAgrees events w }
+{}
+
+/// A message does arrive: between any two CompIDs there is a run of two new ends in which one
+/// keeps a NewOrderSingle (35=D) and writes it, and the other reads it, hands it over and expects
+/// the next MsgSeqNum (34). So the laws above are not about nothing.
+pub fn a_message_arrives()
+    ensures { (id : Identity) → IsValidIdentity id → Arrives id }
 {}
