@@ -1,3 +1,5 @@
 pub mod NumberLemmas
 pub mod TimedLemmas
 pub mod WritingLemmas
+pub mod FieldsLeft
+pub mod EnvelopeLemmas

@@ -1,4 +1,7 @@
 pub mod Lent
-pub mod Faulty
 pub mod Value
 pub mod Timed
+pub mod Faulty
+pub mod Lined
+pub mod Noted
+pub mod Header

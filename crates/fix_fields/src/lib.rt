@@ -3,7 +3,11 @@
 #![tactic(auto)]
 
 mod field;
+mod header;
+mod lines;
+mod noted;
 mod number;
+mod reading;
 mod scanning;
 mod tag;
 mod time_laws;
@@ -11,7 +15,10 @@ mod times;
 mod value;
 
 pub use field::{FieldRef, due_after, field_at, is_body, is_body_field};
+pub use header::Envelope;
+pub use lines::body_fields;
 pub use number::{boolean, int};
+pub use reading::{body_of, envelope, first_value};
 pub use scanning::{after_text, soh_at};
 pub use tag::{paired, tag_at};
 pub use time_laws::{

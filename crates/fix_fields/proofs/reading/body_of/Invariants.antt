@@ -1,0 +1,10 @@
+use Rattle.std.proofs.Common.{◌≡◌, ◌++◌, length}
+use Rattle.fix_base.specs.Says.{body_of}
+use Rattle.fix_fields.proofs.FieldsLeft.{IsLeftOf}
+use Rattle.fix_fields.proofs.reading.body_of.Given as goal
+
+abbrev pub invariant-loop-rest : goal.invariant-loop-rest
+invariant-loop-rest l = IsLeftOf l.fn.frame l.due l.rest (λ all left. body_of all ≡ l.body.items ++ body_of left)
+
+abbrev pub decreases-loop-rest : goal.decreases-loop-rest
+decreases-loop-rest l = length l.rest
