@@ -1,5 +1,5 @@
 -- What is seen of the parts in memory, and which of their calls fail.
-use Rattle.std.specs.Prelude.{◌≡◌, ℕ, ◌+◌, ◌-◌, ◌<◌, ◌≤◌, vec_len, vec_capacity, min, List, [], ◌∷◌, length, drop, Option, Some, Contains}
+use Rattle.std.specs.Prelude.{◌≡◌, ℕ, ◌+◌, ◌-◌, ◌<◌, ◌≤◌, vec_len, vec_capacity, min, List, [], ◌∷◌, length, drop, Some, Contains}
 use Rattle.fix_base.specs.declared.act.Act.{Act}
 use Rattle.fix_base.specs.Seen.{LAST_COUNT}
 use Rattle.fix_parts.specs.declared.failing.Failing.{Failing}

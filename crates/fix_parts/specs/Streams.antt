@@ -1,5 +1,5 @@
 -- What the calls over a stream do to its bytes, where the stream tells them.
-use Rattle.std.specs.Prelude.{◌≡◌, ℕ, List, [], take, Option, Result, Ok, Err}
+use Rattle.std.specs.Prelude.{ℕ, List, [], take, Option, Result, Ok, Err}
 use Rattle.std.specs.Io.KnownBytes.{Keeps, Appends, Consumes, IsAtEnd}
 use Rattle.fix_base.specs.Lists.{IsPrefixOf}
 use Rattle.fix_parts.specs.declared.link.ReadTurn.{ReadTurn}

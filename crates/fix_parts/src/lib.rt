@@ -21,7 +21,6 @@ mod stream_sink;
 mod streams;
 mod system_clock;
 mod tape;
-
 #[cfg(test)]
 mod tests;
 

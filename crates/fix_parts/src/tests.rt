@@ -9,6 +9,9 @@ use std::{io, rt};
 
 const ORDER: &[u8] = b"35=D\x0111=A1\x0121=1\x0155=XYZ\x0154=1\x0160=20240102-10:00:00\x0140=1\x01";
 
+const LINES: &[u8] =
+    b"2 N 35=D|11=A1|21=1|55=XYZ|54=1|60=20240102-10:00:00|40=1|\n4294967295 Y 58=a\\|b\\\\c\\x00\\x1f\\x7f\\xff ~\\x0a|\n5 N \n";
+
 fn message(number: u32, marked: bool, body: &[u8]) -> Handed<'_> {
     Handed {
         number,
@@ -18,76 +21,138 @@ fn message(number: u32, marked: bool, body: &[u8]) -> Handed<'_> {
     }
 }
 
-fn link(alloc: Global, capacity: usize, fail: Vec<u64>) -> Result<MemoryLink, Fail> {
+// What so many reads answer, and the bytes that they give.
+fn reads<L: Link>(
+    alloc: Global,
+    link: &mut L,
+    times: usize,
+) -> Result<(Vec<ReadTurn>, Vec<u8>), Fail> {
+    let mut turns = Vec::new(alloc);
+    let mut bytes = Vec::new(alloc);
+    let mut room = [0u8; 4];
+    for _ in 0..times {
+        let turn = link.read(&mut room);
+        if let ReadTurn::Bytes(count) = turn {
+            bytes.extend_from_slice(&room[..count])?;
+        }
+        turns.push(turn)?;
+    }
+    Ok((turns, bytes))
+}
+
+fn writes<L: Link>(alloc: Global, link: &mut L, texts: &[&[u8]]) -> Result<Vec<WriteTurn>, Fail> {
+    let mut turns = Vec::new(alloc);
+    for text in texts {
+        turns.push(link.write(text))?;
+    }
+    Ok(turns)
+}
+
+// Whether each write succeeds.
+fn sinks<S: Sink>(alloc: Global, sink: &mut S, texts: &[&[u8]]) -> Result<Vec<bool>, Fail> {
+    let mut turns = Vec::new(alloc);
+    for text in texts {
+        turns.push(sink.write(text).is_ok())?;
+    }
+    Ok(turns)
+}
+
+fn hands<A: App>(alloc: Global, app: &mut A, messages: &[Handed<'_>]) -> Result<Vec<Said>, Fail> {
+    let mut turns = Vec::new(alloc);
+    for h in messages {
+        turns.push(app.hand(h))?;
+    }
+    Ok(turns)
+}
+
+fn times<C: Clock>(alloc: Global, clock: &mut C) -> Result<Vec<u64>, Fail> {
+    let mut readings = Vec::new(alloc);
+    for _ in 0..3 {
+        readings.push(clock.now())?;
+    }
+    Ok(readings)
+}
+
+fn memory_link(alloc: Global, capacity: usize, fail: &[u64]) -> Result<MemoryLink, Fail> {
     let mut pieces = Vec::new(alloc);
     pieces.push(Bytes::copy(alloc, b"abcdef")?)?;
     pieces.push(Bytes::copy(alloc, b"")?)?;
     pieces.push(Bytes::copy(alloc, b"g")?)?;
-    Ok(MemoryLink::new(alloc, pieces, capacity, fail)?)
+    Ok(MemoryLink::new(alloc, pieces, capacity, Vec::from_slice(alloc, fail)?)?)
 }
 
 #[test]
 fn a_link_gives_its_pieces_in_parts(rt: HostRuntime) -> Result<(), Fail> {
-    let mut link = link(rt.alloc(), 0, vec![in rt.alloc()]?)?;
-    let mut room = [0u8; 4];
-    assert_eq!(rt; link.read(&mut room), ReadTurn::Bytes(4));
-    assert_eq!(rt; &room[..4], b"abcd".as_slice());
-    assert_eq!(rt; link.read(&mut room), ReadTurn::Bytes(2));
-    assert_eq!(rt; &room[..2], b"ef".as_slice());
-    assert_eq!(rt; link.read(&mut room), ReadTurn::Idle);
-    assert_eq!(rt; link.read(&mut room), ReadTurn::Bytes(1));
-    assert_eq!(rt; &room[..1], b"g".as_slice());
-    assert_eq!(rt; link.read(&mut room), ReadTurn::End);
-    assert_eq!(rt; link.read(&mut room), ReadTurn::End);
+    let mut link = memory_link(rt.alloc(), 0, &[])?;
+    let (turns, bytes) = reads(rt.alloc(), &mut link, 6)?;
+    let want = [
+        ReadTurn::Bytes(4),
+        ReadTurn::Bytes(2),
+        ReadTurn::Idle,
+        ReadTurn::Bytes(1),
+        ReadTurn::End,
+        ReadTurn::End,
+    ];
+    assert_eq!(rt; turns.as_slice(), want.as_slice());
+    assert_eq!(rt; bytes.as_slice(), b"abcdefg".as_slice());
     Ok(())
 }
 
 #[test]
 fn a_link_fails_where_it_is_told_and_past_its_room(rt: HostRuntime) -> Result<(), Fail> {
-    let mut link = link(rt.alloc(), 5, vec![in rt.alloc(); 1, 3]?)?;
-    let mut room = [0u8; 8];
-    assert_eq!(rt; link.read(&mut room), ReadTurn::Failed);
-    assert_eq!(rt; link.write(b"123"), WriteTurn::Done);
-    assert_eq!(rt; link.write(b"4"), WriteTurn::Failed(0));
-    assert_eq!(rt; link.write(b"456"), WriteTurn::Failed(0));
-    assert_eq!(rt; link.write(b"45"), WriteTurn::Done);
+    let mut link = memory_link(rt.alloc(), 5, &[1, 3])?;
+    let (turns, _) = reads(rt.alloc(), &mut link, 1)?;
+    assert_eq!(rt; turns.as_slice(), [ReadTurn::Failed].as_slice());
+    let turns = writes(rt.alloc(), &mut link, &[b"123", b"4", b"456", b"45"])?;
+    let want = [
+        WriteTurn::Done,
+        WriteTurn::Failed(0),
+        WriteTurn::Failed(0),
+        WriteTurn::Done,
+    ];
+    assert_eq!(rt; turns.as_slice(), want.as_slice());
     assert_eq!(rt; link.written(), b"12345".as_slice());
-    assert_eq!(rt; link.read(&mut room), ReadTurn::Bytes(6));
     Ok(())
 }
 
 #[test]
 fn an_application_keeps_what_it_takes(rt: HostRuntime) -> Result<(), Fail> {
-    let mut app = MemoryApp::new(rt.alloc(), 2, vec![in rt.alloc(); 2]?)?;
-    assert_eq!(rt; app.hand(&message(2, true, b"35=D\x01")), Said::Taken);
-    assert_eq!(rt; app.hand(&message(3, false, b"35=F\x01")), Said::Failed);
-    assert_eq!(rt; app.hand(&message(3, false, b"35=F\x01")), Said::Taken);
-    assert_eq!(rt; app.hand(&message(4, false, b"35=G\x01")), Said::Failed);
-    let given = app.given();
-    assert_eq!(rt; given.len(), 2);
-    assert_eq!(rt; (given[0].number, given[0].marked), (2, true));
-    assert_eq!(rt; given[0].body.as_slice(), b"35=D\x01".as_slice());
-    assert_eq!(rt; (given[1].number, given[1].marked), (3, false));
-    assert_eq!(rt; given[1].body.as_slice(), b"35=F\x01".as_slice());
+    let alloc = rt.alloc();
+    let mut app = MemoryApp::new(alloc, 2, Vec::from_slice(alloc, &[2])?)?;
+    let order = message(2, true, b"35=D\x01");
+    let cancel = message(3, false, b"35=F\x01");
+    let turns = hands(alloc, &mut app, &[order, cancel, cancel, cancel])?;
+    let want = [Said::Taken, Said::Failed, Said::Taken, Said::Failed];
+    assert_eq!(rt; turns.as_slice(), want.as_slice());
+    let want = [
+        Given {
+            number: 2,
+            marked: true,
+            body: Bytes::copy(alloc, b"35=D\x01")?,
+        },
+        Given {
+            number: 3,
+            marked: false,
+            body: Bytes::copy(alloc, b"35=F\x01")?,
+        },
+    ];
+    assert!(rt; app.given() == want.as_slice());
     Ok(())
 }
 
 #[test]
 fn a_clock_stays_at_its_last_reading(rt: HostRuntime) -> Result<(), Fail> {
-    let readings = vec![in rt.alloc(); 5, 9]?;
-    assert!(rt; readings.len() > 0);
-    let mut clock = MemoryClock::new(readings);
-    assert_eq!(rt; (clock.now(), clock.now(), clock.now()), (5, 9, 9));
+    let mut clock = MemoryClock::new(Vec::from_slice(rt.alloc(), &[5, 9])?);
+    let readings = times(rt.alloc(), &mut clock)?;
+    assert_eq!(rt; readings.as_slice(), [5, 9, 9].as_slice());
     Ok(())
 }
 
 #[test]
 fn a_sink_fails_where_it_is_told_and_past_its_room(rt: HostRuntime) -> Result<(), Fail> {
-    let mut sink = MemorySink::new(rt.alloc(), 3, vec![in rt.alloc(); 2]?)?;
-    assert_eq!(rt; sink.write(b"ab"), Ok(()));
-    assert_eq!(rt; sink.write(b"c"), Err(SinkFailed));
-    assert_eq!(rt; sink.write(b"cd"), Err(SinkFailed));
-    assert_eq!(rt; sink.write(b"c"), Ok(()));
+    let mut sink = MemorySink::new(rt.alloc(), 3, Vec::from_slice(rt.alloc(), &[2])?)?;
+    let turns = sinks(rt.alloc(), &mut sink, &[b"ab", b"c", b"cd", b"c"])?;
+    assert_eq!(rt; turns.as_slice(), [true, false, false, true].as_slice());
     assert_eq!(rt; sink.written(), b"abc".as_slice());
     Ok(())
 }
@@ -147,15 +212,18 @@ fn a_tape_keeps_each_act(rt: HostRuntime) -> Result<(), Fail> {
 
 #[test]
 fn messages_are_shown_as_lines(rt: HostRuntime) -> Result<(), Fail> {
-    let sink = MemorySink::new(rt.alloc(), 1000, vec![in rt.alloc(); 3]?)?;
+    let sink = MemorySink::new(rt.alloc(), 1000, Vec::from_slice(rt.alloc(), &[3])?)?;
     let mut app = LineApp::new(rt.alloc(), sink);
-    assert_eq!(rt; app.hand(&message(2, false, ORDER)), Said::Taken);
-    let odd = b"58=a|b\\c\x00\x1f\x7f\xff ~\n\x01";
-    assert_eq!(rt; app.hand(&message(4294967295, true, odd)), Said::Taken);
-    assert_eq!(rt; app.hand(&message(5, false, ORDER)), Said::Failed);
-    assert_eq!(rt; app.hand(&message(5, false, b"")), Said::Taken);
-    let want = b"2 N 35=D|11=A1|21=1|55=XYZ|54=1|60=20240102-10:00:00|40=1|\n4294967295 Y 58=a\\|b\\\\c\\x00\\x1f\\x7f\\xff ~\\x0a|\n5 N \n";
-    assert_eq!(rt; app.sink().written(), want.as_slice());
+    let order = message(2, false, ORDER);
+    let odd = message(4294967295, true, b"58=a|b\\c\x00\x1f\x7f\xff ~\n\x01");
+    let turns = hands(
+        rt.alloc(),
+        &mut app,
+        &[order, odd, order, message(5, false, b"")],
+    )?;
+    let want = [Said::Taken, Said::Taken, Said::Failed, Said::Taken];
+    assert_eq!(rt; turns.as_slice(), want.as_slice());
+    assert_eq!(rt; app.sink().written(), LINES);
     Ok(())
 }
 
@@ -213,23 +281,24 @@ impl Read for Slow {
 }
 
 #[test]
-fn a_stream_is_read_until_it_ends(rt: HostRuntime) {
-    let mut link = StdioLink::new(b"abc".as_slice(), io::sink());
-    let mut room = [0u8; 2];
-    assert_eq!(rt; link.read(&mut room), ReadTurn::Bytes(2));
-    assert_eq!(rt; room, *b"ab");
-    assert_eq!(rt; link.read(&mut room), ReadTurn::Bytes(1));
-    assert_eq!(rt; link.read(&mut room), ReadTurn::End);
+fn a_stream_is_read_until_it_ends(rt: HostRuntime) -> Result<(), Fail> {
+    let mut link = StdioLink::new(b"abcdef".as_slice(), io::sink());
+    let (turns, bytes) = reads(rt.alloc(), &mut link, 3)?;
+    let want = [ReadTurn::Bytes(4), ReadTurn::Bytes(2), ReadTurn::End];
+    assert_eq!(rt; turns.as_slice(), want.as_slice());
+    assert_eq!(rt; bytes.as_slice(), b"abcdef".as_slice());
 
     // The first call is interrupted and tried again, and the third fails.
     let mut link = StdioLink::new(Slow::new(rt.alloc(), 1, 3), io::sink());
-    assert_eq!(rt; link.read(&mut room), ReadTurn::Bytes(2));
-    assert_eq!(rt; link.read(&mut room), ReadTurn::Failed);
-    assert_eq!(rt; link.read(&mut room), ReadTurn::Bytes(2));
+    let (turns, _) = reads(rt.alloc(), &mut link, 3)?;
+    let want = [ReadTurn::Bytes(2), ReadTurn::Failed, ReadTurn::Bytes(2)];
+    assert_eq!(rt; turns.as_slice(), want.as_slice());
+    Ok(())
 }
 
 #[test]
-fn a_failed_write_says_how_much_went_out(rt: HostRuntime) {
+fn a_failed_write_says_how_much_went_out(rt: HostRuntime) -> Result<(), Fail> {
+    let alloc = rt.alloc();
     // At which call it fails, what it answers for five bytes, and what went out.
     for (fails, want, out) in [
         (0, WriteTurn::Done, 5),
@@ -238,22 +307,30 @@ fn a_failed_write_says_how_much_went_out(rt: HostRuntime) {
         (4, WriteTurn::Failed(4), 4),
         (5, WriteTurn::Failed(5), 5),
     ] {
-        let mut link = StdioLink::new(io::empty(), Slow::new(rt.alloc(), 2, fails));
-        assert_eq!(rt; link.write(b"12345"), want, "where call {fails} fails");
+        let mut link = StdioLink::new(io::empty(), Slow::new(alloc, 2, fails));
+        let turns = writes(alloc, &mut link, &[b"12345"])?;
+        assert_eq!(rt;
+            turns.as_slice(),
+            [want].as_slice(),
+            "where call {fails} fails"
+        );
         assert_eq!(rt; link.output.bytes.len(), out, "where call {fails} fails");
-
-        let mut sink = StreamSink::new(Slow::new(rt.alloc(), 2, fails));
-        assert_eq!(rt; sink.write(b"12345").is_ok(), want == WriteTurn::Done);
-        assert_eq!(rt; sink.output.bytes.len(), out, "where call {fails} fails");
     }
+    let mut sink = StreamSink::new(Slow::new(alloc, 2, 5));
+    let turns = sinks(alloc, &mut sink, &[b"12345", b"67"])?;
+    assert_eq!(rt; turns.as_slice(), [false, true].as_slice());
+    assert_eq!(rt; sink.output.bytes.as_slice(), b"1234567".as_slice());
+    Ok(())
 }
 
 #[test]
-fn the_standard_streams_take_bytes(rt: HostRuntime) {
+fn the_standard_streams_take_bytes(rt: HostRuntime) -> Result<(), Fail> {
     let mut link = StdioLink::new(rt.stdin(), rt.stdout());
-    assert_eq!(rt; link.write(b"out\n"), WriteTurn::Done);
-    let mut sink = StreamSink::new(rt.stderr());
-    assert_eq!(rt; sink.write(b"err\n"), Ok(()));
+    let turns = writes(rt.alloc(), &mut link, &[b"out\n"])?;
+    assert_eq!(rt; turns.as_slice(), [WriteTurn::Done].as_slice());
+    let turns = sinks(rt.alloc(), &mut StreamSink::new(rt.stderr()), &[b"err\n"])?;
+    assert_eq!(rt; turns.as_slice(), [true].as_slice());
+    Ok(())
 }
 
 // A clock that can be read at its second reading only.
@@ -279,10 +356,13 @@ impl rt::Clock for Broken {
 }
 
 #[test]
-fn a_clock_gives_its_last_reading_where_there_is_none(rt: HostRuntime) {
+fn a_clock_gives_its_last_reading_where_there_is_none(rt: HostRuntime) -> Result<(), Fail> {
     let mut clock = SystemClock::new(Broken {
         readings: Cell::new(0),
     });
-    assert_eq!(rt; (clock.now(), clock.now(), clock.now()), (0, 3_000_004, 3_000_004));
-    assert!(rt; SystemClock::new(&rt).now() > 1_500_000_000_000_000);
+    let readings = times(rt.alloc(), &mut clock)?;
+    assert_eq!(rt; readings.as_slice(), [0, 3_000_004, 3_000_004].as_slice());
+    let readings = times(rt.alloc(), &mut SystemClock::new(&rt))?;
+    assert!(rt; readings.as_slice() > [1_500_000_000_000_000].as_slice());
+    Ok(())
 }

@@ -1,4 +1,4 @@
-use Rattle.std.proofs.Common.{◌≤◌, length, take, drop, arith, length-drop}
+use Rattle.std.proofs.Common.{arith, length-drop}
 use Rattle.fix_parts.proofs.StreamLemmas.{Appends-Appends, take-more}
 use Rattle.fix_parts.proofs.streams.write_parts.Goals as goal
 
