@@ -3,3 +3,4 @@ pub mod TimedLemmas
 pub mod WritingLemmas
 pub mod FieldsLeft
 pub mod EnvelopeLemmas
+pub mod ListLemmas

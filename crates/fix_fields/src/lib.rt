@@ -5,6 +5,7 @@
 mod field;
 mod header;
 mod lines;
+mod list;
 mod noted;
 mod number;
 mod reading;
@@ -17,6 +18,7 @@ mod value;
 pub use field::{FieldRef, due_after, field_at, is_body, is_body_field};
 pub use header::Envelope;
 pub use lines::body_fields;
+pub use list::{FieldFault, FieldList, fields};
 pub use number::{boolean, int};
 pub use reading::{body_of, envelope, first_value};
 pub use scanning::{after_text, soh_at};
