@@ -11,6 +11,9 @@ mod shape;
 mod summing;
 mod whole;
 
+#[cfg(test)]
+mod tests;
+
 pub use item::{Framed, frame_at};
 pub use reader::Reader;
 pub use sealing::{SealFault, seal};

@@ -105,3 +105,29 @@ impl Reader {
         }
     }
 }
+
+#[cfg(test)]
+mod tests {
+    use super::*;
+    use std::test::Fail;
+
+    /// The head of a frame of 1,000 bytes, as often as it takes to stand still.
+    const HEAD: &[u8] = b"8=FIX.4.2\x019=1000\x0135=0";
+
+    #[test]
+    fn what_was_read_is_let_go(rt: HostRuntime) -> Result<(), Fail> {
+        let mut reader = Reader::new(rt.alloc())?;
+        let mut most = 0;
+        for i in 0..4000u32 {
+            let piece = if i % 7 == 0 { HEAD } else { b"garbled 8=FIX\x01 and 9=5\x01 more" };
+            reader.feed(piece)?;
+            assert!(rt; reader.next().is_none());
+            let unread = reader.kept.len() - reader.place;
+            assert!(rt; unread < 1_048_612);
+            assert!(rt; reader.place < 65_536);
+            most = most.max(reader.kept.len());
+        }
+        assert!(rt; most < 70_000);
+        Ok(())
+    }
+}
