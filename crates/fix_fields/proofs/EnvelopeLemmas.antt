@@ -74,8 +74,8 @@ lines_of parts text h =
     let digits = behind.is_second in
     let sum = h.is_trailer.is_second in
     let head : h.head ≡ (codes "8=FIX" ++ version.value) ++ 1 ∷ ((codes "9=" ++ digits.value) ++ 1 ∷ []) =
-        h.is_head.spelled ∙ cc_head h.is_head.first h.is_head.second h.is_head.is_second.first h.is_head.is_second.second behind.first behind.second version.value digits.value
-            h.is_head.is_first h.is_head.is_second.spelled version.spelled behind.spelled behind.is_first digits.spelled in
+    h.is_head.spelled ∙ cc_head h.is_head.first h.is_head.second h.is_head.is_second.first h.is_head.is_second.second behind.first behind.second version.value digits.value
+    h.is_head.is_first h.is_head.is_second.spelled version.spelled behind.spelled behind.is_first digits.spelled in
     record {
       version = version.value;
       digits = digits.value;

@@ -224,7 +224,7 @@ day_same m n bytes r s p q =
     let day = two_same p.day q.day d.third r s (subst (λ (t : List ℕ). HasTwo p.day t r) month.1 (day_parts m bytes r p).of_day) d.of_day in
     let whole : p.year ≡ q.year = omega (arith, year.0) in
     let number : days_from_civil (pos p.year) p.month p.day ≡ days_from_civil (pos q.year) q.month q.day =
-        ap (λ y. days_from_civil (pos y) p.month p.day) whole ∙ ap (λ k. days_from_civil (pos q.year) k p.day) month.0 ∙ ap (days_from_civil (pos q.year) q.month) day.0 in
+    ap (λ y. days_from_civil (pos y) p.month p.day) whole ∙ ap (λ k. days_from_civil (pos q.year) k p.day) month.0 ∙ ap (days_from_civil (pos q.year) q.month) day.0 in
     (p.says ∙ number ∙ sym q.says, day.1)
 
 pub clock_same : (m n : ℕ) (bytes r s : List ℕ) → HasClock m bytes r → HasClock n bytes s → (m ≡ n) × (r ≡ s)

@@ -11,6 +11,8 @@ mod number;
 mod reading;
 mod scanning;
 mod tag;
+#[cfg(test)]
+mod tests;
 mod time_laws;
 mod times;
 mod value;
@@ -23,8 +25,6 @@ pub use number::{boolean, int};
 pub use reading::{body_of, envelope, first_value};
 pub use scanning::{after_text, soh_at};
 pub use tag::{paired, tag_at};
-pub use time_laws::{
-    a_timestamp_says_one_time, a_written_time_is_a_value, a_written_time_is_read,
-};
+pub use time_laws::{a_timestamp_says_one_time, a_written_time_is_a_value, a_written_time_is_read};
 pub use times::{TimeText, time_text, utc_time};
 pub use value::{data_length, value_at};

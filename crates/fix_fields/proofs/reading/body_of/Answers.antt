@@ -18,7 +18,7 @@ pub loop-rest-preserved : goal.loop-rest-preserved
 loop-rest-preserved c =
     let some : c.loop-rest.rest.now ≢ [] = λ e. grind (arith, ap length e) in
     rw c.due_after-due.ensures (of_step _ _ c.args.frame.now c.loop-rest.due (field_of c.in-Some.field) c.loop-rest.rest.now c.in-Some.behind.now c.in-Some.ensures some
-        (λ all left e. e ∙ body_more c.loop-rest.body.items c.keep.new.body.items _ (field_of c.in-Some.field) left (field_bytes c.loop-rest.due (field_of c.in-Some.field) c.loop-rest.rest.now c.in-Some.behind.now c.in-Some.ensures) c.in_ok-keep.ensures) c.loop-rest.invariant)
+    (λ all left e. e ∙ body_more c.loop-rest.body.items c.keep.new.body.items _ (field_of c.in-Some.field) left (field_bytes c.loop-rest.due (field_of c.in-Some.field) c.loop-rest.rest.now c.in-Some.behind.now c.in-Some.ensures) c.in_ok-keep.ensures) c.loop-rest.invariant)
 
 pub returns : goal.returns
 returns c =

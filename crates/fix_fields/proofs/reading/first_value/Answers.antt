@@ -26,7 +26,7 @@ loop-rest-preserved c =
     let some : c.loop-rest.rest.now ≢ [] = λ e. grind (arith, ap length e) in
     let other : c.in-Some.field.tag ≢ c.args.tag = λ e. omega (arith, e) in
     rw c.due_after-due.ensures (of_step _ _ c.args.frame.now c.loop-rest.due (field_of c.in-Some.field) c.loop-rest.rest.now c.in-Some.behind.now c.in-Some.ensures some
-        (λ all left e. e ∙ value_past c.args.tag (field_of c.in-Some.field) left other) c.loop-rest.invariant)
+    (λ all left e. e ∙ value_past c.args.tag (field_of c.in-Some.field) left other) c.loop-rest.invariant)
 
 pub returns : goal.returns
 returns c =
