@@ -1,11 +1,11 @@
 -- The lines of a frame, and what its fields say.
-use Rattle.std.proofs.Common.{◌≡◌, ◌≢◌, ℕ, zero, suc, ◌+◌, ◌-◌, ◌^◌, ◌<◌, ◌≤◌, Bool, true, false, ◌&&◌, ◌==◌, if◌then◌else◌, nat_lt, nat_le, List, [], ◌∷◌, ◌++◌, length, take, drop, get_or, codes, Option, Some, None, refl, sym, ap, subst, ◌∙◌, append_assoc, arith, eq-eqb, zero-add, lit<}
+use Rattle.std.proofs.Common.{◌≡◌, ◌≢◌, ℕ, zero, suc, ◌-◌, ◌^◌, ◌<◌, ◌≤◌, Bool, true, false, ◌&&◌, ◌==◌, if◌then◌else◌, nat_lt, nat_le, List, [], ◌∷◌, ◌++◌, length, take, drop, codes, Option, Some, None, refl, sym, ap, subst, ◌∙◌, append_assoc, arith, eq-eqb, zero-add, lit<}
 use Rattle.std.specs.Prelude.{option_map, IsSome}
 use Rattle.std.specs.Fmt.{decimal}
 use Rattle.std.specs.Option.{SomeIff}
 use Rattle.std.specs.Str.{all_ascii_digits}
 use Rattle.std.specs.Str.Parse.{digits_value, AllDigits}
-use Rattle.std.proofs.lemmas.List.{append-nil, length-append, take_at, same_from_push, take_rest}
+use Rattle.std.proofs.lemmas.List.{append-nil, length-append, same_from_push}
 use Rattle.std.proofs.lemmas.Bool.{false_from_ne_true, and_from, lt-ltb, le-leb, ltb-true, leb-true, eqb-true}
 use Rattle.std.proofs.lemmas.Str.Parse.{IsNumeralModel, numerals_by_value, tells_all_ascii_digits, digits_value_short}
 use Rattle.std.proofs.lemmas.Fmt.{decimal-digits_value}
@@ -19,11 +19,11 @@ use Rattle.fix_base.specs.Tags.{is_session_tag}
 use Rattle.fix_base.proofs.Pieces.{line_free}
 use Rattle.fix_base.proofs.TagTexts.{tag_same}
 use Rattle.fix_base.proofs.FieldLists.{field_tag, no_plain}
-use Rattle.fix_base.proofs.Spans.{shape_free, front_is}
+use Rattle.fix_base.proofs.Spans.{front_is}
 use Rattle.fix_fields.specs.Value.{IsDigitsOf}
 use Rattle.fix_fields.specs.Lined.{IsLineOf, HasLine}
 use Rattle.fix_fields.specs.Noted.{Firsts, firsts_with, no_firsts}
-use Rattle.fix_fields.specs.Header.{Header, HasBegin, header_of_fields}
+use Rattle.fix_fields.specs.Header.{HasBegin, header_of_fields}
 
 no_soh_more : (byte : ℕ) (bytes : List ℕ) → byte ≢ 1 → HasNoSoh bytes → HasNoSoh (byte ∷ bytes)
 no_soh_more byte bytes first rest zero lt = first

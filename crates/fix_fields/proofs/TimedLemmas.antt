@@ -7,9 +7,9 @@ use Rattle.std.proofs.lemmas.List.{take_all, length-take-le}
 use Rattle.std.proofs.lemmas.Int.Digits.{digits_value-lt, digits_value_more}
 use Rattle.std.proofs.lemmas.Str.{digit_value_digit}
 use Rattle.std.proofs.lemmas.Str.Parse.{digit_at}
-use Rattle.jiff_core.specs.Calendar.{IsCivilDate, IsDate, days_in_month, days_from_civil}
+use Rattle.jiff_core.specs.Calendar.{IsCivilDate, days_in_month, days_from_civil}
 use Rattle.jiff_core.proofs.CalendarLemmas.{days_in_month_bounds}
-use Rattle.fix_base.specs.Times.{two_digits, four_digits, fraction_text, micros_of, second_of_day, IsMoment, IsFractionLength, IsUtcTimestamp}
+use Rattle.fix_base.specs.Times.{two_digits, four_digits, fraction_text, micros_of, second_of_day, IsFractionLength, IsUtcTimestamp}
 use Rattle.fix_fields.specs.Value.{IsDigitsOf}
 use Rattle.fix_fields.specs.Timed.{HasTwo, HasDay, HasClock, HasFraction}
 

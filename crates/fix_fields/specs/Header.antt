@@ -1,5 +1,5 @@
 -- The header of a message: what the engine reads of a frame before it decides.
-use Rattle.std.specs.Prelude.{◌≡◌, ℕ, List, ◌∷◌, ◌++◌, codes, Option, Some, None, option_map}
+use Rattle.std.specs.Prelude.{◌≡◌, ℕ, List, ◌∷◌, ◌++◌, codes, Option, Some, option_map}
 use Rattle.fix_base.specs.Frame.{HasNoSoh}
 use Rattle.fix_base.specs.Fields.{Field}
 use Rattle.fix_base.specs.Says.{value_of, seq_num_of}

@@ -1,6 +1,5 @@
 -- What is known of the header's fields while they are read one after another.
-use Rattle.std.specs.Prelude.{◌≡◌, ℕ, ◌+◌, List, Option, Some, None, option_map, if◌then◌else◌, ◌==◌}
-use Rattle.fix_base.specs.Frame.{HasNoSoh}
+use Rattle.std.specs.Prelude.{ℕ, ◌+◌, List, Option, Some, None, option_map, if◌then◌else◌, ◌==◌}
 use Rattle.fix_base.specs.Fields.{Field, FieldsAfter}
 use Rattle.fix_base.specs.Says.{value_of, times_of}
 use Rattle.fix_fields.specs.declared.noted.Noted.{Noted}

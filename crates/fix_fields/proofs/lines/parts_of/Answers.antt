@@ -1,4 +1,4 @@
-use Rattle.std.proofs.Common.{◌≡◌, ◌≤◌, ◌-◌, length, take, arith}
+use Rattle.std.proofs.Common.{arith}
 use Rattle.std.proofs.lemmas.List.{take_rest}
 use Rattle.fix_fields.proofs.EnvelopeLemmas.{has_first, has_second, begin_is, first_long, rest_is_body}
 use Rattle.fix_fields.proofs.lines.parts_of.Goals as goal

@@ -1,5 +1,4 @@
-use Rattle.std.proofs.Common.{◌≡◌, ◌+◌, ◌*◌, ◌≤◌, take, arith}
-use Rattle.std.specs.Str.Parse.{digits_value}
+use Rattle.std.proofs.Common.{◌+◌, ◌*◌, arith}
 use Rattle.fix_fields.proofs.NumberLemmas.{no_digit, number_more, more_digits, too_large}
 use Rattle.fix_fields.proofs.number.digits_of.Goals as goal
 

@@ -1,6 +1,6 @@
-use Rattle.std.proofs.Common.{arith, ap, neg_ℤ}
+use Rattle.std.proofs.Common.{arith}
 use Rattle.std.proofs.lemmas.Int.{ints}
-use Rattle.fix_fields.specs.Value.{IsInt, plain, minus}
+use Rattle.fix_fields.specs.Value.{plain, minus}
 use Rattle.fix_fields.proofs.number.int.Goals as goal
 
 pub returns-in_ok-size-in-Some-clause-known : goal.returns-in_ok-size-in-Some-clause-known

@@ -1,4 +1,4 @@
-use Rattle.std.proofs.Common.{◌≢◌, ◌≡◌, ◌∙◌, ◌++◌, ℕ, List, [], length, ap, sym, refl, arith}
+use Rattle.std.proofs.Common.{◌≢◌, ◌≡◌, ◌∙◌, ◌++◌, ℕ, List, [], length, ap, sym, arith}
 use Rattle.std.proofs.lemmas.List.{nil_from_length, append-nil}
 use Rattle.fix_base.specs.Says.{body_of}
 use Rattle.fix_fields.specs.Lent.{field_of}

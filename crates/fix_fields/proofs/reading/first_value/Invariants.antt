@@ -1,6 +1,5 @@
 use Rattle.std.proofs.Common.{◌≡◌, length}
-use Rattle.fix_base.specs.Says.{value_of, HasFields}
-use Rattle.fix_fields.specs.Noted.{IsLeft}
+use Rattle.fix_base.specs.Says.{value_of}
 use Rattle.fix_fields.proofs.FieldsLeft.{IsLeftOf}
 use Rattle.fix_fields.proofs.reading.first_value.Given as goal
 

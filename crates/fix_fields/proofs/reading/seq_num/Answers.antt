@@ -1,4 +1,4 @@
-use Rattle.std.proofs.Common.{◌≡◌, ◌∙◌, sym, arith}
+use Rattle.std.proofs.Common.{◌∙◌, sym, arith}
 use Rattle.fix_fields.proofs.EnvelopeLemmas.{no_number, number_is, nine_small, seq_num_says}
 use Rattle.fix_fields.proofs.reading.seq_num.Goals as goal
 

@@ -1,4 +1,4 @@
-use Rattle.std.proofs.Common.{◌≡◌, ℕ, ◌/◌, ◌%◌, ◌≤ℤ◌, ℤ, pos, arith, ◌∙◌, refl}
+use Rattle.std.proofs.Common.{◌≡◌, ◌/◌, ◌%◌, pos, arith, ◌∙◌, refl}
 use Rattle.std.proofs.lemmas.Int.{ints}
 use Rattle.jiff_core.specs.Date.{epoch_day}
 use Rattle.fix_fields.proofs.WritingLemmas.{year_from_1970, split_of, seconds_text, millis_text, micros_text}

@@ -1,7 +1,6 @@
-use Rattle.std.proofs.Common.{◌≡◌, ℤ, arith, ap, Some}
+use Rattle.std.proofs.Common.{arith, ap, Some}
 use Rattle.std.proofs.lemmas.Int.{ints}
-use Rattle.fix_base.specs.Times.{IsUtcTimestamp}
-use Rattle.fix_fields.proofs.TimedLemmas.{no_stamp_day, no_stamp_sign, no_stamp_clock, no_stamp_fraction, stamp_here, stamp_same}
+use Rattle.fix_fields.proofs.TimedLemmas.{no_stamp_day, no_stamp_clock, no_stamp_fraction, stamp_here, stamp_same}
 use Rattle.fix_fields.proofs.times.utc_time.Goals as goal
 
 pub returns-in_err-day-clause-each : goal.returns-in_err-day-clause-each

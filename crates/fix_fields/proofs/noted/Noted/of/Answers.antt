@@ -1,7 +1,7 @@
 use Rattle.std.proofs.Common.{◌≢◌, ◌≡◌, ◌∙◌, [], length, ap, sym, arith}
 use Rattle.std.proofs.lemmas.List.{nil_from_length}
 use Rattle.fix_fields.specs.Lent.{field_of}
-use Rattle.fix_fields.specs.Noted.{firsts_of, firsts_with, no_firsts}
+use Rattle.fix_fields.specs.Noted.{firsts_of, firsts_with}
 use Rattle.fix_fields.proofs.FieldsLeft.{left_none, left_step, left_end, firsts_step, firsts_end, shorter, numbers_more}
 use Rattle.fix_fields.proofs.noted.Noted.of.Goals as goal
 
