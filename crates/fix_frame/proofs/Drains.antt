@@ -1,9 +1,8 @@
 -- Frames given one after the other.
-use Rattle.std.proofs.Common.{◌≡◌, ℕ, ◌+◌, ◌<◌, ◌≤◌, true, List, [], ◌∷◌, ◌++◌, length, get_or, map, take, Option, None, Some, refl, sym, ap, subst, ◌∙◌, append_assoc, arith}
+use Rattle.std.proofs.Common.{◌≡◌, ℕ, ◌+◌, ◌<◌, ◌≤◌, true, List, [], ◌∷◌, ◌++◌, length, get_or, take, refl, sym, ap, subst, ◌∙◌, append_assoc, arith}
 use Rattle.std.proofs.lemmas.List.{length-append, append-nil, take_more}
-use Rattle.fix_base.specs.Shape.{IsFrame}
-use Rattle.fix_base.specs.Stream.{Ahead, Item, Frame, Span, Byte, text_of, Takes, HasNoItem, TakesAll, frames, Reads}
-use Rattle.fix_frame.specs.Given.{Skips, GivesFrame, GivesNone}
+use Rattle.fix_base.specs.Stream.{Ahead, Item, Frame, text_of, HasNoItem, TakesAll, frames, Reads}
+use Rattle.fix_frame.specs.Given.{GivesFrame, GivesNone}
 use Rattle.fix_base.specs.Says.{joined}
 use Rattle.fix_base.proofs.Fronted as fronted
 use Rattle.fix_frame.specs.Whole.{GivesAll, AreFramesOf}

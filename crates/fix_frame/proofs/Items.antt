@@ -1,9 +1,9 @@
 -- The item at the front of bytes.
-use Rattle.std.proofs.Common.{◌≡◌, ℕ, ◌-◌, ◌<◌, Bool, true, IsTrue, List, [], ◌∷◌, ◌++◌, length, get_or, take, drop, refl, sym, ap, ◌∙◌, subst, arith}
+use Rattle.std.proofs.Common.{◌≡◌, ℕ, ◌-◌, ◌<◌, Bool, true, IsTrue, List, [], ◌++◌, length, get_or, take, drop, refl, sym, ap, ◌∙◌, subst, arith}
 use Rattle.std.proofs.lemmas.List.{length-append, drop_more}
 use Rattle.fix_base.specs.Front.{Begins, NeverBegins, IsPartOf}
-use Rattle.fix_base.specs.Shape.{Parts, HasShape, IsShape, IsRight, IsFrame}
-use Rattle.fix_base.specs.Stream.{Ahead, Item, Frame, Span, Byte}
+use Rattle.fix_base.specs.Shape.{Parts, HasShape, IsShape, IsRight}
+use Rattle.fix_base.specs.Stream.{Frame, Span, Byte}
 use Rattle.fix_base.proofs.Spans.{shape_free, front_is, part_short}
 use Rattle.fix_base.proofs.Fronted as fronted
 use Rattle.fix_frame.specs.Answer.{Stands, Skipped, Waits}

@@ -1,15 +1,15 @@
 -- A message of a MsgType and a text (58) may be sealed.
-use Rattle.std.proofs.Common.{◌≡◌, ◌≢◌, ℕ, ◌+◌, ◌<◌, ◌≤◌, List, [], ◌∷◌, ◌++◌, length, get_or, replicate, None, refl, sym, ap, ◌∙◌, append_assoc, arith, lit<, lit≤}
+use Rattle.std.proofs.Common.{◌≡◌, ℕ, ◌<◌, List, [], ◌∷◌, ◌++◌, length, replicate, None, refl, sym, ap, ◌∙◌, append_assoc, arith, lit<, lit≤}
 use Rattle.std.specs.Prelude.{codes}
 use Rattle.std.specs.Fmt.{decimal}
 use Rattle.std.proofs.lemmas.Fmt.{decimal-digits_value}
 use Rattle.std.proofs.lemmas.List.{append-nil, get_or-replicate, length-replicate}
 use Rattle.fix_base.specs.Frame.{HasNoSoh}
-use Rattle.fix_base.specs.Fields.{Field, IsField}
+use Rattle.fix_base.specs.Fields.{IsField}
 use Rattle.fix_base.specs.Payload.{field}
 use Rattle.fix_base.specs.Says.{field_text}
 use Rattle.fix_base.proofs.Digits.{numerals, digits_no_soh}
-use Rattle.fix_frame.specs.Sealable.{IsSealable, message_text}
+use Rattle.fix_frame.specs.Sealable.{IsSealable}
 
 -- the MsgType of a Heartbeat
 pub zero_no_soh : HasNoSoh (codes "0")

@@ -1,5 +1,5 @@
 -- A message that may be sealed has the fields of a frame.
-use Rattle.std.proofs.Common.{◌≡◌, ◌≢◌, ℕ, ◌+◌, ◌<◌, ◌≤◌, true, List, [], ◌∷◌, ◌++◌, length, None, refl, sym, ap, ◌∙◌, subst, append_assoc, arith}
+use Rattle.std.proofs.Common.{◌≡◌, ℕ, ◌≤◌, List, [], ◌∷◌, ◌++◌, length, None, refl, sym, ap, ◌∙◌, subst, append_assoc, arith}
 use Rattle.std.specs.Prelude.{codes}
 use Rattle.std.specs.Fmt.{decimal}
 use Rattle.std.specs.List.{AllByRecursion}
@@ -7,7 +7,6 @@ use Rattle.std.proofs.lemmas.List.{length-append}
 use Rattle.fix_base.specs.declared.identity.Begin.{Begin}
 use Rattle.fix_base.specs.Fields.{Field}
 use Rattle.fix_base.specs.Payload.{field}
-use Rattle.fix_base.specs.Says.{field_text, fields_text}
 use Rattle.fix_base.specs.Sealed.{sealed}
 use Rattle.fix_base.specs.Frame.{IsBody}
 use Rattle.fix_base.specs.Shape.{IsBodyField, IsFrame}

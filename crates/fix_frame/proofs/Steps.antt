@@ -2,10 +2,10 @@
 use Rattle.std.proofs.Common.{◌≡◌, ℕ, ◌+◌, ◌-◌, ◌<◌, ◌≤◌, Bool, nat_eq, List, [], ◌∷◌, ◌++◌, length, get_or, take, drop, refl, sym, ap, ◌∙◌, subst, arith, lit<}
 use Rattle.std.proofs.lemmas.List.{length-append, length-drop, drop-drop, drop_at, get_or-drop, take_at}
 use Rattle.std.proofs.lemmas.List.Prefix.{front_reads}
-use Rattle.fix_base.specs.Stream.{Ahead, Item, Frame, Span, Byte, text_of, IsItem, ends_in_soh, Takes, HasNoItem, TakesAll, frames}
+use Rattle.fix_base.specs.Stream.{Ahead, Item, Frame, Span, Byte, text_of, IsItem, Takes, frames}
 use Rattle.fix_frame.specs.Answer.{Stands, Skipped}
 use Rattle.fix_frame.specs.Given.{GivesFrame}
-use Rattle.fix_frame.specs.Seeks.{SkipsBy, SeeksFrame, SeeksNone}
+use Rattle.fix_frame.specs.Seeks.{SkipsBy, SeeksFrame}
 use Rattle.fix_base.proofs.Spans.{shape_long}
 use Rattle.fix_base.proofs.Runs.{all_then, frames-append}
 
@@ -25,7 +25,7 @@ steps bytes at n mark item le s long =
     let some : 0 < length (text_of item) = item_some (record { may_mark = mark; bytes = drop at bytes }) item s.is in
     let behind : drop (at + n) bytes ≡ s.rest = sym (drop-drop n at bytes) ∙ ap (drop n) s.spelled ∙ drop_at (text_of item) s.rest n long in
     let last : get_or bytes (at + n - 1) 0 ≡ get_or (text_of item) (length (text_of item) - 1) 0 =
-      ap (λ k. get_or bytes k 0) (omega arith) ∙ sym (get_or-drop at bytes (length (text_of item) - 1) 0) ∙ front_reads 0 (drop at bytes) (text_of item) s.rest s.spelled (length (text_of item) - 1) (omega arith) in
+    ap (λ k. get_or bytes k 0) (omega arith) ∙ sym (get_or-drop at bytes (length (text_of item) - 1) 0) ∙ front_reads 0 (drop at bytes) (text_of item) s.rest s.spelled (length (text_of item) - 1) (omega arith) in
     record {
       take = record { is = s.is; spelled = s.spelled ∙ ap (λ (w : List ℕ). text_of item ++ w) (sym behind); mark = ap (λ b. nat_eq b 1) last };
       some = omega arith;
@@ -73,5 +73,5 @@ gives_here kept place start end mark after s =
       at = record { may_mark = s.before; bytes = drop start (drop place kept) };
       skips = record { items = s.skips.items; take = s.skips.take; none = s.skips.none };
       frame_there = subst (λ (w : List ℕ). Takes (record { may_mark = s.before; bytes = drop start (drop place kept) }) (Frame w) (record { may_mark = after; bytes = drop (place + end) kept })) text
-        (subst (λ (w : List ℕ). Takes (record { may_mark = s.before; bytes = drop start (drop place kept) }) (Frame (take (end - start) (drop start (drop place kept)))) (record { may_mark = after; bytes = w })) (drop-drop end place kept) s.frame);
+          (subst (λ (w : List ℕ). Takes (record { may_mark = s.before; bytes = drop start (drop place kept) }) (Frame (take (end - start) (drop start (drop place kept)))) (record { may_mark = after; bytes = w })) (drop-drop end place kept) s.frame);
     }

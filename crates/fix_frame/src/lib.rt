@@ -9,10 +9,9 @@ mod sealing;
 mod seeking;
 mod shape;
 mod summing;
-mod whole;
-
 #[cfg(test)]
 mod tests;
+mod whole;
 
 pub use item::{Framed, frame_at};
 pub use reader::Reader;

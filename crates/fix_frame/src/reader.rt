@@ -119,7 +119,11 @@ mod tests {
         let mut reader = Reader::new(rt.alloc())?;
         let mut most = 0;
         for i in 0..4000u32 {
-            let piece = if i % 7 == 0 { HEAD } else { b"garbled 8=FIX\x01 and 9=5\x01 more" };
+            let piece = if i % 7 == 0 {
+                HEAD
+            } else {
+                b"garbled 8=FIX\x01 and 9=5\x01 more"
+            };
             reader.feed(piece)?;
             assert!(rt; reader.next().is_none());
             let unread = reader.kept.len() - reader.place;

@@ -64,7 +64,13 @@ fn spelling(alloc: Global, begin: Begin, body: &[u8]) -> Result<Vec<u8>, AllocEr
 
 /// The frame of a message: BeginString (8), BodyLength (9), MsgType (35) = `kind`, the fields of
 /// `header` and `rest`, and CheckSum (10).
-pub fn seal(alloc: Global, begin: Begin, kind: &[u8], header: &[u8], rest: &[u8]) -> Result<Bytes, SealFault>
+pub fn seal(
+    alloc: Global,
+    begin: Begin,
+    kind: &[u8],
+    header: &[u8],
+    rest: &[u8],
+) -> Result<Bytes, SealFault>
     requires { IsSealable kind.now header.now rest.now }
     // The bytes: they are a frame, and whoever reads them at the front of a stream finds it.
     ensures text { IfOk result (λ out. out ≡ sealed begin (message_text kind.now header.now rest.now)) }

@@ -44,7 +44,10 @@ fn items_at_a_place(rt: HostRuntime) -> Result<(), Fail> {
     assert!(rt; frame_at(RAW_DATA, 0) == Framed::Frame(RAW_DATA));
     assert!(rt; frame_at(LONG_DATA, 0) == Framed::Skip(39));
     for (stream, want) in [
-        (b"8=FIX.4.2\x019=6\x0135=0\x0110=161\x01".as_slice(), Framed::Skip(1)),
+        (
+            b"8=FIX.4.2\x019=6\x0135=0\x0110=161\x01".as_slice(),
+            Framed::Skip(1),
+        ),
         (b"8=FIX.4.2\x019=1048577".as_slice(), Framed::Skip(1)),
         (b"8=FIX.4.2\x019=104857".as_slice(), Framed::More),
         (b"8=FIX.4.2\x019=4".as_slice(), Framed::More),

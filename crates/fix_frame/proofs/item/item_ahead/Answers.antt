@@ -1,4 +1,4 @@
-use Rattle.std.proofs.Common.{◌<◌, IsTrue, length, arith, sym, ◌∙◌}
+use Rattle.std.proofs.Common.{arith, sym, ◌∙◌}
 use Rattle.std.proofs.lemmas.Bool.{false≢true}
 use Rattle.fix_frame.specs.Span.{parts_of}
 use Rattle.fix_frame.proofs.Items.{byte_ahead, span_ahead, none_ahead}

@@ -1,4 +1,4 @@
-use Rattle.std.proofs.Common.{arith, ◌≤◌, ◌+◌, ◌*◌, get_or, refl, subst}
+use Rattle.std.proofs.Common.{arith, ◌+◌, ◌*◌, refl, subst}
 use Rattle.fix_base.proofs.Digits.{HasDigits, digits_small, length_begins, length_wrong_at, length_wrong, too_long, no_digit, no_length, value_more, digits_more_here, length_partial}
 use Rattle.fix_frame.proofs.places.after_length.Goals as goal
 use Rattle.fix_frame.proofs.places.after_length.Goals.{else-i-eq-LAST_LENGTH_DIGIT-via-then-i-eq-LAST_LENGTH_DIGIT+else-not-is_length-2, else-i-eq-LAST_LENGTH_DIGIT-via-else-i-eq-LAST_LENGTH_DIGIT}

@@ -1,4 +1,3 @@
-use Rattle.std.proofs.Common.{◌≡◌, ◌≢◌, ℕ, ◌^◌, ◌<◌, ◌≤◌, length, take, get_or}
 use Rattle.fix_base.proofs.Digits.{HasDigits}
 use Rattle.fix_frame.proofs.places.after_length.Given as goal
 

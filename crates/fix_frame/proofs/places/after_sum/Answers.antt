@@ -1,4 +1,4 @@
-use Rattle.std.proofs.Common.{◌≡◌, ◌≤◌, ◌<◌, length, get_or, arith, subst, sym, ◌∙◌}
+use Rattle.std.proofs.Common.{◌≡◌, length, get_or, arith, subst, sym, ◌∙◌}
 use Rattle.fix_base.proofs.Digits.{HasSum, sum_small, sum_more, sum_no_digit, sum_no_soh, sum_begins, sum_partial}
 use Rattle.fix_frame.proofs.places.after_sum.Goals as goal
 

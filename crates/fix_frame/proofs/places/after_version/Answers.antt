@@ -1,4 +1,4 @@
-use Rattle.std.proofs.Common.{ℕ, ◌+◌, ◌<◌, ◌≢◌, [], List, get_or, take, arith, length, below_more}
+use Rattle.std.proofs.Common.{◌+◌, [], take, arith, below_more}
 use Rattle.std.proofs.lemmas.List.{length-append, length-take-le, append-nil}
 use Rattle.fix_base.specs.Frame.{IsVersion}
 use Rattle.fix_base.proofs.Pieces.{line_begins, line_wrong, line_partial}

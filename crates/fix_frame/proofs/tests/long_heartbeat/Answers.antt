@@ -1,4 +1,4 @@
-use Rattle.std.proofs.Common.{◌≡◌, [], replicate, subst, sym, ◌∙◌, lit<}
+use Rattle.std.proofs.Common.{[], replicate, subst, sym, ◌∙◌, lit<}
 use Rattle.std.specs.Prelude.{codes}
 use Rattle.fix_frame.specs.Sealable.{IsSealable}
 use Rattle.fix_frame.proofs.Samples.{zero_no_soh, text_no_soh, sealable_text}

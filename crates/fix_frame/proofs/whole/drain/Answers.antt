@@ -1,4 +1,3 @@
-use Rattle.std.proofs.Common.{◌≡◌, ◌∷◌, [], ◌++◌, arith, ap}
 use Rattle.fix_frame.specs.Given.{GivesFrame, GivesNone}
 use Rattle.fix_frame.proofs.Drains.{frame_shorter, gave_more, gave_all}
 use Rattle.fix_frame.proofs.whole.drain.Goals as goal

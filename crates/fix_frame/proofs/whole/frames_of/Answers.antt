@@ -1,4 +1,4 @@
-use Rattle.std.proofs.Common.{◌≡◌, ◌∙◌, ap, subst, take, arith}
+use Rattle.std.proofs.Common.{◌∙◌, ap, subst}
 use Rattle.std.proofs.lemmas.List.{take_all}
 use Rattle.fix_base.proofs.Runs.{with_more}
 use Rattle.fix_frame.proofs.Drains.{Read, read_piece, read_one, read_all}

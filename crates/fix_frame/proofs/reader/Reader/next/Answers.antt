@@ -1,4 +1,4 @@
-use Rattle.std.proofs.Common.{refl, sym, ap}
+use Rattle.std.proofs.Common.{refl}
 use Rattle.std.proofs.lemmas.List.{take_rest}
 use Rattle.fix_frame.proofs.Steps.{gives_here}
 use Rattle.fix_frame.proofs.reader.Reader.next.Goals as goal
