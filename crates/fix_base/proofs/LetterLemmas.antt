@@ -26,47 +26,14 @@ use Rattle.fix_base.specs.Wrote as wrote
 use Rattle.fix_base.specs.Wrote.{IsSealed, original_fields, Wrote}
 use Rattle.fix_base.proofs.Digits.{numerals, digits_no_soh}
 use Rattle.fix_base.proofs.PlainFields.{IsPlainField, plain_fields}
+use Rattle.fix_base.proofs.ShortFields.{clear_of, comp_id_clear, comp_id_short, IsShortField, short_fields}
 use Rattle.fix_base.proofs.TimeTexts.{any_time_text_no_soh}
 use Rattle.fix_base.proofs.Seals.{sealed_is_frame}
 use Rattle.fix_base.proofs.ListLemmas.{prefix_of_nothing}
 use Rattle.fix_base.proofs.WrittenLemmas.{original_is, app_original}
 
-and_both : (a b : Bool) → (a && b) ≡ true → (a ≡ true) × (b ≡ true)
-and_both true b e = (refl, e)
-and_both false b e = cc
-
--- ---- values with no SOH
-
-clear_of : (p : ℕ → Bool) (text : List ℕ) → p 1 ≡ false → list_all p text ≡ true → HasNoSoh text
-clear_of p text other all k lt e = let wrong = list_all_at p text k 0 lt (ap p e ∙ other) in cc
-
-comp_id_clear : (text : List ℕ) → IsTrue (is_comp_id text) → HasNoSoh text
-comp_id_clear text h = clear_of (λ b. nat_le 32 b && nat_le b 126) text refl (and_both _ _ (and_both _ _ h).1).1
-
-comp_id_short : (text : List ℕ) → IsTrue (is_comp_id text) → length text ≤ 64
-comp_id_short text h = leb-true (length text) 64 (and_both _ _ (and_both _ _ h).1).0
-
 number_clear : HasNoSoh (decimal 1)
 number_clear = digits_no_soh (decimal 1) (digits_decimal numerals 1 (lit< tt))
-
--- ---- short fields
-
-record IsShortField (f : Field) : Type 0 where
-  last : f.tag ≤ 999999999
-  short : length f.value ≤ 64
-
-text_long : (tag value : List ℕ) → length (tag ++ 61 ∷ value ++ 1 ∷ []) ≡ length tag + length value + 2
-text_long tag value = omega (arith, length-append (tag ++ 61 ∷ value) (1 ∷ []), length-append tag (61 ∷ value))
-
-short_field : (f : Field) → IsShortField f → length (field_text f) ≤ 100
-short_field f h =
-    let low = h.last in
-    let tag = length-decimal-le 9 f.tag (lit< tt) (omega arith) (omega arith) in
-    omega (arith, text_long (decimal f.tag) f.value, tag, h.short)
-
-short_fields : (fs : List Field) → AllByRecursion IsShortField fs → length (fields_text fs) ≤ 100 * length fs
-short_fields [] each = lit≤ tt
-short_fields (f ∷ fs) each = omega (arith, length-append (field_text f) (fields_text fs), short_field f each.0, short_fields fs each.1)
 
 -- ---- the time 0
 

@@ -1,0 +1,13 @@
+-- What `begin` comes to.
+use Rattle.std.proofs.Common.{◌≡◌, ℕ, List, Result, Ok, Err}
+use Rattle.std.specs.Prelude.{None}
+use Rattle.fix_base.specs.Seen.{Note}
+use Rattle.fix_engine.specs.declared.stop.BeginFault.{BeginFault}
+use Rattle.fix_engine.specs.Run.{Seat, Opens, opened, no_reading, not_opened, BeginsTo, opened_to, no_memory, no_memory_to_open, stopped_for_memory, begun}
+
+pub begins_ok : {T : Type 0} (old : Seat) (x : T) (t : ℕ) (notes : List Note) → Opens (Ok t) notes → BeginsTo old (Ok x) (record { identity = old.identity; live = begun old.live t; stopped = None }) notes
+begins_ok old x t notes (opened u) = opened_to u
+
+pub begins_err : {T : Type 0} (old : Seat) (fault : BeginFault) (notes : List Note) → Opens (Err fault) notes → BeginsTo {T = T} old (Err fault) (stopped_for_memory old) notes
+begins_err old fault notes no_reading = no_memory
+begins_err old fault notes (not_opened t) = no_memory_to_open t

@@ -1,0 +1,13 @@
+-- What the calls of one step may come to, for the exits that need no more.
+use Rattle.fix_base.proofs.SeenLemmas.{Moves-nil, Moves-append}
+use Rattle.fix_engine.specs.Answer.{nothing, count, go_up, close, give_up, hand_memory, spent, keep_memory, keep_lost, write_memory}
+use Rattle.fix_engine.specs.Turn.{same, kept, expect_lost, expect_memory, now, now_memory}
+
+-- what a step may come to
+pub ruleset steps = (Moves-nil, nothing, count, go_up, close, give_up, hand_memory)
+
+-- what a sending may come to
+pub ruleset sendings = (Moves-nil, Moves-append, spent, keep_memory, keep_lost, write_memory)
+
+-- what keeping the expected number, or a look at the clock, may come to
+pub ruleset keepings = (Moves-nil, same, kept, expect_lost, expect_memory, now, now_memory)

@@ -1,0 +1,10 @@
+pub mod FoldLemmas
+pub mod FrameLemmas
+pub mod InboundLemmas
+pub mod SaidLemmas
+pub mod Carrying
+pub mod Begun
+pub mod TakenLemmas
+pub mod BeginLemmas
+pub mod Causes
+pub mod Phases

@@ -1,0 +1,20 @@
+use Rattle.std.proofs.Common.{rules}
+use Rattle.std.proofs.lemmas.Result.{err_from_is_err_and}
+use Rattle.fix_engine.specs.Turn.{OneTurn}
+use Rattle.fix_engine.proofs.FoldLemmas.{counts_on, count_stopped, count_finished}
+use Rattle.fix_engine.proofs.turn.run.Goals as goal
+
+pub returns-in_err-turn-clause-notes : goal.returns-in_err-turn-clause-notes
+returns-in_err-turn-clause-notes g c =
+    let p = err_from_is_err_and c.from_residual.result c.from_residual.ensures.1 in
+    rw (p.1, p.2) (count_stopped (OneTurn c.args.party.now.identity) _ _ _ _ _ _ _ _ _ c.loop-done-test.true c.loop-done.invariant.done c.in_err-turn.ensures.notes)
+
+pub loop-done-preserved : goal.loop-done-preserved
+loop-done-preserved g c = record {
+  range = c.turn.ensures.range;
+  room = search rules;
+  done = counts_on (OneTurn c.args.party.now.identity) _ _ _ _ _ _ _ _ c.loop-done-test.true c.loop-done.invariant.done c.in_ok-turn.ensures.notes;
+}
+
+pub returns-clause-notes : goal.returns-clause-notes
+returns-clause-notes g c = count_finished (OneTurn c.args.party.now.identity) _ _ _ _ _ _ c.loop-done-test.false c.loop-done.invariant.done

@@ -1,0 +1,9 @@
+pub mod Outside
+pub mod State
+pub mod Fold
+pub mod Inbound
+pub mod Presented
+pub mod Answer
+pub mod Written
+pub mod Turn
+pub mod Run

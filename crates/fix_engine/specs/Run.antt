@@ -1,0 +1,100 @@
+-- What the calls of a session answer, and when.
+use Rattle.std.specs.Prelude.{◌≡◌, ◌≢◌, ℕ, List, [], ◌∷◌, Bool, true, Option, Some, None, Result, Ok, Err, ⊤, min}
+use Rattle.fix_base.specs.declared.identity.Identity.{Identity}
+use Rattle.fix_base.specs.Payload.{LAST_TIME}
+use Rattle.fix_base.specs.Stream.{Ahead}
+use Rattle.fix_base.specs.declared.act.Act.TheVariants as act
+use Rattle.fix_base.specs.Seen.{Faults, Note, Did, Rises}
+use Rattle.fix_engine.specs.State.{State, Phase, Down, AwaitLogon, Ending, first_state}
+use Rattle.fix_engine.specs.declared.state.Ending.TheVariants as ending
+use Rattle.fix_engine.specs.declared.stop.RunEnd.{RunEnd}
+use Rattle.fix_engine.specs.declared.stop.RunEnd.TheVariants as run
+use Rattle.fix_engine.specs.declared.stop.StopCause.{StopCause}
+use Rattle.fix_engine.specs.declared.stop.StopCause.TheVariants as cause
+use Rattle.fix_engine.specs.declared.stop.BeginFault.{BeginFault}
+use Rattle.fix_engine.specs.declared.stop.BeginFault.TheVariants as begins
+use Rattle.fix_engine.specs.Turn.{Live, live, Ran}
+
+-- what a session is seen as
+pub record Seat : Type 0 where
+  pub identity : Identity
+  pub live : Live
+  pub stopped : Option StopCause
+
+-- the first place of a stream
+abbrev pub no_bytes : Ahead
+no_bytes = record { may_mark = true; bytes = [] }
+
+-- what a run answers
+abbrev pub run_end : Result ⊤ Ending → RunEnd
+run_end (Ok x) = run.TurnsSpent
+run_end (Err (ending.Closed why)) = run.Closed why
+run_end (Err (ending.NotBuilt n)) = run.NotBuilt n
+run_end (Err ending.StoreFault) = run.StoreFault
+run_end (Err ending.LinkFault) = run.LinkFault
+run_end (Err ending.AppFault) = run.AppFault
+run_end (Err ending.NumbersSpent) = run.NumbersSpent
+run_end (Err ending.OutOfMemory) = run.OutOfMemory
+
+-- these notes are a run of at most n turns with this answer, and this is behind it
+pub record RanTo (id : Identity) (n : ℕ) (l : Live) (answer : RunEnd) (to : Live) (notes : List Note) : Type 0 where
+  pub r : Result ⊤ Ending
+  pub answered : answer ≡ run_end r
+  pub ran : Ran id n l notes r to
+
+-- why the session is stopped after this answer
+abbrev pub stop_cause : RunEnd → Option StopCause
+stop_cause run.TurnsSpent = None
+stop_cause (run.Closed why) = None
+stop_cause (run.NotBuilt n) = None
+stop_cause run.LinkFault = None
+stop_cause run.NumbersSpent = None
+stop_cause run.StoreFault = Some cause.StoreFault
+stop_cause run.AppFault = Some cause.AppFault
+stop_cause run.OutOfMemory = Some cause.OutOfMemory
+stop_cause (run.Stopped c) = Some c
+
+-- a fault of a part is answered only where that part's count rose
+abbrev pub RunHasCause : RunEnd → Faults → Faults → Type 0
+RunHasCause run.StoreFault old new = Rises 1 old.store new.store
+RunHasCause run.LinkFault old new = Rises 1 old.link new.link
+RunHasCause run.AppFault old new = Rises 1 old.app new.app
+RunHasCause run.TurnsSpent old new = ⊤
+RunHasCause (run.Closed why) old new = ⊤
+RunHasCause (run.NotBuilt n) old new = ⊤
+RunHasCause run.NumbersSpent old new = ⊤
+RunHasCause run.OutOfMemory old new = ⊤
+RunHasCause (run.Stopped c) old new = ⊤
+
+-- the phase behind an answer: a session goes on only where all its turns were made
+abbrev pub IsDownUnlessSpent : RunEnd → Phase → Phase → Type 0
+IsDownUnlessSpent run.TurnsSpent old new = new ≢ Down
+IsDownUnlessSpent (run.Closed why) old new = new ≡ Down
+IsDownUnlessSpent (run.NotBuilt n) old new = new ≡ Down
+IsDownUnlessSpent run.StoreFault old new = new ≡ Down
+IsDownUnlessSpent run.LinkFault old new = new ≡ Down
+IsDownUnlessSpent run.AppFault old new = new ≡ Down
+IsDownUnlessSpent run.NumbersSpent old new = new ≡ Down
+IsDownUnlessSpent run.OutOfMemory old new = new ≡ Down
+IsDownUnlessSpent (run.Stopped c) old new = new ≡ old
+
+-- what comes of opening a connection, with the reading
+pub data Opens : Result ℕ BeginFault → List Note → Type 0 where
+  opened : (t : ℕ) → Opens (Ok t) (Did (act.Now t) ∷ Did act.Opened ∷ [])
+  no_reading : Opens (Err begins.OutOfMemory) []
+  not_opened : (t : ℕ) → Opens (Err begins.OutOfMemory) (Did (act.Now t) ∷ [])
+
+-- a session on a new connection, from this reading on
+abbrev pub begun : Live → ℕ → Live
+begun l t = live (record { phase = AwaitLogon; expected = l.state.expected; kept = l.state.kept; last = l.state.last; reading = min t LAST_TIME }) no_bytes
+
+-- what a session is that memory was refused to
+abbrev pub stopped_for_memory : Seat → Seat
+stopped_for_memory old = record { identity = old.identity; live = old.live; stopped = Some cause.OutOfMemory }
+
+-- what comes of `begin` on a session that goes on: on Ok it waits for a Logon on the new connection, and where memory
+-- was refused it is stopped
+pub data BeginsTo {T : Type 0} (old : Seat) : Result T BeginFault → Seat → List Note → Type 0 where
+  opened_to : {x : T} (t : ℕ) → BeginsTo old (Ok x) (record { identity = old.identity; live = begun old.live t; stopped = None }) (Did (act.Now t) ∷ Did act.Opened ∷ [])
+  no_memory : BeginsTo old (Err begins.OutOfMemory) (stopped_for_memory old) []
+  no_memory_to_open : (t : ℕ) → BeginsTo old (Err begins.OutOfMemory) (stopped_for_memory old) (Did (act.Now t) ∷ [])

@@ -1,0 +1,50 @@
+ghost use Rattle.std.specs.Prelude.{◌≡◌, ◌≤◌};
+ghost use Rattle.fix_base.specs.Session.{IsValidIdentity};
+ghost use Rattle.fix_base.specs.Shape.{IsFrame};
+ghost use Rattle.fix_base.specs.Seen.{Goes};
+ghost use Rattle.fix_engine.specs.State.{IsInRange};
+ghost use Rattle.fix_engine.specs.Answer.{Handled};
+ghost use Rattle.fix_engine.specs.Turn.{live, Taken};
+
+use crate::inbound::present;
+use crate::machine::decide;
+use crate::party::Party;
+use crate::performing::carry_out;
+use crate::{Ending, Outside, State};
+use fix_frame::Reader;
+
+// Answers one frame.
+fn handle<O: Outside>(
+    o: &mut O,
+    party: &Party,
+    state: &mut State,
+    frame: &[u8],
+) -> Result<(), Ending>
+    requires valid { IsValidIdentity party.now.identity }
+    requires frame { IsFrame frame.now }
+    requires range { IsInRange state.old }
+    ensures range { IsInRange state.new }
+    ensures notes { Goes (O.seen o.old) (O.seen o.new) (λ notes. Handled party.now.identity state.old frame.now notes result state.new) }
+{
+    let inbound = present(frame);
+    let decision = decide(&party.identity, state, &inbound);
+    carry_out(o, party, &inbound, state, &decision.steps)
+}
+
+/// Answers the frames that stand whole in what was read, in order, until one ends the run.
+pub fn take_frames<O: Outside>(
+    o: &mut O,
+    party: &Party,
+    state: &mut State,
+    reader: &mut Reader,
+) -> Result<(), Ending>
+    requires valid { IsValidIdentity party.now.identity }
+    requires range { IsInRange state.old }
+    ensures range { IsInRange state.new }
+    ensures notes { Goes (O.seen o.old) (O.seen o.new) (λ notes. Taken party.now.identity (live state.old reader.old) notes result (live state.new reader.new)) }
+{
+    while let Some(frame) = reader.next() {
+        handle(o, party, state, frame)?;
+    }
+    Ok(())
+}

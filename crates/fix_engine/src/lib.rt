@@ -1,0 +1,21 @@
+//! Carries out a session over an Outside: bytes come in as frames, each is answered, and the answer's
+//! steps are done in order.
+#![tactic(auto)]
+
+mod handling;
+mod inbound;
+mod machine;
+mod outbound;
+mod outside;
+mod party;
+mod performing;
+mod session;
+mod state;
+mod stop;
+mod turn;
+mod writing;
+
+pub use outside::{KeepFault, Outside};
+pub use session::Session;
+pub use state::{Decision, Ending, Phase, Refusal, Say, State, Step, Why};
+pub use stop::{BeginFault, RunEnd, StopCause};

@@ -1,0 +1,106 @@
+ghost use Rattle.std.specs.Prelude.{◌≡◌, ◌≤◌, ℕ, List, IfOk};
+ghost use Rattle.fix_base.specs.Session.{IsValidIdentity};
+ghost use Rattle.fix_base.specs.Payload.{LAST_TIME};
+ghost use Rattle.fix_base.specs.Seen.{Goes};
+ghost use Rattle.fix_engine.specs.State.{IsInRange, counted};
+ghost use Rattle.fix_engine.specs.Answer.{IsSaid, Performed, kind_of, entry_of};
+ghost use Rattle.fix_engine.specs.declared.state.Step.TheVariants as step;
+
+use crate::party::Party;
+use crate::writing::{header, rest};
+use crate::{Ending, KeepFault, Outside, Say, State};
+use fix_base::{Bytes, Entry, OutOfMemory, Record, SeqNum};
+use fix_frame::{SealFault, seal};
+use fix_parts::WriteTurn;
+
+/// The greatest outbound MsgSeqNum (34).
+const LAST_NUMBER: u32 = 999_999_999;
+
+// MsgType (35) of what is said, as the kind of its entry.
+fn kind(say: Say) -> u8
+    ensures { result ≡ kind_of say }
+{
+    match say {
+        Say::Logon { .. } => b'A',
+        Say::Logout => b'5',
+    }
+}
+
+// The frame of what is said under this number, sent at this time.
+fn frame_of(party: &Party, number: u32, time: u64, say: Say) -> Result<Bytes, OutOfMemory>
+    requires valid { IsValidIdentity party.now.identity }
+    requires last { number ≤ 999999999 }
+    requires time { time ≤ LAST_TIME }
+    ensures { IfOk result (λ text. IsSaid party.now.identity number time say text) }
+{
+    let header = header(party.alloc, &party.identity, number, time)?;
+    let rest = rest(party.alloc, say)?;
+    let kind = [kind(say)];
+    match seal(party.alloc, party.identity.begin, &kind, &header, &rest) {
+        Ok(frame) => Ok(frame),
+        Err(SealFault::OutOfMemory) => Err(OutOfMemory),
+        // A header and two short fields are far below the greatest BodyLength.
+        Err(SealFault::TooLarge { .. }) => unreachable!(),
+    }
+}
+
+// The record of the entry that is kept of what is said now.
+fn record_of(state: &State, say: Say) -> Record
+    ensures { result ≡ Record.Push (entry_of state.now say) }
+{
+    Record::Push(Entry::Admin {
+        time: state.reading,
+        kind: kind(say),
+        about: 0,
+    })
+}
+
+// Counts the inbound message, where there is one.
+fn count(state: &mut State, counts: Option<SeqNum>)
+    requires { IsInRange state.old }
+    ensures range { IsInRange state.new }
+    ensures counted { state.new ≡ counted state.old counts }
+{
+    if let Some(number) = counts {
+        state.expected = number.get() + 1;
+    }
+}
+
+/// Takes the next outbound number, keeps the entry, and then writes the frame.
+#[tactic(auto, using(crate::proofs::Carrying::sendings))]
+pub fn send<O: Outside>(
+    o: &mut O,
+    party: &Party,
+    state: &mut State,
+    say: Say,
+    counts: Option<SeqNum>,
+) -> Result<(), Ending>
+    requires valid { IsValidIdentity party.now.identity }
+    requires range { IsInRange state.old }
+    ensures range { IsInRange state.new }
+    ensures notes { (frame : List ℕ) → Goes (O.seen o.old) (O.seen o.new) (λ notes. Performed party.now.identity frame state.old (step.Send say counts) notes result state.new) }
+{
+    if state.last >= LAST_NUMBER {
+        return Err(Ending::NumbersSpent);
+    }
+    // Memory is taken first: a refusal leaves nothing kept.
+    let frame = match frame_of(party, state.last + 1, state.reading, say) {
+        Ok(frame) => frame,
+        Err(_) => return Err(Ending::OutOfMemory),
+    };
+    match o.keep(&record_of(state, say)) {
+        Ok(()) => {}
+        Err(KeepFault::Failed) => return Err(Ending::StoreFault),
+        Err(KeepFault::OutOfMemory) => return Err(Ending::OutOfMemory),
+    }
+    // Only what is kept goes out: else a crash could leave a number that was used and isn't known.
+    state.last += 1;
+    match o.write(frame.as_slice()) {
+        WriteTurn::Done => Ok(()),
+        WriteTurn::Failed(_) => {
+            count(state, counts);
+            Err(Ending::LinkFault)
+        }
+        WriteTurn::OutOfMemory => Err(Ending::OutOfMemory),
+    }
+}

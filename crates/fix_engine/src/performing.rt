@@ -1,0 +1,102 @@
+ghost use Rattle.std.specs.Prelude.{◌≡◌, ◌≤◌, ◌+◌, IfOk, List};
+ghost use Rattle.fix_base.specs.Session.{IsValidIdentity};
+ghost use Rattle.fix_base.specs.Shape.{IsFrame};
+ghost use Rattle.fix_base.specs.Seen.{Goes};
+ghost use Rattle.fix_engine.specs.State.{IsInRange};
+ghost use Rattle.fix_engine.specs.Answer.{Performed, Carried};
+ghost use Rattle.fix_engine.specs.declared.state.Step.TheVariants as step;
+
+use crate::inbound::Presented;
+use crate::outbound::send;
+use crate::party::Party;
+use crate::{Ending, Outside, Phase, State, Step};
+use fix_base::SeqNum;
+use fix_fields::body_of;
+use fix_parts::{Handed, Said};
+
+// Hands the message over.
+fn hand<O: Outside>(
+    o: &mut O,
+    party: &Party,
+    inbound: &Presented<'_>,
+    state: &State,
+    number: SeqNum,
+    marked: bool,
+) -> Result<(), Ending>
+    requires { IsFrame inbound.now.frame.now }
+    ensures { Goes (O.seen o.old) (O.seen o.new) (λ notes. Performed party.now.identity inbound.entry.now.frame.now state.now (step.Hand number marked) notes result state.now) }
+{
+    let body = match body_of(party.alloc, inbound.frame) {
+        Ok(body) => body,
+        Err(_) => return Err(Ending::OutOfMemory),
+    };
+    let handed = Handed {
+        number: number.get(),
+        marked,
+        kind: inbound.head.kind,
+        body: body.as_slice(),
+    };
+    match o.hand(&handed) {
+        Said::Taken => Ok(()),
+        Said::Failed => Err(Ending::AppFault),
+        Said::OutOfMemory => Err(Ending::OutOfMemory),
+    }
+}
+
+// Does one step.
+#[tactic(auto, using(crate::proofs::Carrying::steps))]
+fn perform<O: Outside>(
+    o: &mut O,
+    party: &Party,
+    inbound: &Presented<'_>,
+    state: &mut State,
+    step: Step,
+) -> Result<(), Ending>
+    requires valid { IsValidIdentity party.now.identity }
+    requires frame { IsFrame inbound.now.frame.now }
+    requires range { IsInRange state.old }
+    ensures range { IsInRange state.new }
+    ensures notes { Goes (O.seen o.old) (O.seen o.new) (λ notes. Performed party.now.identity inbound.entry.now.frame.now state.old step notes result state.new) }
+{
+    match step {
+        Step::Nothing => Ok(()),
+        Step::Count(number) => {
+            state.expected = number.get() + 1;
+            Ok(())
+        }
+        Step::GoUp => {
+            state.phase = Phase::Up;
+            Ok(())
+        }
+        Step::Close(why) => {
+            state.phase = Phase::Down;
+            Err(Ending::Closed(why))
+        }
+        Step::GiveUp { number } => {
+            state.phase = Phase::Down;
+            Err(Ending::NotBuilt { number })
+        }
+        Step::Hand { number, marked } => hand(o, party, inbound, state, number, marked),
+        Step::Send { say, counts } => send(o, party, state, say, counts),
+    }
+}
+
+/// Does the steps of an answer in order, until one ends the run.
+pub fn carry_out<O: Outside>(
+    o: &mut O,
+    party: &Party,
+    inbound: &Presented<'_>,
+    state: &mut State,
+    steps: &[Step],
+) -> Result<(), Ending>
+    requires valid { IsValidIdentity party.now.identity }
+    requires frame { IsFrame inbound.now.frame.now }
+    requires range { IsInRange state.old }
+    ensures range { IsInRange state.new }
+    ensures notes { Goes (O.seen o.old) (O.seen o.new) (λ notes. Carried party.now.identity inbound.entry.now.frame.now state.old steps.now notes result state.new) }
+{
+    for step in steps {
+        perform(o, party, inbound, state, *step)?;
+    }
+    Ok(())
+}

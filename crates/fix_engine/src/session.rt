@@ -1,0 +1,204 @@
+ghost use Rattle.std.specs.Prelude.{◌≡◌, ◌≢◌, IfSome, IfNone, IfOk, OnOk, OnErr, Some, None, Err};
+ghost use Rattle.fix_base.specs.Session.{IsValidIdentity};
+ghost use Rattle.fix_base.specs.Seen.{Goes};
+ghost use Rattle.fix_engine.specs.State.{IsInRange, first_state};
+ghost use Rattle.fix_engine.specs.Turn.{live};
+ghost use Rattle.fix_engine.specs.Run.{no_bytes, run_end, RanTo, stop_cause, RunHasCause, IsDownUnlessSpent, Opens, BeginsTo};
+
+use crate::party::Party;
+use crate::turn::{ROOM, run_and_cut, take_reading};
+use crate::{BeginFault, Ending, Outside, Phase, RunEnd, State, StopCause};
+use fix_base::{Identity, OutOfMemory};
+use fix_frame::Reader;
+use std::alloc::Global;
+use std::marker::Model;
+
+/// One session: it outlives its connections. Contracts see its identity, its state with the bytes
+/// that no frame was taken from yet, and why it is stopped, if it is.
+#[derive(Drop)]
+pub struct Session {
+    party: Party,
+    state: State,
+    reader: Reader,
+    room: Vec<u8>,
+    stopped: Option<StopCause>,
+}
+
+impl Model for Session {
+    ghost use Rattle.std.specs.Prelude.{◌≡◌, length};
+    ghost use Rattle.fix_base.specs.Session.{IsValidIdentity};
+    ghost use Rattle.fix_engine.specs.State.{IsInRange};
+    ghost use Rattle.fix_engine.specs.Turn.{live};
+    ghost use Rattle.fix_engine.specs.Run.{Seat};
+
+    ghost Value = { Seat };
+
+    ghost view = { λ s. record { identity = s.party.identity; live = live s.state s.reader; stopped = s.stopped } };
+
+    ghost invariant = { λ s. IsValidIdentity s.party.identity × IsInRange s.state × (length s.room.items ≡ 65536) };
+}
+
+// Reads the clock, and notes that a connection is opened.
+fn open_connection<O: Outside>(o: &mut O) -> Result<u64, BeginFault>
+    ensures { Goes (O.seen o.old) (O.seen o.new) (Opens result) }
+{
+    match o.now() {
+        Ok(reading) => match o.mark(false) {
+            Ok(()) => Ok(reading),
+            Err(_) => Err(BeginFault::OutOfMemory),
+        },
+        Err(_) => Err(BeginFault::OutOfMemory),
+    }
+}
+
+// What a run answers.
+fn answer_of(ran: &Result<(), Ending>) -> RunEnd
+    ensures { result ≡ run_end ran.now }
+{
+    match ran {
+        Ok(()) => RunEnd::TurnsSpent,
+        Err(Ending::Closed(why)) => RunEnd::Closed(*why),
+        Err(Ending::NotBuilt { number }) => RunEnd::NotBuilt { number: *number },
+        Err(Ending::StoreFault) => RunEnd::StoreFault,
+        Err(Ending::LinkFault) => RunEnd::LinkFault,
+        Err(Ending::AppFault) => RunEnd::AppFault,
+        Err(Ending::NumbersSpent) => RunEnd::NumbersSpent,
+        Err(Ending::OutOfMemory) => RunEnd::OutOfMemory,
+    }
+}
+
+// Why the session is stopped after this answer.
+fn stop_of(answer: RunEnd) -> Option<StopCause>
+    ensures { result ≡ stop_cause answer }
+{
+    match answer {
+        RunEnd::TurnsSpent => None,
+        RunEnd::Closed(_) => None,
+        RunEnd::NotBuilt { .. } => None,
+        RunEnd::LinkFault => None,
+        RunEnd::NumbersSpent => None,
+        RunEnd::StoreFault => Some(StopCause::StoreFault),
+        RunEnd::AppFault => Some(StopCause::AppFault),
+        RunEnd::OutOfMemory => Some(StopCause::OutOfMemory),
+        RunEnd::Stopped(cause) => Some(cause),
+    }
+}
+
+impl Session {
+    /// A session of which nothing is stored, as acceptor. Both CompIDs must be ones: 1 to 64 bytes
+    /// from 0x20 to 0x7E.
+    pub fn open(alloc: Global, identity: Identity) -> Result<Session, OutOfMemory>
+        requires { IsValidIdentity identity }
+        ensures { IfOk result (λ made. made ≡ record { identity = identity; live = live first_state no_bytes; stopped = None }) }
+    {
+        Ok(Session {
+            reader: Reader::new(alloc)?,
+            room: vec![in alloc; 0u8; ROOM]?,
+            party: Party { alloc, identity },
+            state: State {
+                phase: Phase::Down,
+                expected: 1,
+                kept: 1,
+                last: 0,
+                reading: 0,
+            },
+            stopped: None,
+        })
+    }
+
+    /// Begins a connection: reads the clock once, and waits for the counterparty's Logon. The
+    /// phase must be Down. A stopped session answers `Stopped` and calls nothing.
+    pub fn begin<O: Outside>(&mut self, o: &mut O) -> Result<(), BeginFault>
+        requires { IfNone self.old.stopped (self.old.live.state.phase ≡ Phase.Down) }
+        // On a stopped session.
+        ensures stopped { IfSome self.old.stopped (λ cause. result ≡ Err (BeginFault.Stopped cause)) }
+        ensures calls_none { IfSome self.old.stopped (λ cause. o.new ≡ o.old) }
+        ensures stays { IfSome self.old.stopped (λ cause. self.new ≡ self.old) }
+
+        // On a session that goes on.
+        ensures begins { IfNone self.old.stopped (Goes (O.seen o.old) (O.seen o.new) (BeginsTo self.old result self.new)) }
+    {
+        if let Some(cause) = self.stopped {
+            return Err(BeginFault::Stopped(cause));
+        }
+        let reader = match Reader::new(self.party.alloc) {
+            Ok(reader) => reader,
+            Err(_) => {
+                self.stopped = Some(StopCause::OutOfMemory);
+                return Err(BeginFault::OutOfMemory);
+            }
+        };
+        match open_connection(o) {
+            Ok(reading) => {
+                take_reading(&mut self.state, reading);
+                self.state.phase = Phase::AwaitLogon;
+                self.reader = reader;
+                Ok(())
+            }
+            Err(fault) => {
+                self.stopped = Some(StopCause::OutOfMemory);
+                Err(fault)
+            }
+        }
+    }
+
+    /// Makes at most `turns` turns: in each it reads once, answers the messages that this
+    /// completes, reads the clock once, and keeps the expected number. The phase must not be
+    /// Down. A stopped session answers `Stopped` and calls nothing.
+    pub fn run_turns<O: Outside>(&mut self, o: &mut O, turns: u64) -> RunEnd
+        requires { IfNone self.old.stopped (self.old.live.state.phase ≢ Phase.Down) }
+        // On a stopped session.
+        ensures stopped { IfSome self.old.stopped (λ cause. result ≡ RunEnd.Stopped cause) }
+        ensures calls_none { IfSome self.old.stopped (λ cause. o.new ≡ o.old) }
+        ensures stays { IfSome self.old.stopped (λ cause. self.new ≡ self.old) }
+
+        // On a session that goes on: what it did, what it answers, and what it is then.
+        ensures runs { IfNone self.old.stopped (Goes (O.seen o.old) (O.seen o.new) (RanTo self.old.identity turns self.old.live result self.new.live)) }
+        ensures identity { self.new.identity ≡ self.old.identity }
+        ensures stops { IfNone self.old.stopped (self.new.stopped ≡ stop_cause result) }
+        ensures cause { IfNone self.old.stopped (RunHasCause result (O.seen o.old).faults (O.seen o.new).faults) }
+        ensures phase { IfNone self.old.stopped (IsDownUnlessSpent result self.old.live.state.phase self.new.live.state.phase) }
+    {
+        if let Some(cause) = self.stopped {
+            return RunEnd::Stopped(cause);
+        }
+        let ran = run_and_cut(
+            o,
+            &self.party,
+            &mut self.state,
+            &mut self.reader,
+            &mut self.room,
+            turns,
+        );
+        let answer = answer_of(&ran);
+        self.stopped = stop_of(answer);
+        answer
+    }
+
+    pub fn phase(&self) -> Phase
+        ensures { result ≡ self.now.live.state.phase }
+    {
+        self.state.phase
+    }
+
+    /// The inbound MsgSeqNum (34) that is expected next, 1 to 1,000,000,000.
+    pub fn expected(&self) -> u32
+        ensures { result ≡ self.now.live.state.expected }
+    {
+        self.state.expected
+    }
+
+    /// The last outbound MsgSeqNum (34), 0 where nothing was sent.
+    pub fn last(&self) -> u32
+        ensures { result ≡ self.now.live.state.last }
+    {
+        self.state.last
+    }
+
+    /// Why the session is stopped, if it is.
+    pub fn stopped(&self) -> Option<StopCause>
+        ensures { result ≡ self.now.stopped }
+    {
+        self.stopped
+    }
+}

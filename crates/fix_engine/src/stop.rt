@@ -1,0 +1,41 @@
+use crate::Why;
+
+/// Why a session does nothing any more.
+#[derive(Clone, Copy, Debug, PartialEq, Eq)]
+pub enum StopCause {
+    StoreFault,
+    AppFault,
+    OutOfMemory,
+}
+
+/// How a call of `run_turns` ended.
+#[derive(Clone, Copy, Debug, PartialEq, Eq)]
+pub enum RunEnd {
+    /// All turns were made, and the connection goes on.
+    TurnsSpent,
+    /// The connection was closed.
+    Closed(Why),
+    /// The message store failed. The session is stopped.
+    StoreFault,
+    /// The connection failed.
+    LinkFault,
+    /// The application failed. The session is stopped.
+    AppFault,
+    /// A message must be sent, and every outbound MsgSeqNum is used.
+    NumbersSpent,
+    /// The session was stopped before.
+    Stopped(StopCause),
+    /// Memory was refused. The session is stopped.
+    OutOfMemory,
+    /// A message came that the engine doesn't answer yet. The number is 0 where none was readable.
+    NotBuilt { number: u32 },
+}
+
+/// Why no connection was begun.
+#[derive(Clone, Copy, Debug, PartialEq, Eq)]
+pub enum BeginFault {
+    /// The session was stopped before.
+    Stopped(StopCause),
+    /// Memory was refused. The session is stopped.
+    OutOfMemory,
+}
