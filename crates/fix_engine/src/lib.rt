@@ -5,10 +5,12 @@
 mod handling;
 mod inbound;
 mod machine;
+mod memory_store;
 mod outbound;
 mod outside;
 mod party;
 mod performing;
+mod plain;
 mod session;
 mod state;
 mod stop;
@@ -16,6 +18,7 @@ mod turn;
 mod writing;
 
 pub use outside::{KeepFault, Outside};
+pub use plain::Plain;
 pub use session::Session;
 pub use state::{Decision, Ending, Phase, Refusal, Say, State, Step, Why};
 pub use stop::{BeginFault, RunEnd, StopCause};
