@@ -1,0 +1,18 @@
+use Rattle.std.proofs.Common.{[], ◌∷◌}
+use Rattle.fix_base.proofs.SeenLemmas.{Moves-nil}
+use Rattle.fix_top.specs.Serve.{not_opened, not_begun}
+use Rattle.fix_top.proofs.ServeLemmas.{begun-ran}
+use Rattle.fix_top.proofs.serve.serve.Goals as goal
+
+pub returns-in-Err-clause-serves : goal.returns-in-Err-clause-serves
+returns-in-Err-clause-serves g c = ([], Moves-nil _, not_opened)
+
+pub returns-in-Ok-begin-clause-serves : goal.returns-in-Ok-begin-clause-serves
+returns-in-Ok-begin-clause-serves g c =
+    let b = rw c.in-Ok.ensures at c.in-Ok-begin.ensures.begins in
+    rw c.status.ensures (begun-ran _ _ _ _ _ _ _ _ _ _ b.1 b.2 c.run_turns.ensures.runs)
+
+pub returns-clause-serves : goal.returns-clause-serves
+returns-clause-serves g c =
+    let b = rw c.in-Ok.ensures at c.in-Err-begin.ensures.begins in
+    (b.0, b.1, not_begun b.2)

@@ -1,0 +1,12 @@
+//! Serves a session over an Outside, by the words that a program is started with.
+#![tactic(auto)]
+
+mod serve;
+mod status;
+mod words;
+
+#[cfg(test)]
+mod tests;
+
+pub use serve::serve_stdio;
+pub use status::status_name;

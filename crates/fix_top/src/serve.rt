@@ -1,0 +1,57 @@
+ghost use Rattle.std.specs.Prelude.{◌≡◌, ◌≢◌, ◌↔◌, map, IfSome};
+ghost use Rattle.fix_base.specs.End.{new_end};
+ghost use Rattle.fix_base.specs.declared.identity.Identity.{Identity as TheIdentity};
+ghost use Rattle.fix_base.specs.Session.{IsValidIdentity};
+ghost use Rattle.fix_base.specs.Seen.{Goes};
+ghost use Rattle.fix_top.specs.Words.{IsForm, IsNoForm};
+ghost use Rattle.fix_top.specs.Serve.{Served, StatusHasCause};
+
+use crate::status::{MEMORY, WORDS, status};
+use crate::words::{identity_from, read_words};
+use fix_base::{Identity, Status};
+use fix_engine::{Outside, Session};
+use std::alloc::Global;
+
+// Serves one connection of a new session.
+fn serve<O: Outside>(alloc: Global, identity: Identity, o: &mut O, turns: u64) -> Status
+    requires { IsValidIdentity identity }
+    ensures serves { Goes (O.seen o.old) (O.seen o.new) (Served identity turns result.0) }
+    ensures cause { StatusHasCause result.0 (O.seen o.old).faults (O.seen o.new).faults }
+    ensures words { result.0 ≢ 2 }
+{
+    let mut session = match Session::open(alloc, identity) {
+        Ok(session) => session,
+        Err(_) => return MEMORY,
+    };
+    match session.begin(o) {
+        Ok(()) => status(session.run_turns(o, turns)),
+        Err(_) => MEMORY,
+    }
+}
+
+/// Serves one session over one connection, as acceptor, in at most `turns` turns. The words are
+/// `--stdio`, BeginString (FIX.4.2 or FIX.4.4), this program's own CompID, and the counterparty's.
+/// The store must be a new one, where it is told.
+///
+/// The status is 0 only where the counterparty's Logout was answered, 1 where the connection
+/// closed otherwise, 2 where the words are others (then nothing is called), 5, 6 and 7 where the
+/// store, the connection or the application failed, 8 where the turns are spent, 9 where memory was
+/// refused, 10 at a message that isn't answered yet, and 11 where every MsgSeqNum is used.
+pub fn serve_stdio<O: Outside>(alloc: Global, words: &[&str], o: &mut O, turns: u64) -> Status
+    requires new { IfSome (O.seen o.old).stored (λ e. e ≡ new_end) }
+    // On other words.
+    ensures words { (result.0 ≡ 2) ↔ IsNoForm (map (λ w. w.now) words.now) }
+    ensures calls_none { result.0 ≡ 2 → o.new ≡ o.old }
+
+    // On words that ask for a session.
+    ensures serves { (id : TheIdentity) → IsForm (map (λ w. w.now) words.now) id → Goes (O.seen o.old) (O.seen o.new) (Served id turns result.0) }
+    ensures cause { StatusHasCause result.0 (O.seen o.old).faults (O.seen o.new).faults }
+{
+    let Some(named) = read_words(words) else {
+        return WORDS;
+    };
+    match identity_from(alloc, &named) {
+        Ok(identity) => serve(alloc, identity, o, turns),
+        Err(_) => MEMORY,
+    }
+}

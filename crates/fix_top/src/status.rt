@@ -1,0 +1,54 @@
+ghost use Rattle.std.specs.Prelude.{◌≡◌};
+ghost use Rattle.fix_top.specs.Serve.{status_of};
+ghost use Rattle.fix_top.specs.Names.{name_of};
+
+use fix_base::Status;
+use fix_engine::{RunEnd, Why};
+
+/// The words ask for no session.
+pub const WORDS: Status = Status(2);
+/// Memory was refused.
+pub const MEMORY: Status = Status(9);
+
+/// The status for how a run ended.
+pub fn status(answer: RunEnd) -> Status
+    ensures { result.0 ≡ status_of answer }
+{
+    match answer {
+        RunEnd::Closed(Why::LoggedOut { .. }) => Status(0),
+        RunEnd::Closed(Why::PeerEnd) => Status(1),
+        RunEnd::Closed(Why::Refused { .. }) => Status(1),
+        RunEnd::StoreFault => Status(5),
+        RunEnd::LinkFault => Status(6),
+        RunEnd::AppFault => Status(7),
+        RunEnd::TurnsSpent => Status(8),
+        RunEnd::OutOfMemory => Status(9),
+        RunEnd::NotBuilt { .. } => Status(10),
+        RunEnd::NumbersSpent => Status(11),
+        // A new session isn't stopped before.
+        RunEnd::Stopped(_) => Status(9),
+    }
+}
+
+/// The name of a status, as a program tells it.
+pub fn status_name(status: Status) -> &'static str
+    ensures { result.now ≡ name_of status.0 }
+{
+    match status.0 {
+        0 => "Done",
+        1 => "Closed",
+        2 => "Words",
+        3 => "Settings",
+        4 => "Dictionary",
+        5 => "Store",
+        6 => "Link",
+        7 => "Application",
+        8 => "Turns",
+        9 => "Memory",
+        10 => "NotBuilt",
+        11 => "Numbers",
+        12 => "Drafts",
+        13 => "Threads",
+        _ => "Other",
+    }
+}
