@@ -13,21 +13,21 @@ use Rattle.fix_base.specs.EndStep.{Connection, EndState, Handling, WasRead, Move
 use Rattle.fix_base.specs.World as world
 use Rattle.fix_base.specs.World.{Side, World, new_side, new_world, rested, opened_side, wrote_side, gave_side, First, Second, Event, Does, SideStep, WorldRun, Arrives}
 use Rattle.fix_base.proofs.ListLemmas.{prefix_refl}
-use Rattle.fix_base.proofs.LetterLemmas.{Letter, letter}
+use Rattle.fix_base.proofs.LetterLemmas.{body, Letter, letter}
 
 -- ---- the writer: it opens a connection, keeps the message and writes it
 
-abbrev entry : List ℕ → Entry
+abbrev pub entry : List ℕ → Entry
 entry body = App 0 Caller body
 
-abbrev kept_end : List ℕ → End
+abbrev pub kept_end : List ℕ → End
 kept_end body = folded new_end (Push (entry body))
 
 abbrev connection : List ℕ → List ℕ → List ℕ → Connection
 connection read written gave = record { opened = new_end; read = read; written = written; base = 0; gave = gave }
 
 -- an end that expects this number, with what it handled, on its connection
-abbrev state : End → ℕ → List Handling → Connection → EndState
+abbrev pub state : End → ℕ → List Handling → Connection → EndState
 state end expected handled connection = record { end = end; expected = expected; handled = handled; doubt = None; connection = Some connection }
 
 abbrev s1 : EndState
@@ -36,7 +36,7 @@ s1 = state new_end 1 [] (connection [] [] [])
 abbrev s2 : List ℕ → EndState
 s2 body = state (kept_end body) 1 [] (connection [] [] [])
 
-abbrev s3 : List ℕ → List ℕ → EndState
+abbrev pub s3 : List ℕ → List ℕ → EndState
 s3 body text = state (kept_end body) 1 [] (connection [] text [])
 
 abbrev a1 : Side
@@ -45,7 +45,7 @@ a1 = opened_side new_side s1 1
 abbrev a2 : List ℕ → Side
 a2 body = rested a1 (s2 body)
 
-abbrev a3 : List ℕ → List ℕ → Side
+abbrev pub a3 : List ℕ → List ℕ → Side
 a3 body text = wrote_side (a2 body) (s3 body text) text
 
 opens : {id : Identity} (o : Side) → SideStep id new_side o act.Opened a1
@@ -60,13 +60,13 @@ writes body text o lawful = world.writes text (record { certain = refl; row = st
 -- ---- the reader: it opens its connection, reads the frame, hands the message over, passes it and keeps
 -- the number that it then expects
 
-abbrev item : List ℕ → Handling
+abbrev pub item : List ℕ → Handling
 item body = record { number = 1; body = body; marked = false; rejected = false }
 
 abbrev r2 : List ℕ → EndState
 r2 text = state new_end 1 [] (connection text [] [])
 
-abbrev r3 : List ℕ → List ℕ → EndState
+abbrev pub r3 : List ℕ → List ℕ → EndState
 r3 body text = state new_end 1 (item body ∷ []) (connection text [] (1 ∷ []))
 
 abbrev r4 : List ℕ → List ℕ → EndState
@@ -78,7 +78,7 @@ r5 body text = state (folded new_end (Expect 2)) 2 (item body ∷ []) (connectio
 abbrev e2 : List ℕ → Side
 e2 text = rested a1 (r2 text)
 
-abbrev e3 : List ℕ → List ℕ → Side
+abbrev pub e3 : List ℕ → List ℕ → Side
 e3 body text = gave_side (e2 text) (r3 body text) 1
 
 abbrev e4 : List ℕ → List ℕ → Side
@@ -104,7 +104,7 @@ expects body text = world.rests (act.Kept (Expect 2)) tt (record { certain = ref
 
 -- ---- both
 
-abbrev of_both : Side → Side → World
+abbrev pub of_both : Side → Side → World
 of_both e a = record { first = e; second = a }
 
 late : {id : Identity} (body text : List ℕ) → Shows text (message.App 1 false body ∷ []) → WorldRun id (of_both (e3 body text) (a3 body text)) (Does First (act.Kept (Expect 2)) ∷ []) (of_both (e5 body text) (a3 body text))
@@ -112,23 +112,23 @@ late body text shows =
     world.move {w = of_both (e3 body text) (a3 body text)} {s' = r4 body text} First (passes body text shows)
     (world.step {w = of_both (e4 body text) (a3 body text)} {a' = e5 body text} First (act.Kept (Expect 2)) (expects body text) world.stop)
 
-middle : {id : Identity} (body text : List ℕ) → Shows text (message.App 1 false body ∷ []) → WorldRun id (of_both new_side (a3 body text)) (Does First act.Opened ∷ Does First (act.Read text) ∷ Does First (act.Handed 1 false body) ∷ Does First (act.Kept (Expect 2)) ∷ []) (of_both (e5 body text) (a3 body text))
-middle body text shows =
+pub middle : {id : Identity} (body text : List ℕ) {events : List Event} {w : World} → Shows text (message.App 1 false body ∷ []) → WorldRun id (of_both (e3 body text) (a3 body text)) events w → WorldRun id (of_both new_side (a3 body text)) (Does First act.Opened ∷ Does First (act.Read text) ∷ Does First (act.Handed 1 false body) ∷ events) w
+middle body text shows d =
     world.step {w = of_both new_side (a3 body text)} {a' = a1} First act.Opened (opens (a3 body text))
     (world.step {w = of_both a1 (a3 body text)} {a' = e2 text} First (act.Read text) (reads body text)
-    (world.step {w = of_both (e2 text) (a3 body text)} {a' = e3 body text} First (act.Handed 1 false body) (hands body text shows) (late body text shows)))
+    (world.step {w = of_both (e2 text) (a3 body text)} {a' = e3 body text} First (act.Handed 1 false body) (hands body text shows) d))
 
-early : {id : Identity} (body text : List ℕ) {events : List Event} {w : World} → Wrote (mirrored id) new_end (kept_end body) text → WorldRun id (of_both new_side (a3 body text)) events w → WorldRun id new_world (Does Second act.Opened ∷ Does Second (act.Kept (Push (entry body))) ∷ Does Second (act.Wrote text) ∷ events) w
+pub early : {id : Identity} (body text : List ℕ) {events : List Event} {w : World} → Wrote (mirrored id) new_end (kept_end body) text → WorldRun id (of_both new_side (a3 body text)) events w → WorldRun id new_world (Does Second act.Opened ∷ Does Second (act.Kept (Push (entry body))) ∷ Does Second (act.Wrote text) ∷ events) w
 early body text lawful d =
     world.step {w = new_world} {a' = a1} Second act.Opened (opens new_side)
     (world.step {w = of_both new_side a1} {a' = a2 body} Second (act.Kept (Push (entry body))) (keeps body new_side)
     (world.step {w = of_both new_side (a2 body)} {a' = a3 body text} Second (act.Wrote text) (writes body text new_side lawful) d))
 
-arrives_as : (id : Identity) → Letter (mirrored id) → Arrives id
-arrives_as id l = record {
-  events = Does Second act.Opened ∷ Does Second (act.Kept (Push (entry l.body))) ∷ Does Second (act.Wrote l.text) ∷ Does First act.Opened ∷ Does First (act.Read l.text) ∷ Does First (act.Handed 1 false l.body) ∷ Does First (act.Kept (Expect 2)) ∷ [];
-  world = of_both (e5 l.body l.text) (a3 l.body l.text);
-  run = early l.body l.text l.lawful (middle l.body l.text l.shows);
+arrives_as : (id : Identity) (body : List ℕ) → Letter (mirrored id) body → Arrives id
+arrives_as id body l = record {
+  events = Does Second act.Opened ∷ Does Second (act.Kept (Push (entry body))) ∷ Does Second (act.Wrote l.text) ∷ Does First act.Opened ∷ Does First (act.Read l.text) ∷ Does First (act.Handed 1 false body) ∷ Does First (act.Kept (Expect 2)) ∷ [];
+  world = of_both (e5 body l.text) (a3 body l.text);
+  run = early body l.text l.lawful (middle body l.text l.shows (late body l.text l.shows));
   plain = (tt, (l.kept, (tt, (tt, (tt, (tt, (tt, tt)))))));
   handled = refl;
   expected = refl;
@@ -136,4 +136,4 @@ arrives_as id l = record {
 
 -- a message arrives
 pub arrives : (id : Identity) → IsValidIdentity id → Arrives id
-arrives id valid = arrives_as id (letter (mirrored id) (record { sender = valid.target; target = valid.sender }))
+arrives id valid = arrives_as id body (letter (mirrored id) (record { sender = valid.target; target = valid.sender }))

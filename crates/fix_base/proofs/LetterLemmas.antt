@@ -1,15 +1,13 @@
 -- One message that a counterparty keeps and writes: the frame is lawful, and says it.
-use Rattle.std.proofs.Common.{◌≡◌, inl, ℕ, ◌+◌, ◌*◌, ◌≤◌, ◌&&◌, nat_le, codes, Bool, false, true, List, [], ◌∷◌, ◌++◌, length, length-append, refl, sym, ap, ◌∙◌, lit<, lit≤, arith}
-use Rattle.std.specs.Prelude.{IsTrue, pos, ◌+ℤ◌, ◌*ℤ◌}
-use Rattle.std.specs.List.{AllByRecursion, list_all}
+use Rattle.std.proofs.Common.{◌≡◌, inl, ℕ, ◌≤◌, nat_le, codes, false, List, [], ◌∷◌, length, refl, sym, ap, lit<, lit≤, arith}
+use Rattle.std.specs.Prelude.{pos, ◌+ℤ◌, ◌*ℤ◌}
+use Rattle.std.specs.List.{AllByRecursion}
 use Rattle.std.specs.Fmt.{decimal}
 use Rattle.std.proofs.Math.IntN.{+ℤ_invr}
-use Rattle.std.proofs.lemmas.Bool.{leb-true}
 use Rattle.std.proofs.lemmas.Fmt.{digits_decimal, length-decimal-le}
 use Rattle.std.proofs.lemmas.List.{append-nil}
-use Rattle.std.proofs.lemmas.List.Folds.{list_all_at}
 use Rattle.jiff_core.specs.Calendar.{day_count, days_from_civil}
-use Rattle.fix_base.specs.Session.{Identity, IsValidIdentity, is_comp_id}
+use Rattle.fix_base.specs.Session.{Identity, IsValidIdentity}
 use Rattle.fix_base.specs.Frame.{HasNoSoh}
 use Rattle.fix_base.specs.Fields.{Field}
 use Rattle.fix_base.specs.Stream.{Ahead, Frame, ends_in_soh}
@@ -32,7 +30,7 @@ use Rattle.fix_base.proofs.Seals.{sealed_is_frame}
 use Rattle.fix_base.proofs.ListLemmas.{prefix_of_nothing}
 use Rattle.fix_base.proofs.WrittenLemmas.{original_is, app_original}
 
-number_clear : HasNoSoh (decimal 1)
+pub number_clear : HasNoSoh (decimal 1)
 number_clear = digits_no_soh (decimal 1) (digits_decimal numerals 1 (lit< tt))
 
 -- ---- the time 0
@@ -44,10 +42,10 @@ epoch_day = +ℤ_invr (pos (day_count (pos 1970) 1 1))
 abbrev epoch : Moment
 epoch = record { year = 1970; month = 1; day = 1; hour = 0; minute = 0; second = 0; fraction = [] }
 
-abbrev at : List ℕ
+abbrev pub at : List ℕ
 at = moment_text epoch
 
-at_epoch : IsTimeText 0 at
+pub at_epoch : IsTimeText 0 at
 at_epoch = record {
   digits = 0;
   precision = inl refl;
@@ -61,30 +59,30 @@ at_epoch = record {
   };
 }
 
-at_clear : HasNoSoh at
+pub at_clear : HasNoSoh at
 at_clear = any_time_text_no_soh 0 at at_epoch
 
 -- ---- the message: a NewOrderSingle
 
-abbrev order : List ℕ
+abbrev pub order : List ℕ
 order = codes "D"
 
-order_field : IsPlainField (field 35 order)
+pub order_field : IsPlainField (field 35 order)
 order_field = record { first = lit≤ tt; last = lit≤ tt; no_soh = clear_of (λ b. nat_le 2 b) order refl refl; no_length = refl }
 
-order_short : IsShortField (field 35 order)
+pub order_short : IsShortField (field 35 order)
 order_short = record { last = lit≤ tt; short = lit≤ tt }
 
-abbrev body : List ℕ
+abbrev pub body : List ℕ
 body = fields_text (field 35 order ∷ [])
 
-body_is : IsBodyOf body order []
+pub body_is : IsBodyOf body order []
 body_is = record { spelled = refl; fields = plain_fields (field 35 order ∷ []) (order_field, tt); app = record { no_reset = refl; no_admin = refl }; each = tt }
 
 some_type : order ≡ [] → ⊥
 some_type e = cc
 
-abbrev entry : Entry
+abbrev pub entry : Entry
 entry = App 0 Caller body
 
 entry_keepable : IsPersistentEntry entry
@@ -120,7 +118,7 @@ plain id valid = (
   ),
 )
 
-number_short : length (decimal 1) ≤ 64
+pub number_short : length (decimal 1) ≤ 64
 number_short = let l = length-decimal-le 1 1 (lit< tt) (lit< tt) (lit< tt) in omega arith
 
 short : (id : Identity) → IsValidIdentity id → AllByRecursion IsShortField (fields id)
@@ -143,9 +141,8 @@ frame_sealed id valid =
     let bound : length (fields_text (fields id)) ≤ 500 = short_fields (fields id) (short id valid) in
     record { spelled = refl; are = plain_fields (fields id) (plain id valid); short = omega arith }
 
--- a message that a new end keeps and writes, and what a reader has of it
-pub record Letter (id : Identity) : Type 0 where
-  pub body : List ℕ
+-- a message of this body that a new end keeps and writes, and what a reader has of it
+pub record Letter (id : Identity) (body : List ℕ) : Type 0 where
   pub text : List ℕ
   pub kept : IsPersistentEntry (App 0 Caller body)
   pub lawful : Wrote id new_end (folded new_end (Push (App 0 Caller body))) text
@@ -160,7 +157,7 @@ lawful id valid = record {
   front = record { rest = []; is = refl };
 }
 
-shown : (text : List ℕ) → IsFrame text → (x : Message) → Says text x → Shows text (x ∷ [])
+pub shown : (text : List ℕ) → IsFrame text → (x : Message) → Says text x → Shows text (x ∷ [])
 shown text frame x says_so =
     let behind : Ahead = record { may_mark = ends_in_soh text; bytes = [] } in
     record {
@@ -170,9 +167,8 @@ shown text frame x says_so =
       says = says.says says_so says.none;
     }
 
-pub letter : (id : Identity) → IsValidIdentity id → Letter id
+pub letter : (id : Identity) → IsValidIdentity id → Letter id body
 letter id valid = record {
-  body = body;
   text = frame id;
   kept = entry_keepable;
   lawful = lawful id valid;

@@ -1,12 +1,12 @@
 -- Fields whose values have no SOH and of which none announces data are a list of fields as they are
 -- written.
-use Rattle.std.proofs.Common.{◌≡◌, ℕ, ◌≤◌, List, [], ◌∷◌, ◌++◌, Option, Some, None, refl, sym, ap, subst, ◌∙◌}
+use Rattle.std.proofs.Common.{◌≡◌, ℕ, ◌≤◌, List, [], ◌∷◌, Option, Some, None, refl, sym, ap, subst}
 use Rattle.std.specs.Prelude.{option_and_then, if◌then◌else◌}
 use Rattle.std.specs.List.{AllByRecursion}
 use Rattle.std.specs.Str.Parse.{digits_value}
 use Rattle.fix_base.specs.Frame.{HasNoSoh}
 use Rattle.fix_base.specs.Tags.{data_tag}
-use Rattle.fix_base.specs.Fields.{Field, FieldsAfter, IsField, data_after, is_data_length}
+use Rattle.fix_base.specs.Fields.{Field, FieldsAfter, data_after, is_data_length}
 use Rattle.fix_base.specs.Says.{field_text, fields_text}
 
 -- a field that may be written and read by itself

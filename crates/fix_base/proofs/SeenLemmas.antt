@@ -1,9 +1,9 @@
 -- What calls come to, one after another.
-use Rattle.std.proofs.Common.{◌≡◌, ◌⊎◌, ℕ, ◌+◌, List, [], ◌∷◌, ◌++◌, Option, Some, None, refl, sym, ◌∙◌, ap, subst, append_assoc, arith}
+use Rattle.std.proofs.Common.{◌≡◌, ◌+◌, List, [], ◌∷◌, ◌++◌, Option, Some, None, refl, sym, ◌∙◌, ap, subst, append_assoc, arith}
 use Rattle.std.proofs.lemmas.List.{append-nil}
 use Rattle.fix_base.specs.declared.act.Act.{Act}
 use Rattle.fix_base.specs.End.{End}
-use Rattle.fix_base.specs.Seen.{ActStores, Stores, grown, Faults, Part, StorePart, LinkPart, AppPart, Note, Did, Failed, acts_of, store_failures, link_failures, app_failures, Counts, Seen, Moves}
+use Rattle.fix_base.specs.Seen.{Stores, grown, StorePart, LinkPart, AppPart, Note, Did, Failed, acts_of, store_failures, link_failures, app_failures, Seen, Moves}
 
 pub grown-append : (t : Option (List Act)) (xs ys : List Act) → grown (grown t xs) ys ≡ grown t (xs ++ ys)
 grown-append None xs ys = refl

@@ -43,4 +43,3 @@ short_field f h =
 pub short_fields : (fs : List Field) → AllByRecursion IsShortField fs → length (fields_text fs) ≤ 100 * length fs
 short_fields [] each = lit≤ tt
 short_fields (f ∷ fs) each = omega (arith, length-append (field_text f) (fields_text fs), short_field f each.0, short_fields fs each.1)
-

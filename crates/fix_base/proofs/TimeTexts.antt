@@ -1,9 +1,9 @@
 -- The text of a time is a UTCTimestamp, and has no SOH.
-use Rattle.std.proofs.Common.{◌≡◌, ◌≢◌, ℕ, zero, suc, ◌+◌, ◌*◌, ◌/◌, ◌%◌, ◌<◌, ◌≤◌, ◌⊎◌, List, [], ◌∷◌, ◌++◌, length, take, get_or, refl, sym, ap, subst, ◌∙◌, arith, inl, inr, ℤ, pos}
+use Rattle.std.proofs.Common.{◌≡◌, ◌≢◌, ℕ, zero, suc, ◌+◌, ◌/◌, ◌%◌, ◌<◌, ◌≤◌, List, [], ◌∷◌, ◌++◌, length, take, sym, ap, subst, ◌∙◌, arith, inl, inr, pos}
 use Rattle.std.specs.Str.Parse.{AllDigits}
 use Rattle.std.proofs.lemmas.List.{take_all}
 use Rattle.fix_base.specs.Frame.{HasNoSoh}
-use Rattle.fix_base.specs.Times.{two_digits, four_digits, fraction_text, Moment, moment_text, time_of, cut_to, IsPrecision, IsFractionLength, IsTimeTextOf, IsTimeText, IsUtcTimestamp}
+use Rattle.fix_base.specs.Times.{two_digits, fraction_text, Moment, moment_text, time_of, cut_to, IsPrecision, IsFractionLength, IsTimeTextOf, IsTimeText, IsUtcTimestamp}
 use Rattle.fix_base.proofs.Digits.{digits_no_soh}
 
 length_of_precision : (digits n : ℕ) → IsPrecision digits → n ≡ digits → IsFractionLength n

@@ -113,7 +113,7 @@ original_is id number at type rest each =
       each = (body_field 35 type (lit< tt), (body_field 34 number (lit< tt), (body_field 49 id.sender (lit< tt), (body_field 52 at (lit< tt), (body_field 56 id.target (lit< tt), body_fields rest each)))));
     }
 
-repeat_is : (id : Identity) (number at was type : List ℕ) (rest : List Field) → AllByRecursion IsEntryField rest → AreOfMessage (repeat_fields id number at was type rest)
+pub repeat_is : (id : Identity) (number at was type : List ℕ) (rest : List Field) → AllByRecursion IsEntryField rest → AreOfMessage (repeat_fields id number at was type rest)
 repeat_is id number at was type rest each =
     let fields = repeat_fields id number at was type rest in
     record {
@@ -197,6 +197,10 @@ pub app_original : (id : Identity) (n : ℕ) (text at : List ℕ) (type : List �
 app_original id n text at type rest some le app each sealed_so =
     says_of id (original_fields id (decimal n) at type rest) text _ (original_is id (decimal n) at type rest each) sealed_so (original_app id (decimal n) n at type rest (seq_num_decimal n some le) app each)
 
+pub app_repeat : (id : Identity) (n : ℕ) (text at was type : List ℕ) (rest : List Field) → 1 ≤ n → n ≤ 999999999 → IsAppType type → AllByRecursion IsEntryField rest → IsSealed id (repeat_fields id (decimal n) at was type rest) text → Says text (message.App n true (fields_text (field 35 type ∷ rest)))
+app_repeat id n text at was type rest some le app each sealed_so =
+    says_of id (repeat_fields id (decimal n) at was type rest) text _ (repeat_is id (decimal n) at was type rest each) sealed_so (repeat_app id (decimal n) n at was type rest (seq_num_decimal n some le) app each)
+
 original_of : (id : Identity) (n : ℕ) (e : Entry) (text at type : List ℕ) (rest : List Field) → 1 ≤ n → n ≤ 999999999 → Carries e type rest → IsSealed id (original_fields id (decimal n) at type rest) text → Original n e text
 original_of id n e text at type rest some le (wrote.app {time = time} {by = by} {body = body} is) sealed_so =
     record {
@@ -243,7 +247,7 @@ tells {id = id} (wrote.original {text = text} n e le above entry is others) =
 tells {id = id} (wrote.again {text = text} n time by body t le entry is others) =
     let fields = repeat_fields id (decimal n) is.at is.was is.type is.rest in
     let are = repeat_is id (decimal n) is.at is.was is.type is.rest is.carries.each in
-    let whole = says_of id fields text _ are is.sealed_so (repeat_app id (decimal n) n is.at is.was is.type is.rest (seq_num_decimal n (entry_some entry) le) is.carries.app is.carries.each) in
+    let whole = app_repeat id n text is.at is.was is.type is.rest (entry_some entry) le is.carries.app is.carries.each is.sealed_so in
     let s = subst (λ w. Says text (message.App n true w)) (sym is.carries.spelled) whole in
     let o = tells others in
     record { messages = message.App n true body ∷ o.messages; says = told.one (sealed_is_frame id fields text are is.sealed_so) s o.says; writes = told.again n body (record { time = time; by = by; entry = entry }) o.writes }

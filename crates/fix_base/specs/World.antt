@@ -1,13 +1,13 @@
 -- The world of two ends of a session: what each does, in which order, over connections that may break
 -- at any byte; and what is promised of the two.
-use Rattle.std.specs.Prelude.{◌≡◌, ℕ, ◌<◌, ◌==◌, if◌then◌else◌, List, [], ◌∷◌, ◌++◌, length, Bool, true, Some}
+use Rattle.std.specs.Prelude.{◌≡◌, ℕ, ◌<◌, ◌==◌, if◌then◌else◌, List, [], ◌∷◌, ◌++◌, length, Bool, true, false, Some}
 use Rattle.fix_base.specs.Lists.{Among, IsPrefixOf}
 use Rattle.fix_base.specs.Session.{Identity, mirrored}
 use Rattle.fix_base.specs.End.{Record, Push, Expect, Reset, End, folded}
 use Rattle.fix_base.specs.Payload.{IsPersistentEntry}
 use Rattle.fix_base.specs.Act as act
 use Rattle.fix_base.specs.Act.{Act}
-use Rattle.fix_base.specs.EndStep.{Connection, EndState, new_state, EndStep, Move}
+use Rattle.fix_base.specs.EndStep.{Handling, Connection, EndState, new_state, EndStep, Move}
 use Rattle.fix_base.specs.Reader.{Follows, Gives}
 
 -- what an end did on one connection. A connection has a number that both ends know it by
@@ -173,4 +173,20 @@ pub record Arrives (id : Identity) : Type 0 where
   pub run : WorldRun id new_world events world
   pub plain : EachPlain events
   pub handled : length world.first.state.handled ≡ 1
+  pub expected : world.first.state.end.stored ≡ 2
+
+-- message 1 with this body, as it was handed over
+abbrev pub handed_over : Bool → List ℕ → Handling
+handed_over marked body = record { number = 1; body = body; marked = marked; rejected = false }
+
+-- an application message that one end keeps is handed over by the other, which stops before it keeps
+-- the next number. On the next connection the message comes again, marked as PossDup (43 = Y), is
+-- handed over again, and the next number is kept
+pub record ComesAgain (id : Identity) : Type 0 where
+  pub events : List Event
+  pub world : World
+  pub run : WorldRun id new_world events world
+  pub plain : EachPlain events
+  pub body : List ℕ
+  pub handled : world.first.state.handled ≡ handed_over false body ∷ handed_over true body ∷ []
   pub expected : world.first.state.end.stored ≡ 2

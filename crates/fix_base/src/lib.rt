@@ -36,5 +36,6 @@ pub use stream_laws::{
 };
 pub use tags::{DATA_PAIRS, SESSION_TAGS};
 pub use world_laws::{
-    a_message_arrives, a_reader_keeps_up, what_a_writer_keeps_true, world_agrees,
+    a_message_arrives, a_message_comes_again, a_reader_keeps_up, what_a_writer_keeps_true,
+    world_agrees,
 };

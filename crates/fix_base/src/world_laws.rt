@@ -11,7 +11,7 @@ ghost use Rattle.fix_base.specs.Wrote.{Writes, Wrote, WroteWhole};
 ghost use Rattle.fix_base.specs.EndStep.{EndState, EndStep, EndRun};
 ghost use Rattle.fix_base.specs.Agrees.{Agrees};
 ghost use Rattle.fix_base.specs.Reader.{bytes_read, AreOfOneConnection, ReaderKeepsUp};
-ghost use Rattle.fix_base.specs.World.{Event, World, WorldRun, EachPlain, WorldAgrees, Arrives, new_world};
+ghost use Rattle.fix_base.specs.World.{Event, World, WorldRun, EachPlain, WorldAgrees, Arrives, ComesAgain, new_world};
 
 /// What a writer has written stays lawful: nothing at the opening of a connection, with more
 /// entries stored, with one more original, repeat or gap fill, and where a write is cut at any
@@ -51,4 +51,11 @@ pub fn world_agrees()
 /// the next MsgSeqNum (34). So the laws above are not about nothing.
 pub fn a_message_arrives()
     ensures { (id : Identity) → IsValidIdentity id → Arrives id }
+{}
+
+/// A message does come twice, and is marked then: the reader hands a NewOrderSingle (35=D) over and
+/// stops before it keeps the next MsgSeqNum (34). On the next connection the writer repeats the
+/// order with PossDupFlag (43) = Y, and the reader hands it over again, marked.
+pub fn a_message_comes_again()
+    ensures { (id : Identity) → IsValidIdentity id → ComesAgain id }
 {}
