@@ -8,3 +8,4 @@ pub mod TakenLemmas
 pub mod BeginLemmas
 pub mod Causes
 pub mod Phases
+pub mod LeadsLemmas
