@@ -9,3 +9,4 @@ pub mod BeginLemmas
 pub mod Causes
 pub mod Phases
 pub mod LeadsLemmas
+pub mod ReadLemmas
