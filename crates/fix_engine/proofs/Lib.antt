@@ -10,3 +10,5 @@ pub mod Causes
 pub mod Phases
 pub mod LeadsLemmas
 pub mod ReadLemmas
+pub mod OnLemmas
+pub mod LawfulSteps
