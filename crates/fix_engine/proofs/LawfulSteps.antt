@@ -46,7 +46,7 @@ Behind Q (Err end) s e = BehindEnd end s e
 abbrev pub Triple : {S : Type 0} → Identity → (S → State) → (S → EndState → Type 0) → (S → List Note → Result ⊤ Ending → S → Type 0) → (S → EndState → Type 0) → Type 0
 Triple {S} id state P R Q = (s : S) (notes : List Note) (r : Result ⊤ Ending) (s' : S) → R s notes r s' → (e : EndState) → P s e → Leads id e (acts_of notes) (Behind (Q s') r (state s'))
 
-abbrev itself : State → State
+abbrev pub itself : State → State
 itself s = s
 
 -- where P holds nothing is in doubt
@@ -84,10 +84,10 @@ In id b s e = Fits id (live s b) e
 pub certain_in : (id : Identity) (b : Ahead) → IsCertain (In id b)
 certain_in id b s e f = f.on.settled.doubt
 
-certain_due : (id : Identity) (b : Ahead) (n : ℕ) → IsCertain (AdminDue id b n)
+pub certain_due : (id : Identity) (b : Ahead) (n : ℕ) → IsCertain (AdminDue id b n)
 certain_due id b n s e f = f.on.settled.doubt
 
-certain_given : (id : Identity) (b : Ahead) (n : ℕ) (body : List ℕ) → IsCertain (AppGiven id b n body)
+pub certain_given : (id : Identity) (b : Ahead) (n : ℕ) (body : List ℕ) → IsCertain (AppGiven id b n body)
 certain_given id b n body s e f = f.on.settled.doubt
 
 -- ---- the steps

@@ -12,3 +12,4 @@ pub mod LeadsLemmas
 pub mod ReadLemmas
 pub mod OnLemmas
 pub mod LawfulSteps
+pub mod LawfulAnswers
