@@ -20,7 +20,9 @@ use Rattle.fix_engine.specs.Inbound.{Inbound, IsInbound}
 use Rattle.fix_engine.specs.Answer.{Performed, Carried, Handled, names, is_numbered, is_of_session, is_addressed, is_near, is_in_order, is_app_type, number_or_0, not_built, refused, logon_steps, logon_answer, logout_answer, app_answer, first_answer, up_answer, answer_in, answer_to}
 use Rattle.fix_engine.specs.Turn.{Live, live}
 use Rattle.fix_engine.specs.Lawful.{IsOn, Fits, Leads}
-use Rattle.fix_engine.proofs.ReadLemmas.{says_admin, says_app}
+use Rattle.fix_frame.specs.Given.{GivesFrame}
+use Rattle.fix_engine.proofs.ReadLemmas.{read_frame, was_read, says_admin, says_app}
+use Rattle.fix_engine.proofs.OnLemmas.{on_place}
 use Rattle.fix_engine.proofs.LawfulSteps.{Behind, Triple, IsCertain, AdminDue, AppDue, AppGiven, In, itself, certain_in, certain_due, certain_given, nowhere, first_of, nothing_leads, close_leads, give_up_leads, go_up_leads, count_admin_leads, count_app_leads, hand_leads, answer_leads, send_leads}
 
 -- ---- the answers
@@ -190,3 +192,17 @@ module _ (id : Identity) (frame : List ℕ) (b : Ahead) (i : Inbound) (p : IsInb
   in_phase Down h = absurd (h refl)
   in_phase AwaitLogon h = first_here
   in_phase Up h = up_here
+
+-- a frame is taken, and answered
+pub handled_leads : (id : Identity) (s s' : State) (a b : Ahead) (frame : List ℕ) (notes : List Note) (r : Result ⊤ Ending) → GivesFrame a b frame → Handled id s frame notes r s' → (e : EndState) → Fits id (live s a) e → Leads id e (acts_of notes) (Behind (In id b s') r s')
+handled_leads id s s' a b frame notes r gives h e f =
+    let c = f.connection in
+    let p = h.presents in
+    let taken = read_frame c.read a b frame p.fields gives p.has f.on.read in
+    let was : WasTaken id b p.fields s e = record {
+      connection = c;
+      on = on_place id s a b c e taken.read f.on;
+      counted = f.counted;
+      read = λ x says. was_read c b (message_of p.fields) x taken says;
+    } in
+    in_phase id frame b h.inbound p s e was s.phase f.on.phase notes r s' h.carried

@@ -13,3 +13,4 @@ pub mod ReadLemmas
 pub mod OnLemmas
 pub mod LawfulSteps
 pub mod LawfulAnswers
+pub mod LawfulRuns

@@ -59,6 +59,7 @@ pub record Fits (id : Identity) (l : Live) (e : EndState) : Type 0 where
 
 -- the end is in step with a session that left its connection
 pub record HasLeft (s : State) (e : EndState) : Type 0 where
+  pub phase : s.phase ≡ Down
   pub settled : IsSettled s e
   pub closed : e.connection ≡ None
 
