@@ -8,3 +8,9 @@ pub mod TakenLemmas
 pub mod BeginLemmas
 pub mod Causes
 pub mod Phases
+pub mod LeadsLemmas
+pub mod ReadLemmas
+pub mod OnLemmas
+pub mod LawfulSteps
+pub mod LawfulAnswers
+pub mod LawfulRuns

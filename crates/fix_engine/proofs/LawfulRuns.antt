@@ -1,0 +1,223 @@
+-- A run of the engine is a run of a lawful end.
+use Rattle.std.proofs.Common.{◌≡◌, ◌≢◌, ℕ, ◌<◌, ◌≤◌, List, [], ◌∷◌, ◌++◌, length, Bool, true, false, Option, Some, None, Result, Ok, Err, refl, sym, ap, ◌∙◌, subst, arith, replicate}
+use Rattle.std.specs.Prelude.{⊤}
+use Rattle.fix_base.specs.declared.identity.Identity.{Identity}
+use Rattle.fix_base.specs.declared.entry.Record.{Record}
+use Rattle.fix_base.specs.declared.entry.Record.TheVariants.{Expect}
+use Rattle.fix_base.specs.declared.act.Act.TheVariants as act
+use Rattle.fix_base.specs.Stream.{Ahead}
+use Rattle.fix_base.specs.EndStep as steps
+use Rattle.fix_base.specs.EndStep.{Connection, EndState}
+use Rattle.fix_base.specs.Seen.{Note, Did, Failed, acts_of, Seen, Goes}
+use Rattle.fix_base.proofs.WholeLemmas.{whole_start}
+use Rattle.fix_frame.specs.Given.{GivesFrame, GivesNone}
+use Rattle.fix_engine.specs.State.{State, Down, AwaitLogon, Ending, with_phase, with_kept, with_reading}
+use Rattle.fix_engine.specs.declared.state.Ending.TheVariants as ending
+use Rattle.fix_engine.specs.declared.stop.BeginFault.{BeginFault}
+use Rattle.fix_engine.specs.Fold.{Each, none, ends, goes, AndThen, first_ends, both}
+use Rattle.fix_engine.specs.Turn as turn
+use Rattle.fix_engine.specs.Turn.{Live, live, fed, Taken, Fed, Heard, Clocked, KeptExpected, settles_of, Turn, OneTurn, Turns, is_cut_of, down, Ran}
+use Rattle.fix_engine.specs.Run.{Seat, run_end, RanTo, BeginsTo, opened_to, no_memory, no_memory_to_open, begun}
+use Rattle.fix_engine.specs.Lawful as lawful
+use Rattle.fix_engine.specs.Lawful.{HasNumbers, IsSettled, IsOn, Fits, HasLeft, IsLost, IsInDoubt, Leads, After, IsLawful, AfterBegin, IsLawfulBegin}
+use Rattle.fix_engine.proofs.LeadsLemmas.{leads_nowhere, leads_step, leads_lost, leads_on, leads_weaker}
+use Rattle.fix_engine.proofs.ReadLemmas.{read_nothing, read_none}
+use Rattle.fix_engine.proofs.OnLemmas.{connected, settled_connected, on_state, reading, on_read, on_place, keeping, settled_kept, on_kept}
+use Rattle.fix_engine.proofs.LawfulSteps.{BehindEnd, Behind, Triple}
+use Rattle.fix_engine.proofs.LawfulAnswers.{handled_leads}
+
+abbrev state_of : Live → State
+state_of l = l.state
+
+certain_fits : (id : Identity) (l : Live) (e : EndState) → Fits id l e → e.doubt ≡ None
+certain_fits id l e f = f.on.settled.doubt
+
+certain_settled : (s : State) (e : EndState) → IsSettled s e → e.doubt ≡ None
+certain_settled s e h = h.doubt
+
+-- the phase makes no difference to the numbers
+settled_phase : (s : State) (e : EndState) → IsSettled s e → IsSettled (with_phase s Down) e
+settled_phase s e h = record { doubt = h.doubt; numbers = record { expected = h.numbers.expected; stored = h.numbers.stored; out = h.numbers.out } }
+
+-- ---- what is read
+
+taken_leads : (id : Identity) → Triple id state_of (Fits id) (Taken id) (Fits id)
+taken_leads id l notes r to (turn.no_more {s = s} {a = a} {b = b} gives) e f =
+    leads_nowhere id e (Fits id (live s b)) (record { connection = f.connection; on = on_place id s a b f.connection e (read_none f.connection.read a b gives f.on.read) f.on; counted = f.counted })
+taken_leads id l notes r to (turn.ends {s = s} {s' = s'} {a = a} {b = b} {e = end} frame gives h) e f = handled_leads id s s' a b frame notes (Err end) gives h e f
+taken_leads id l notes r to (turn.goes {s = s} {mid = mid} {a = a} {b = b} {first = first} {more = more} frame gives h others) e f =
+    leads_on id e first more (Fits id (live mid b)) (Behind (Fits id to) r to.state) (certain_fits id (live mid b)) (handled_leads id s mid a b frame first (Ok tt) gives h e f) (λ m q. taken_leads id (live mid b) more r to others m q)
+
+fed_leads : (id : Identity) (b : List ℕ) (l : Live) (notes : List Note) (r : Result ⊤ Ending) (to : Live) → Fed id b l notes r to → (e : EndState) → Fits id l e → Leads id e (act.Read b ∷ acts_of notes) (Behind (Fits id to) r to.state)
+fed_leads id b l notes r to (turn.fed_frames d) e f =
+    let c = f.connection in
+    let mid = connected e (reading c b) in
+    let g : Fits id (live l.state (fed l.ahead b)) mid = record { connection = reading c b; on = on_read id l c e b f.on; counted = f.counted } in
+    leads_step id e mid (act.Read b) (acts_of notes) (Behind (Fits id to) r to.state) (record { certain = f.on.settled.doubt; row = steps.read b c f.on.is_open }) (λ held h. h) (taken_leads id (live l.state (fed l.ahead b)) notes r to d mid g)
+fed_leads id b l notes r to turn.fed_memory e f =
+    let c = f.connection in
+    let mid = connected e (reading c b) in
+    leads_step id e mid (act.Read b) [] (IsSettled l.state) (record { certain = f.on.settled.doubt; row = steps.read b c f.on.is_open }) (λ held h. h) (leads_nowhere id mid (IsSettled l.state) (settled_connected l.state e (reading c b) f.on.settled))
+
+heard_leads : (id : Identity) → Triple id state_of (Fits id) (Heard id) (Fits id)
+heard_leads id l notes r to (turn.bytes {more = more} b some fits d) e f = fed_leads id b l more r to d e f
+heard_leads id l notes r to turn.idle e f =
+    leads_step id e e act.Idle [] (Fits id l) (record { certain = f.on.settled.doubt; row = steps.idle f.connection f.on.is_open }) (λ held h. h) (leads_nowhere id e (Fits id l) f)
+heard_leads id l notes r to turn.over e f =
+    leads_step id e e act.Ended [] (IsSettled (with_phase l.state Down)) (record { certain = f.on.settled.doubt; row = steps.ended f.connection f.on.is_open }) (λ held h. h) (leads_nowhere id e (IsSettled (with_phase l.state Down)) (settled_phase l.state e f.on.settled))
+heard_leads id l notes r to turn.read_lost e f = leads_nowhere id e (IsSettled l.state) f.on.settled
+heard_leads id l notes r to turn.read_memory e f = leads_nowhere id e (IsSettled l.state) f.on.settled
+
+-- ---- one turn
+
+clocked_leads : (id : Identity) → Triple id state_of (Fits id) Clocked (Fits id)
+clocked_leads id l notes r to (turn.now t) e f =
+    let next = live (with_reading l.state t) l.ahead in
+    leads_step id e e (act.Now t) [] (Fits id next) (record { certain = f.on.settled.doubt; row = steps.now t }) (λ held h. h)
+    (leads_nowhere id e (Fits id next) (record { connection = f.connection; on = on_state id l.state (with_reading l.state t) l.ahead f.connection e f.on.phase refl refl refl f.on; counted = f.counted }))
+clocked_leads id l notes r to turn.now_memory e f = leads_nowhere id e (IsSettled l.state) f.on.settled
+
+met_leads : (id : Identity) → Triple id state_of (Fits id) (AndThen (Heard id) Clocked) (Fits id)
+met_leads id l notes r to (first_ends {e = end} d) e f = heard_leads id l notes (Err end) to d e f
+met_leads id l notes r to (both {mid = mid} {first = first} {more = more} d k) e f =
+    leads_on id e first more (Fits id mid) (Behind (Fits id to) r to.state) (certain_fits id mid) (heard_leads id l first (Ok tt) mid d e f) (λ m q. clocked_leads id mid more r to k m q)
+
+-- the expected number is lost
+expect_lost_leads : (id : Identity) (s : State) (e : EndState) → IsSettled s e → Leads id e (act.KeepLost (Expect s.expected) ∷ []) (IsInDoubt s)
+expect_lost_leads id s e h =
+    let left : EndState = record e { doubt = Some (Expect s.expected); connection = None } in
+    leads_lost id e left (act.KeepLost (Expect s.expected)) (Expect s.expected) (IsInDoubt s) (record { certain = h.doubt; row = steps.lost_expect s.expected (sym h.numbers.expected) }) refl
+    (record { numbers = record { expected = h.numbers.expected; stored = h.numbers.stored; out = h.numbers.out }; record_lost = Expect s.expected; doubt = refl; is = lawful.number; closed = refl })
+
+-- or kept
+expect_kept_leads : (id : Identity) (s : State) (e : EndState) (P : EndState → Type 0) → IsSettled s e → P (keeping e s.expected) → Leads id e (act.Kept (Expect s.expected) ∷ []) P
+expect_kept_leads id s e P h holds =
+    leads_step id e (keeping e s.expected) (act.Kept (Expect s.expected)) [] P (record { certain = h.doubt; row = steps.kept_expect s.expected (sym h.numbers.expected) }) (λ held k. k) (leads_nowhere id (keeping e s.expected) P holds)
+
+-- the expected number is kept on a connection
+kept_leads : (id : Identity) → Triple id state_of (Fits id) KeptExpected (Fits id)
+kept_leads id l notes r to (turn.same h) e f = leads_nowhere id e (Fits id l) f
+kept_leads id l notes r to (turn.kept h) e f =
+    let next = live (with_kept l.state) l.ahead in
+    expect_kept_leads id l.state e (Fits id next) f.on.settled (record { connection = f.connection; on = on_kept id l.state l.ahead f.connection e f.on; counted = f.counted })
+kept_leads id l notes r to (turn.expect_lost h) e f = expect_lost_leads id l.state e f.on.settled
+kept_leads id l notes r to (turn.expect_memory h) e f = leads_nowhere id e (IsSettled l.state) f.on.settled
+
+abbrev Settled : Live → EndState → Type 0
+Settled l e = IsSettled l.state e
+
+-- and behind one
+kept_behind : (id : Identity) → Triple id state_of Settled KeptExpected Settled
+kept_behind id l notes r to (turn.same h) e f = leads_nowhere id e (Settled l) f
+kept_behind id l notes r to (turn.kept h) e f = expect_kept_leads id l.state e (IsSettled (with_kept l.state)) f (settled_kept l.state e f)
+kept_behind id l notes r to (turn.expect_lost h) e f = expect_lost_leads id l.state e f
+kept_behind id l notes r to (turn.expect_memory h) e f = leads_nowhere id e (IsSettled l.state) f
+
+-- behind a part that the expected number is kept behind, nothing is in doubt
+settles_settled : (end : Ending) (s : State) (e : EndState) → settles_of (Err end) ≡ true → BehindEnd end s e → IsSettled s e
+settles_settled (ending.Closed why) s e t h = h
+settles_settled (ending.NotBuilt n) s e t h = h
+settles_settled ending.LinkFault s e t h = h
+settles_settled ending.AppFault s e t h = h
+settles_settled ending.NumbersSpent s e t h = h
+settles_settled ending.OutOfMemory s e t h = h
+settles_settled ending.StoreFault s e t h = cc
+
+settled_settles : (end : Ending) (s : State) (e : EndState) → settles_of (Err end) ≡ true → IsSettled s e → BehindEnd end s e
+settled_settles (ending.Closed why) s e t h = h
+settled_settles (ending.NotBuilt n) s e t h = h
+settled_settles ending.LinkFault s e t h = h
+settled_settles ending.AppFault s e t h = h
+settled_settles ending.NumbersSpent s e t h = h
+settled_settles ending.OutOfMemory s e t h = h
+settled_settles ending.StoreFault s e t h = cc
+
+met_settled : (id : Identity) (r : Result ⊤ Ending) (l : Live) (e : EndState) → settles_of r ≡ true → Behind (Fits id l) r l.state e → IsSettled l.state e
+met_settled id (Ok x) l e t h = h.on.settled
+met_settled id (Err end) l e t h = settles_settled end l.state e t h
+
+turn_leads : (id : Identity) → Triple id state_of (Fits id) (Turn id) (Fits id)
+turn_leads id l notes r to (turn.stops h d) e f = met_leads id l notes r to d e f
+turn_leads id l notes r to (turn.keeps {mid = mid} {met = Ok x} {first = first} {more = more} h d k) e f =
+    leads_on id e first more (Fits id mid) (Fits id to) (certain_fits id mid) (met_leads id l first (Ok x) mid d e f) (λ m q. kept_leads id mid more (Ok tt) to k m q)
+turn_leads id l notes r to (turn.keeps {mid = mid} {met = Err end} {first = first} {more = more} h d k) e f =
+    leads_on id e first more (Settled mid) (BehindEnd end to.state) (certain_settled mid.state)
+    (leads_weaker id e (acts_of first) (BehindEnd end mid.state) (Settled mid) (λ m q. settles_settled end mid.state m h q) (met_leads id l first (Err end) mid d e f))
+    (λ m q. leads_weaker id m (acts_of more) (Settled to) (BehindEnd end to.state) (λ n p. settled_settles end to.state n h p) (kept_behind id mid more (Ok tt) to k m q))
+turn_leads id l notes r to (turn.keeps_not {mid = mid} {met = met} {first = first} {more = more} {e = end} h d k) e f =
+    leads_on id e first more (Settled mid) (BehindEnd end to.state) (certain_settled mid.state)
+    (leads_weaker id e (acts_of first) (Behind (Fits id mid) met mid.state) (Settled mid) (λ m q. met_settled id met mid m h q) (met_leads id l first met mid d e f))
+    (λ m q. kept_behind id mid more (Err end) to k m q)
+
+-- ---- a run
+
+turns_leads : (id : Identity) (us : List ⊤) → Triple id state_of (Fits id) (λ l. Each (OneTurn id) l us) (Fits id)
+turns_leads id [] l notes r to none e f = leads_nowhere id e (Fits id l) f
+turns_leads id (u ∷ us) l notes r to (ends {e = end} d) e f = turn_leads id l notes (Err end) to d e f
+turns_leads id (u ∷ us) l notes r to (goes {mid = mid} {first = first} {more = more} d k) e f =
+    leads_on id e first more (Fits id mid) (Behind (Fits id to) r to.state) (certain_fits id mid) (turn_leads id l first (Ok tt) mid d e f) (λ m q. turns_leads id us mid more r to k m q)
+
+-- what is cut is certain
+cut_settled : (end : Ending) (s : State) (e : EndState) → is_cut_of end ≡ true → BehindEnd end s e → IsSettled s e
+cut_settled (ending.Closed why) s e t h = h
+cut_settled (ending.NotBuilt n) s e t h = h
+cut_settled ending.LinkFault s e t h = h
+cut_settled ending.AppFault s e t h = h
+cut_settled ending.NumbersSpent s e t h = h
+cut_settled ending.OutOfMemory s e t h = h
+cut_settled ending.StoreFault s e t h = cc
+
+left_after : (id : Identity) (end : Ending) (to : Live) (e : EndState) → is_cut_of end ≡ true → HasLeft to.state e → After id (run_end (Err end)) to e
+left_after id (ending.Closed why) to e t h = h
+left_after id (ending.NotBuilt n) to e t h = h
+left_after id ending.LinkFault to e t h = h
+left_after id ending.AppFault to e t h = h
+left_after id ending.NumbersSpent to e t h = h
+left_after id ending.OutOfMemory to e t h = cc
+left_after id ending.StoreFault to e t h = cc
+
+lost_down : (s : State) {lost : Record} → IsLost s lost → IsLost (with_phase s Down) lost
+lost_down s (lawful.entry say) = lawful.entry say
+lost_down s lawful.number = lawful.number
+
+not_cut_after : (id : Identity) (end : Ending) (to : Live) (e : EndState) → is_cut_of end ≡ false → BehindEnd end to.state e → After id (run_end (Err end)) (down to) e
+not_cut_after id (ending.Closed why) to e t h = cc
+not_cut_after id (ending.NotBuilt n) to e t h = cc
+not_cut_after id ending.LinkFault to e t h = cc
+not_cut_after id ending.AppFault to e t h = cc
+not_cut_after id ending.NumbersSpent to e t h = cc
+not_cut_after id ending.OutOfMemory to e t h = settled_phase to.state e h
+not_cut_after id ending.StoreFault to e t h = record {
+  numbers = record { expected = h.numbers.expected; stored = h.numbers.stored; out = h.numbers.out };
+  record_lost = h.record_lost;
+  doubt = h.doubt;
+  is = lost_down to.state h.is;
+  closed = h.closed;
+}
+
+-- the connection is cut
+cut_leads : (id : Identity) (end : Ending) (to : Live) (e : EndState) → is_cut_of end ≡ true → IsSettled to.state e → Leads id e (act.Cut ∷ []) (After id (run_end (Err end)) (down to))
+cut_leads id end to e t h =
+    let left : EndState = record e { connection = None } in
+    let is_left : HasLeft (down to).state left = record { phase = refl; settled = record { doubt = h.doubt; numbers = record { expected = h.numbers.expected; stored = h.numbers.stored; out = h.numbers.out } }; closed = refl } in
+    leads_step id e left act.Cut [] (After id (run_end (Err end)) (down to)) (record { certain = h.doubt; row = steps.cut }) (λ held k. k) (leads_nowhere id left (After id (run_end (Err end)) (down to)) (left_after id end (down to) left t is_left))
+
+-- every run of the engine is a run of a lawful end
+pub Ran-lawful : (id : Identity) (n : ℕ) (l : Live) (notes : List Note) (r : Result ⊤ Ending) (to : Live) → Ran id n l notes r to → IsLawful id l (run_end r) to notes
+Ran-lawful id n l notes r to (turn.all_turns d) e f = turns_leads id (replicate n tt) l notes (Ok tt) to d e f
+Ran-lawful id n l notes r to (turn.cut {to = behind} {notes = first} {e = end} h d) e f =
+    leads_on id e first (Did act.Cut ∷ []) (Settled behind) (After id (run_end (Err end)) (down behind)) (certain_settled behind.state)
+    (leads_weaker id e (acts_of first) (BehindEnd end behind.state) (Settled behind) (λ m q. cut_settled end behind.state m h q) (turns_leads id (replicate n tt) l first (Err end) behind d e f))
+    (λ m q. cut_leads id end behind m h q)
+Ran-lawful id n l notes r to (turn.cut_memory {to = behind} {e = end} h d) e f =
+    leads_weaker id e (acts_of notes) (BehindEnd end behind.state) (IsSettled (down behind).state) (λ m q. settled_phase behind.state m (cut_settled end behind.state m h q)) (turns_leads id (replicate n tt) l notes (Err end) behind d e f)
+Ran-lawful id n l notes r to (turn.no_cut {to = behind} {e = end} h d) e f =
+    leads_weaker id e (acts_of notes) (BehindEnd end behind.state) (After id (run_end (Err end)) (down behind)) (λ m q. not_cut_after id end behind m h q) (turns_leads id (replicate n tt) l notes (Err end) behind d e f)
+
+pub run_lawful : (id : Identity) (n : ℕ) (l : Live) (r : Result ⊤ Ending) (to : Live) (old new : Seen) → Goes old new (λ notes. Ran id n l notes r to) → Goes old new (IsLawful id l (run_end r) to)
+run_lawful id n l r to old new g = (g.0, g.1, Ran-lawful id n l g.0 r to g.2)
+
+-- ---- a new connection
+
+new_connection : EndState → Connection
+new_connection e = record { opened = e.end; read = []; written = []; base = length e.handled; gave = [] }

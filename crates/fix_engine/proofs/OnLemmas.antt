@@ -1,0 +1,212 @@
+-- How an end stays in step with a session on its connection.
+use Rattle.std.proofs.Common.{◌≡◌, ◌≢◌, inl, inr, ℕ, suc, ◌+◌, ◌<◌, ◌≤◌, List, [], ◌∷◌, ◌++◌, length, length-append, take, drop, false, Some, None, refl, sym, ap, ◌∙◌, subst, append_assoc, lit<, arith}
+use Rattle.std.specs.List.{AllByRecursion}
+use Rattle.std.specs.Fmt.{decimal}
+use Rattle.std.proofs.lemmas.List.{append-nil, take-append-drop, drop-append-le}
+use Rattle.fix_base.specs.Lists.{Among, here, there, IsPrefixOf}
+use Rattle.fix_base.specs.declared.identity.Identity.{Identity}
+use Rattle.fix_base.specs.declared.entry.Entry.{Entry}
+use Rattle.fix_base.specs.declared.entry.Entry.TheVariants.{Admin}
+use Rattle.fix_base.specs.declared.entry.Record.TheVariants.{Push, Expect}
+use Rattle.fix_base.specs.Stream.{Ahead}
+use Rattle.fix_base.specs.End.{End, folded, IsEntry}
+use Rattle.fix_base.specs.Payload.{IsEntryField}
+use Rattle.fix_base.specs.Wrote as wrote
+use Rattle.fix_base.specs.Wrote.{Carries, IsOriginal, Writes, Wrote, WroteWhole}
+use Rattle.fix_base.specs.EndStep.{Handling, Connection, EndState, Grew}
+use Rattle.fix_base.proofs.ListLemmas.{Among-append_right, prefix_refl, prefix_append, prefix_under}
+use Rattle.fix_base.proofs.WholeLemmas.{whole_grown, whole_more, whole_wrote, front_wrote}
+use Rattle.fix_engine.specs.State.{State, Down, Say, Logon, Logout, with_expected, with_last, with_kept, with_reading, with_phase}
+use Rattle.fix_engine.specs.Answer.{kind_of, fields_of, IsSaid, entry_of}
+use Rattle.fix_engine.specs.Turn.{Live, live, fed}
+use Rattle.fix_engine.specs.Lawful.{HasNumbers, IsSettled, IsReadUpTo, IsOn, Fits}
+use Rattle.fix_engine.proofs.ReadLemmas.{read_more}
+
+-- ---- the original of what is said
+
+carries_say : (time : ℕ) (say : Say) → Carries (Admin time (kind_of say) 0) (kind_of say ∷ []) (fields_of say)
+carries_say time (Logon heart) = wrote.admin {kind = 65} refl (
+  record { no_begin = λ e. omega arith; no_length = λ e. omega arith; no_sum = λ e. omega arith; no_type = λ e. omega arith; no_header = refl },
+  (record { no_begin = λ e. omega arith; no_length = λ e. omega arith; no_sum = λ e. omega arith; no_type = λ e. omega arith; no_header = refl }, tt),
+)
+carries_say time Logout = wrote.admin {kind = 53} refl tt
+
+said_original : (id : Identity) (n : ℕ) (s : State) (say : Say) (text : List ℕ) → IsSaid id n s.reading say text → IsOriginal id n (entry_of s say) text
+said_original id n s say text h = record {
+  type = kind_of say ∷ [];
+  at = h.at;
+  rest = fields_of say;
+  carries = carries_say s.reading say;
+  sent_at = record { digits = 3; precision = inr (inl refl); is = h.sent_at };
+  sealed_so = h.sealed_so;
+}
+
+-- ---- an entry is kept, and written
+
+-- the end with one more entry
+abbrev pub pushed : EndState → Entry → EndState
+pushed e entry = record e { end = folded e.end (Push entry) }
+
+-- more is written on the connection
+abbrev pub writing : Connection → List ℕ → Connection
+writing c text = record c { written = c.written ++ text }
+
+abbrev pub connected : EndState → Connection → EndState
+connected e c = record e { connection = Some c }
+
+pub settled_pushed : (s : State) (e : EndState) (entry : Entry) → IsSettled s e → IsSettled (with_last s (s.last + 1)) (pushed e entry)
+settled_pushed s e entry h = record {
+  doubt = h.doubt;
+  numbers = record { expected = h.numbers.expected; stored = h.numbers.stored; out = omega (arith, h.numbers.out, length-append e.end.out (entry ∷ [])) };
+}
+
+-- the connection makes no difference to the numbers
+pub settled_connected : (s : State) (e : EndState) (c : Connection) → IsSettled s e → IsSettled s (connected e c)
+settled_connected s e c h = record { doubt = h.doubt; numbers = record { expected = h.numbers.expected; stored = h.numbers.stored; out = h.numbers.out } }
+
+whole_pushed : (id : Identity) (l : Live) (c : Connection) (e : EndState) (entry : Entry) (h : IsOn id l c e) → WroteWhole id c.opened (pushed e entry).end h.last c.written
+whole_pushed id l c e entry h = whole_grown id c.opened e.end (pushed e entry).end h.last c.written (prefix_append e.end.out (entry ∷ [])) h.whole
+
+-- the original of the new entry may follow
+original_follows : (id : Identity) (s : State) (a : Ahead) (c : Connection) (e : EndState) (say : Say) (text : List ℕ) → s.last < 999999999 → IsSaid id (s.last + 1) s.reading say text → IsOn id (live s a) c e → WroteWhole id c.opened (pushed e (entry_of s say)).end (s.last + 1) (c.written ++ text)
+original_follows id s a c e say text small said h =
+    let out = h.settled.numbers.out in
+    let entry : IsEntry (e.end.out ++ entry_of s say ∷ []) (s.last + 1) (entry_of s say) = record { before = e.end.out; after = []; is = refl; place = omega (arith, out) } in
+    whole_more id c.opened (pushed e (entry_of s say)).end h.last (s.last + 1) c.written text
+    (wrote.original (s.last + 1) (entry_of s say) (omega arith) (omega (arith, out, h.kept)) entry (said_original id (s.last + 1) s say text said) wrote.done)
+    (whole_pushed id (live s a) c e (entry_of s say) h)
+
+-- all of it is written
+pub wrote_all : (id : Identity) (s : State) (a : Ahead) (c : Connection) (e : EndState) (say : Say) (text : List ℕ) → s.last < 999999999 → IsSaid id (s.last + 1) s.reading say text → IsOn id (live s a) c e → Wrote id c.opened (pushed e (entry_of s say)).end (c.written ++ text)
+wrote_all id s a c e say text small said h = whole_wrote id c.opened (pushed e (entry_of s say)).end (s.last + 1) (c.written ++ text) (original_follows id s a c e say text small said h)
+
+-- some of it is written
+pub wrote_some : (id : Identity) (s : State) (a : Ahead) (c : Connection) (e : EndState) (say : Say) (text : List ℕ) (many : ℕ) → s.last < 999999999 → IsSaid id (s.last + 1) s.reading say text → IsOn id (live s a) c e → Wrote id c.opened (pushed e (entry_of s say)).end (c.written ++ take many text)
+wrote_some id s a c e say text many small said h =
+    let front : IsPrefixOf (take many text) text = record { rest = drop many text; is = sym (take-append-drop many text) } in
+    front_wrote id c.opened (pushed e (entry_of s say)).end (c.written ++ text) (c.written ++ take many text) (prefix_under c.written front) (wrote_all id s a c e say text small said h)
+
+-- and the end is in step again
+pub on_sent : (id : Identity) (s : State) (a : Ahead) (c : Connection) (e : EndState) (say : Say) (text : List ℕ) → s.last < 999999999 → IsSaid id (s.last + 1) s.reading say text → IsOn id (live s a) c e → IsOn id (live (with_last s (s.last + 1)) a) (writing c text) (connected (pushed e (entry_of s say)) (writing c text))
+on_sent id s a c e say text small said h = record {
+  phase = h.phase;
+  settled = settled_connected (with_last s (s.last + 1)) (pushed e (entry_of s say)) (writing c text) (settled_pushed s e (entry_of s say) h.settled);
+  is_open = refl;
+  read = h.read;
+  last = s.last + 1;
+  kept = omega (arith, h.settled.numbers.out, length-append e.end.out (entry_of s say ∷ []));
+  whole = original_follows id s a c e say text small said h;
+  base = h.base;
+}
+
+-- ---- the state alone changes, or the expected number with it
+
+pub on_state : (id : Identity) (s s' : State) (a : Ahead) (c : Connection) (e : EndState) → s'.phase ≢ Down → s'.expected ≡ s.expected → s'.kept ≡ s.kept → s'.last ≡ s.last → IsOn id (live s a) c e → IsOn id (live s' a) c e
+on_state id s s' a c e phase expected kept last h = record {
+  phase = phase;
+  settled = record { doubt = h.settled.doubt; numbers = record { expected = h.settled.numbers.expected ∙ sym expected; stored = h.settled.numbers.stored ∙ sym kept; out = h.settled.numbers.out ∙ sym last } };
+  is_open = h.is_open;
+  read = h.read;
+  last = h.last;
+  kept = h.kept;
+  whole = h.whole;
+  base = h.base;
+}
+
+-- the end expects the next number
+abbrev pub passed : EndState → EndState
+passed e = record e { expected = e.expected + 1 }
+
+pub settled_passed : (s : State) (e : EndState) (n : ℕ) → n ≡ s.expected → IsSettled s e → IsSettled (with_expected s (n + 1)) (passed e)
+settled_passed s e n due h = record { doubt = h.doubt; numbers = record { expected = ap (λ k. k + 1) (h.numbers.expected ∙ sym due); stored = h.numbers.stored; out = h.numbers.out } }
+
+pub on_passed : (id : Identity) (s : State) (a : Ahead) (c : Connection) (e : EndState) (n : ℕ) → n ≡ s.expected → IsOn id (live s a) c e → IsOn id (live (with_expected s (n + 1)) a) c (passed e)
+on_passed id s a c e n due h = record {
+  phase = h.phase;
+  settled = settled_passed s e n due h.settled;
+  is_open = h.is_open;
+  read = h.read;
+  last = h.last;
+  kept = h.kept;
+  whole = h.whole;
+  base = h.base;
+}
+
+-- ---- a message is given
+
+abbrev pub giving : Connection → ℕ → Connection
+giving c n = record c { gave = n ∷ c.gave }
+
+abbrev pub handling : ℕ → List ℕ → Handling
+handling n body = record { number = n; body = body; marked = false; rejected = false }
+
+abbrev pub given : EndState → Connection → ℕ → List ℕ → EndState
+given e c n body = record e { handled = e.handled ++ handling n body ∷ []; connection = Some (giving c n) }
+
+pub on_given : (id : Identity) (l : Live) (c : Connection) (e : EndState) (n : ℕ) (body : List ℕ) → IsOn id l c e → IsOn id l (giving c n) (given e c n body)
+on_given id l c e n body h = record {
+  phase = h.phase;
+  settled = record { doubt = h.settled.doubt; numbers = record { expected = h.settled.numbers.expected; stored = h.settled.numbers.stored; out = h.settled.numbers.out } };
+  is_open = refl;
+  read = h.read;
+  last = h.last;
+  kept = h.kept;
+  whole = h.whole;
+  base = omega (arith, h.base, length-append e.handled (handling n body ∷ []));
+}
+
+pub grew_given : (id : Identity) (l : Live) (c : Connection) (e : EndState) (n : ℕ) (body : List ℕ) → IsOn id l c e → Grew (giving c n) (given e c n body).handled n
+grew_given id l c e n body h = record {
+  item = handling n body;
+  among = subst (λ w. Among (handling n body) w) (sym (drop-append-le c.base e.handled (handling n body ∷ []) h.base)) (Among-append_right (drop c.base e.handled) here);
+  is = refl;
+}
+
+-- ---- bytes come, and the reader goes on
+
+abbrev pub reading : Connection → List ℕ → Connection
+reading c bytes = record c { read = c.read ++ bytes }
+
+pub on_read : (id : Identity) (l : Live) (c : Connection) (e : EndState) (bytes : List ℕ) → IsOn id l c e → IsOn id (live l.state (fed l.ahead bytes)) (reading c bytes) (connected e (reading c bytes))
+on_read id l c e bytes h = record {
+  phase = h.phase;
+  settled = settled_connected l.state e (reading c bytes) h.settled;
+  is_open = refl;
+  read = read_more c.read bytes l.ahead h.read;
+  last = h.last;
+  kept = h.kept;
+  whole = h.whole;
+  base = h.base;
+}
+
+pub on_place : (id : Identity) (s : State) (a b : Ahead) (c : Connection) (e : EndState) → IsReadUpTo c.read b → IsOn id (live s a) c e → IsOn id (live s b) c e
+on_place id s a b c e read h = record {
+  phase = h.phase;
+  settled = h.settled;
+  is_open = h.is_open;
+  read = read;
+  last = h.last;
+  kept = h.kept;
+  whole = h.whole;
+  base = h.base;
+}
+
+-- ---- the expected number is kept
+
+abbrev pub keeping : EndState → ℕ → EndState
+keeping e n = record e { end = folded e.end (Expect n) }
+
+pub settled_kept : (s : State) (e : EndState) → IsSettled s e → IsSettled (with_kept s) (keeping e s.expected)
+settled_kept s e h = record { doubt = h.doubt; numbers = record { expected = h.numbers.expected; stored = refl; out = h.numbers.out } }
+
+pub on_kept : (id : Identity) (s : State) (a : Ahead) (c : Connection) (e : EndState) → IsOn id (live s a) c e → IsOn id (live (with_kept s) a) c (keeping e s.expected)
+on_kept id s a c e h = record {
+  phase = h.phase;
+  settled = settled_kept s e h.settled;
+  is_open = h.is_open;
+  read = h.read;
+  last = h.last;
+  kept = h.kept;
+  whole = whole_grown id c.opened e.end (keeping e s.expected).end h.last c.written (prefix_refl e.end.out) h.whole;
+  base = h.base;
+}

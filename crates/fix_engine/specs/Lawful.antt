@@ -1,0 +1,128 @@
+-- Every run of the engine is a run of a lawful end.
+use Rattle.std.specs.Prelude.{◌≡◌, ◌≢◌, ℕ, ◌<◌, ◌≤◌, List, ◌++◌, length, Bool, true, Option, Some, None, IfSome, Result, Ok, Err}
+use Rattle.fix_base.specs.Lists.{Among}
+use Rattle.fix_base.specs.declared.identity.Identity.{Identity}
+use Rattle.fix_base.specs.Stream.{Ahead, Item, TakesAll, frames}
+use Rattle.fix_base.specs.Message.{Message}
+use Rattle.fix_base.specs.Says.{SaysAll}
+use Rattle.fix_base.specs.declared.entry.Record.{Record}
+use Rattle.fix_base.specs.declared.entry.Record.TheVariants.{Push, Expect}
+use Rattle.fix_base.specs.End.{End}
+use Rattle.fix_base.specs.declared.act.Act.{Act}
+use Rattle.fix_base.specs.Wrote.{WroteWhole}
+use Rattle.fix_base.specs.EndStep.{Connection, EndState, EndRun}
+use Rattle.fix_base.specs.Seen.{Stores, Note, Seen, acts_of}
+use Rattle.fix_engine.specs.State.{State, Down, Say}
+use Rattle.fix_engine.specs.Answer.{entry_of}
+use Rattle.fix_engine.specs.Turn.{Live}
+use Rattle.fix_engine.specs.declared.stop.RunEnd.{RunEnd}
+use Rattle.fix_engine.specs.declared.stop.RunEnd.TheVariants as run
+use Rattle.fix_engine.specs.declared.stop.BeginFault.{BeginFault}
+use Rattle.fix_engine.specs.declared.stop.BeginFault.TheVariants as begins
+use Rattle.fix_engine.specs.Run.{Seat}
+
+-- the end's numbers are the session's: the running expected number, the one that is kept, and how many entries there are
+pub record HasNumbers (s : State) (e : EndState) : Type 0 where
+  pub expected : e.expected ≡ s.expected
+  pub stored : e.end.stored ≡ s.kept
+  pub out : length e.end.out ≡ s.last
+
+-- the same, and no record is in doubt
+pub record IsSettled (s : State) (e : EndState) : Type 0 where
+  pub doubt : e.doubt ≡ None
+  pub numbers : HasNumbers s e
+
+-- the bytes are read up to this place, and the frames before it say some messages
+pub record IsReadUpTo (bytes : List ℕ) (place : Ahead) : Type 0 where
+  pub items : List Item
+  pub takes : TakesAll (record { may_mark = true; bytes = bytes }) items place
+  pub messages : List Message
+  pub says : SaysAll (frames items) messages
+
+-- the end is in step with a session on this connection: what was read on it is read up to the place that the session is
+-- at, and what was written on it is whole messages, the last original of which is that of an entry
+pub record IsOn (id : Identity) (l : Live) (c : Connection) (e : EndState) : Type 0 where
+  pub phase : l.state.phase ≢ Down
+  pub settled : IsSettled l.state e
+  pub is_open : e.connection ≡ Some c
+  pub read : IsReadUpTo c.read l.ahead
+  pub last : ℕ
+  pub kept : last ≤ length e.end.out
+  pub whole : WroteWhole id c.opened e.end last c.written
+  pub base : c.base ≤ length e.handled
+
+-- the end is in step with a session on its open connection, where each message that was given is counted
+pub record Fits (id : Identity) (l : Live) (e : EndState) : Type 0 where
+  pub connection : Connection
+  pub on : IsOn id l connection e
+  pub counted : (n : ℕ) → Among n connection.gave → n < l.state.expected
+
+-- the end is in step with a session that left its connection
+pub record HasLeft (s : State) (e : EndState) : Type 0 where
+  pub phase : s.phase ≡ Down
+  pub settled : IsSettled s e
+  pub closed : e.connection ≡ None
+
+-- the record that a session lost: an entry, or the expected number
+pub data IsLost (s : State) : Record → Type 0 where
+  entry : (say : Say) → IsLost s (Push (entry_of s say))
+  number : IsLost s (Expect s.expected)
+
+-- the end is that of a session that lost a record: this one is in doubt, and else the numbers are the session's
+pub record IsInDoubt (s : State) (e : EndState) : Type 0 where
+  pub numbers : HasNumbers s e
+  pub record_lost : Record
+  pub doubt : e.doubt ≡ Some record_lost
+  pub is : IsLost s record_lost
+  pub closed : e.connection ≡ None
+
+-- these acts are a run of a lawful end, to one that has P. A store that held the old end, and did the acts, holds the
+-- new one, unless a record of it is in doubt
+pub record Leads (id : Identity) (e : EndState) (acts : List Act) (P : EndState → Type 0) : Type 0 where
+  pub to : EndState
+  pub run : EndRun id e acts to
+  pub holds : P to
+  pub store : (held : Option End) → to.doubt ≡ None → Stores acts (Some e.end) held → held ≡ Some to.end
+
+-- the end behind a run that gave this answer
+abbrev pub After : Identity → RunEnd → Live → EndState → Type 0
+After id run.TurnsSpent to e = Fits id to e
+After id (run.Closed why) to e = HasLeft to.state e
+After id (run.NotBuilt n) to e = HasLeft to.state e
+After id run.LinkFault to e = HasLeft to.state e
+After id run.AppFault to e = HasLeft to.state e
+After id run.NumbersSpent to e = HasLeft to.state e
+After id run.StoreFault to e = IsInDoubt to.state e
+After id run.OutOfMemory to e = IsSettled to.state e
+After id (run.Stopped cause) to e = ⊥
+
+-- whatever end is in step with a session before its turns, the acts of these are a run of it
+abbrev pub IsLawful : Identity → Live → RunEnd → Live → List Note → Type 0
+IsLawful id l answer to notes = (e : EndState) → Fits id l e → Leads id e (acts_of notes) (After id answer to)
+
+-- the end behind the opening of a connection
+abbrev pub AfterBegin : {T : Type 0} → Identity → Result T BeginFault → Live → EndState → Type 0
+AfterBegin id (Ok x) to e = Fits id to e
+AfterBegin id (Err begins.OutOfMemory) to e = IsSettled to.state e
+AfterBegin id (Err (begins.Stopped cause)) to e = ⊥
+
+-- whatever end has a session's numbers, and no doubt, the acts that open its connection are a run of it
+abbrev pub IsLawfulBegin : {T : Type 0} → Seat → Result T BeginFault → Seat → List Note → Type 0
+IsLawfulBegin old answer new notes = (e : EndState) → IsSettled old.live.state e → Leads old.identity e (acts_of notes) (AfterBegin old.identity answer new.live)
+
+-- the end is in step with a session: on a connection, or between two of them
+pub data IsBeside (id : Identity) (l : Live) (e : EndState) : Type 0 where
+  connected : Fits id l e → IsBeside id l e
+  down : l.state.phase ≡ Down → IsSettled l.state e → IsBeside id l e
+
+-- a session is in step with what is outside of it: a run of a lawful end led to one that is in step with the session;
+-- where the tape is told, its last acts are those of the run, and where the stored end is told, it is this end's
+pub record IsInStep (w : Seen) (seat : Seat) : Type 0 where
+  pub before : List Act
+  pub acts : List Act
+  pub start : EndState
+  pub to : EndState
+  pub run : EndRun seat.identity start acts to
+  pub beside : IsBeside seat.identity seat.live to
+  pub tape : IfSome w.tape (λ tape. tape ≡ before ++ acts)
+  pub stored : IfSome w.stored (λ held. held ≡ to.end)
