@@ -8,3 +8,5 @@ pub mod TakenLemmas
 pub mod BeginLemmas
 pub mod Causes
 pub mod Phases
+pub mod Settled
+pub mod Turns

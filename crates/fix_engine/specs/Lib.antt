@@ -7,3 +7,4 @@ pub mod Answer
 pub mod Written
 pub mod Turn
 pub mod Run
+pub mod Turns
