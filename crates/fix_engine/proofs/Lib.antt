@@ -10,3 +10,4 @@ pub mod Causes
 pub mod Phases
 pub mod Settled
 pub mod Turns
+pub mod Prefix
