@@ -14,3 +14,6 @@ pub mod OnLemmas
 pub mod LawfulSteps
 pub mod LawfulAnswers
 pub mod LawfulRuns
+pub mod Settled
+pub mod Turns
+pub mod Prefix

@@ -9,3 +9,5 @@ pub mod Turn
 pub mod Run
 pub mod Plain
 pub mod Lawful
+pub mod Turns
+pub mod Stated

@@ -1,9 +1,11 @@
 ghost use Rattle.std.specs.Prelude.{◌≡◌, ◌≢◌, IfSome, IfNone, IfOk, OnOk, OnErr, Some, None, Err};
 ghost use Rattle.fix_base.specs.Session.{IsValidIdentity};
-ghost use Rattle.fix_base.specs.Seen.{Goes};
+ghost use Rattle.fix_base.specs.Seen.{acts_of, NoneRose, Goes};
 ghost use Rattle.fix_engine.specs.State.{IsInRange, first_state};
 ghost use Rattle.fix_engine.specs.Turn.{live};
 ghost use Rattle.fix_engine.specs.Run.{no_bytes, run_end, RanTo, stop_cause, RunHasCause, IsDownUnlessSpent, Opens, BeginsTo};
+ghost use Rattle.fix_engine.specs.Turns.{HasTurns, IsSettled};
+ghost use Rattle.fix_engine.specs.Stated.{IsAsStated};
 
 use crate::party::Party;
 use crate::turn::{ROOM, run_and_cut, take_reading};
@@ -158,6 +160,13 @@ impl Session {
         ensures stops { IfNone self.old.stopped (self.new.stopped ≡ stop_cause result) }
         ensures cause { IfNone self.old.stopped (RunHasCause result (O.seen o.old).faults (O.seen o.new).faults) }
         ensures phase { IfNone self.old.stopped (IsDownUnlessSpent result self.old.live.state.phase self.new.live.state.phase) }
+
+        // Where no part failed: all of it, or a front of it where memory was refused.
+        ensures as_stated { NoneRose (O.seen o.old).faults (O.seen o.new).faults → IfNone self.old.stopped (Goes (O.seen o.old) (O.seen o.new) (IsAsStated self.old.identity turns self.old.live result self.new.live)) }
+
+        // How many turns it made, and what is kept behind them.
+        ensures turns { IfNone self.old.stopped (Goes (O.seen o.old) (O.seen o.new) (λ notes. HasTurns turns result (acts_of notes))) }
+        ensures settled { IfNone self.old.stopped ((turns ≡ 0 → self.old.live.state.kept ≡ self.old.live.state.expected) → IsSettled result self.new.live.state) }
     {
         if let Some(cause) = self.stopped {
             return RunEnd::Stopped(cause);

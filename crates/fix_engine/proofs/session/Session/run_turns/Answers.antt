@@ -1,5 +1,8 @@
 use Rattle.fix_engine.proofs.Causes.{RanTo-has_cause}
 use Rattle.fix_engine.proofs.Phases.{Ran-phase}
+use Rattle.fix_engine.proofs.Settled.{Ran-settled}
+use Rattle.fix_engine.proofs.Turns.{Ran-has_turns}
+use Rattle.fix_engine.proofs.Prefix.{as_stated}
 use Rattle.fix_engine.proofs.session.Session.run_turns.Goals as goal
 
 pub returns-clause-cause : goal.returns-clause-cause
@@ -10,3 +13,16 @@ pub returns-clause-phase : goal.returns-clause-phase
 returns-clause-phase g c =
     let h = c.run_and_cut-ran.ensures.notes in
     rw (← c.self.view_is, c.in_default.is, c.answer_of-answer.ensures) (Ran-phase _ _ _ _ _ _ (rw (← c.self.view_is, c.in_default.is) at c.requires) h.2)
+
+pub returns-clause-turns : goal.returns-clause-turns
+returns-clause-turns g c =
+    rw (← c.self.view_is, c.in_default.is, c.answer_of-answer.ensures) (Ran-has_turns _ _ _ _ _ _ _ c.run_and_cut-ran.ensures.notes)
+
+pub returns-clause-settled : goal.returns-clause-settled
+returns-clause-settled g c =
+    let h = c.run_and_cut-ran.ensures.notes in
+    rw (← c.self.view_is, c.in_default.is, c.answer_of-answer.ensures) (λ held. Ran-settled _ _ _ _ _ _ held h.2)
+
+pub returns-clause-as_stated : goal.returns-clause-as_stated
+returns-clause-as_stated g c =
+    rw (← c.self.view_is, c.in_default.is, c.answer_of-answer.ensures) (λ calm. as_stated _ c.self.invariant.0 _ _ _ _ _ _ c.self.invariant.1.reading c.run_and_cut-ran.ensures.notes calm)

@@ -1,0 +1,72 @@
+-- What a run says of its turns: how many it made, and that the expected number is kept behind them.
+use Rattle.std.specs.Prelude.{◌≡◌, ◌<◌, ◌≤◌, ◌+◌, ◌∷◌, ℕ, suc, List, [], ⊤}
+use Rattle.fix_base.specs.declared.act.Act.TheVariants as act
+use Rattle.fix_base.specs.declared.act.Act.{Act}
+use Rattle.fix_engine.specs.State.{State}
+use Rattle.fix_engine.specs.declared.stop.RunEnd.{RunEnd}
+use Rattle.fix_engine.specs.declared.stop.RunEnd.TheVariants as run
+
+-- how often these acts read: bytes came, or nothing, or the end of the connection
+abbrev pub reads_in : List Act → ℕ
+reads_in [] = 0
+reads_in (act.Read b ∷ acts) = suc (reads_in acts)
+reads_in (act.Idle ∷ acts) = suc (reads_in acts)
+reads_in (act.Ended ∷ acts) = suc (reads_in acts)
+reads_in (act.Opened ∷ acts) = reads_in acts
+reads_in (act.Now t ∷ acts) = reads_in acts
+reads_in (act.Wrote b ∷ acts) = reads_in acts
+reads_in (act.Kept r ∷ acts) = reads_in acts
+reads_in (act.KeepLost r ∷ acts) = reads_in acts
+reads_in (act.Handed n marked body ∷ acts) = reads_in acts
+reads_in (act.HandLost n marked body ∷ acts) = reads_in acts
+reads_in (act.Cut ∷ acts) = reads_in acts
+reads_in (act.Stop ∷ acts) = reads_in acts
+
+-- how often these acts look at the clock
+abbrev pub looks_in : List Act → ℕ
+looks_in [] = 0
+looks_in (act.Now t ∷ acts) = suc (looks_in acts)
+looks_in (act.Read b ∷ acts) = looks_in acts
+looks_in (act.Idle ∷ acts) = looks_in acts
+looks_in (act.Ended ∷ acts) = looks_in acts
+looks_in (act.Opened ∷ acts) = looks_in acts
+looks_in (act.Wrote b ∷ acts) = looks_in acts
+looks_in (act.Kept r ∷ acts) = looks_in acts
+looks_in (act.KeepLost r ∷ acts) = looks_in acts
+looks_in (act.Handed n marked body ∷ acts) = looks_in acts
+looks_in (act.HandLost n marked body ∷ acts) = looks_in acts
+looks_in (act.Cut ∷ acts) = looks_in acts
+looks_in (act.Stop ∷ acts) = looks_in acts
+
+-- Of n turns, this many were made up to their look at the clock: all of them at TurnsSpent, and fewer where
+-- a turn ended the run before it looked. A store that fails, and want of memory, may end a turn behind its look.
+abbrev pub IsMadeOf : RunEnd → ℕ → ℕ → Type 0
+IsMadeOf run.TurnsSpent n made = made ≡ n
+IsMadeOf (run.Closed why) n made = made < n
+IsMadeOf (run.NotBuilt number) n made = made < n
+IsMadeOf run.LinkFault n made = made < n
+IsMadeOf run.AppFault n made = made < n
+IsMadeOf run.NumbersSpent n made = made < n
+IsMadeOf run.StoreFault n made = made ≤ n
+IsMadeOf run.OutOfMemory n made = made ≤ n
+IsMadeOf (run.Stopped cause) n made = made ≡ 0
+
+-- a run of at most n turns: each reads once, and then looks once at the clock
+pub record HasTurns (n : ℕ) (answer : RunEnd) (acts : List Act) : Type 0 where
+  pub made : IsMadeOf answer n (looks_in acts)
+  pub reads_first : looks_in acts ≤ reads_in acts
+  pub reads_once : reads_in acts ≤ looks_in acts + 1
+  pub at_most : reads_in acts ≤ n
+  pub all : answer ≡ run.TurnsSpent → reads_in acts ≡ n
+
+-- behind this answer the expected number is the one that is kept
+abbrev pub IsSettled : RunEnd → State → Type 0
+IsSettled run.TurnsSpent s = s.kept ≡ s.expected
+IsSettled (run.Closed why) s = s.kept ≡ s.expected
+IsSettled (run.NotBuilt number) s = s.kept ≡ s.expected
+IsSettled run.LinkFault s = s.kept ≡ s.expected
+IsSettled run.AppFault s = s.kept ≡ s.expected
+IsSettled run.StoreFault s = ⊤
+IsSettled run.NumbersSpent s = ⊤
+IsSettled run.OutOfMemory s = ⊤
+IsSettled (run.Stopped cause) s = ⊤
