@@ -3,10 +3,9 @@
 
 mod serve;
 mod status;
-mod words;
-
 #[cfg(test)]
 mod tests;
+mod words;
 
 pub use serve::serve_stdio;
 pub use status::status_name;

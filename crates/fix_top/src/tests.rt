@@ -1,0 +1,235 @@
+use super::*;
+use fix_base::{Bytes, Status, Stored};
+use fix_engine::Plain;
+use fix_parts::{KeptTape, LineApp, MemoryClock, MemoryLink, MemorySink};
+use std::alloc::Global;
+use std::process::Abort;
+use std::test::Fail;
+
+// In these texts `|` stands for SOH.
+const LOGON: &[u8] =
+    b"8=FIX.4.2|9=58|35=A|34=1|49=BUY|52=20240102-10:00:00|56=SELL|98=0|108=30|10=063|";
+
+const ORDER: &[u8] =
+    b"8=FIX.4.2|9=95|35=D|34=2|49=BUY|52=20240102-10:00:00|56=SELL|11=A1|21=1|55=XYZ|54=1|60=20240102-10:00:00|40=1|10=094|";
+
+const LOGOUT: &[u8] = b"8=FIX.4.2|9=46|35=5|34=3|49=BUY|52=20240102-10:00:00|56=SELL|10=025|";
+
+const HEARTBEAT: &[u8] = b"8=FIX.4.2|9=46|35=0|34=1|49=BUY|52=20240102-10:00:00|56=SELL|10=018|";
+
+const TEST_REQUEST: &[u8] =
+    b"8=FIX.4.2|9=55|35=1|34=2|49=BUY|52=20240102-10:00:00|56=SELL|112=PING|10=020|";
+
+const LOGON_ANSWER: &[u8] =
+    b"8=FIX.4.2|9=62|35=A|34=1|49=SELL|52=20240102-10:00:00.000|56=BUY|98=0|108=30|10=248|";
+
+const LOGOUT_ANSWER: &[u8] =
+    b"8=FIX.4.2|9=50|35=5|34=2|49=SELL|52=20240102-10:00:00.000|56=BUY|10=209|";
+
+const LINE: &[u8] = b"2 N 35=D|11=A1|21=1|55=XYZ|54=1|60=20240102-10:00:00|40=1|\n";
+
+const WORDS: [&str; 4] = ["--stdio", "FIX.4.2", "SELL", "BUY"];
+
+type Tested = Plain<MemoryLink, LineApp<MemorySink>, MemoryClock, KeptTape>;
+
+// The texts as bytes, one after the other.
+fn bytes_of(alloc: Global, texts: &[&[u8]]) -> Result<Vec<u8>, Fail> {
+    let mut bytes = Vec::new(alloc);
+    for text in texts {
+        for byte in *text {
+            bytes.push(if *byte == b'|' { 1 } else { *byte })?;
+        }
+    }
+    Ok(bytes)
+}
+
+// The calls that fail: of the store, of the connection, and of the sink; 0 for none.
+#[derive(Clone, Copy)]
+struct Fails {
+    keep: u64,
+    link: u64,
+    sink: u64,
+}
+
+const NONE: Fails = Fails {
+    keep: 0,
+    link: 0,
+    sink: 0,
+};
+
+// Serves a connection that gives these pieces at 2024-01-02 10:00:00.
+fn served(
+    alloc: Global,
+    words: &[&str],
+    pieces: Vec<Bytes>,
+    fails: Fails,
+    turns: u64,
+) -> Result<(Status, Tested), Fail> {
+    let mut readings = Vec::new(alloc);
+    readings.push(1_704_189_600_000_000)?;
+    let sink = MemorySink::new(alloc, 1000, vec![in alloc; fails.sink]?)?;
+    let mut o = Plain::new(
+        alloc,
+        MemoryLink::new(alloc, pieces, 1000, vec![in alloc; fails.link]?)?,
+        LineApp::new(alloc, sink),
+        MemoryClock::new(readings),
+        KeptTape::new(alloc),
+        vec![in alloc; fails.keep]?,
+    );
+    let status = serve_stdio(alloc, words, &mut o, turns);
+    Ok((status, o))
+}
+
+// Serves a connection that gives these texts in one piece.
+fn served_at_once(alloc: Global, texts: &[&[u8]], fails: Fails) -> Result<(Status, Tested), Fail> {
+    let mut pieces = Vec::new(alloc);
+    pieces.push(Bytes::from_vec(bytes_of(alloc, texts)?))?;
+    served(alloc, WORDS.as_slice(), pieces, fails, u64::MAX)
+}
+
+// Asserts what came out.
+fn assert_out(
+    rt: &impl Abort,
+    alloc: Global,
+    o: &Tested,
+    written: &[&[u8]],
+    lines: &[u8],
+) -> Result<(), Fail> {
+    let written = bytes_of(alloc, written)?;
+    assert!(rt; o.link().written() == written.as_slice());
+    assert!(rt; o.app().sink().written() == lines);
+    Ok(())
+}
+
+#[test]
+fn an_order_is_handed_over(rt: HostRuntime) -> Result<(), Fail> {
+    let alloc = rt.alloc();
+    let (status, o) = served_at_once(alloc, &[LOGON, ORDER, LOGOUT], NONE)?;
+    assert_eq!(rt; status, Status(0));
+    assert_out(&rt, alloc, &o, &[LOGON_ANSWER, LOGOUT_ANSWER], LINE)?;
+    let stored = Stored {
+        last: 2,
+        expected: 4,
+        since: None,
+    };
+    assert_eq!(rt; o.stored(), stored);
+    Ok(())
+}
+
+#[test]
+fn a_cut_anywhere_changes_nothing(rt: HostRuntime) -> Result<(), Fail> {
+    let alloc = rt.alloc();
+    let input = bytes_of(alloc, &[LOGON, ORDER, LOGOUT])?;
+    for at in 0..input.len() {
+        let mut pieces = Vec::new(alloc);
+        pieces.push(Bytes::copy(alloc, &input[..at])?)?;
+        pieces.push(Bytes::copy(alloc, &input[at..])?)?;
+        let (status, o) = served(alloc, WORDS.as_slice(), pieces, NONE, u64::MAX)?;
+        assert_eq!(rt; status, Status(0));
+        assert_out(&rt, alloc, &o, &[LOGON_ANSWER, LOGOUT_ANSWER], LINE)?;
+    }
+    Ok(())
+}
+
+#[test]
+fn byte_by_byte_comes_to_the_same(rt: HostRuntime) -> Result<(), Fail> {
+    let alloc = rt.alloc();
+    let mut pieces = Vec::new(alloc);
+    for byte in &bytes_of(alloc, &[LOGON, ORDER, LOGOUT])? {
+        pieces.push(Bytes::copy(alloc, &[*byte])?)?;
+        pieces.push(Bytes::copy(alloc, b"")?)?;
+    }
+    let (status, o) = served(alloc, WORDS.as_slice(), pieces, NONE, u64::MAX)?;
+    assert_eq!(rt; status, Status(0));
+    assert_out(&rt, alloc, &o, &[LOGON_ANSWER, LOGOUT_ANSWER], LINE)?;
+    Ok(())
+}
+
+#[test]
+fn other_beginnings_end_otherwise(rt: HostRuntime) -> Result<(), Fail> {
+    let alloc = rt.alloc();
+    // Nothing comes.
+    let (status, o) = served_at_once(alloc, &[], NONE)?;
+    assert_eq!(rt; status, Status(1));
+    assert_out(&rt, alloc, &o, &[], b"")?;
+
+    // The first message is no Logon.
+    let (status, o) = served_at_once(alloc, &[HEARTBEAT], NONE)?;
+    assert_eq!(rt; status, Status(1));
+    assert_out(&rt, alloc, &o, &[], b"")?;
+
+    // The connection ends behind the order.
+    let (status, o) = served_at_once(alloc, &[LOGON, ORDER], NONE)?;
+    assert_eq!(rt; status, Status(1));
+    assert_out(&rt, alloc, &o, &[LOGON_ANSWER], LINE)?;
+
+    // A message comes that isn't answered yet.
+    let (status, o) = served_at_once(alloc, &[LOGON, TEST_REQUEST], NONE)?;
+    assert_eq!(rt; status, Status(10));
+    assert_out(&rt, alloc, &o, &[LOGON_ANSWER], b"")?;
+
+    // What is no message is skipped.
+    let texts = [b"8=FIX.4.2|9=x|abc|".as_slice(), LOGON, ORDER, LOGOUT];
+    let (status, o) = served_at_once(alloc, &texts, NONE)?;
+    assert_eq!(rt; status, Status(0));
+    assert_out(&rt, alloc, &o, &[LOGON_ANSWER, LOGOUT_ANSWER], LINE)?;
+    Ok(())
+}
+
+#[test]
+fn other_words_are_refused(rt: HostRuntime) -> Result<(), Fail> {
+    let alloc = rt.alloc();
+    let long = "SSSSSSSSSSSSSSSSSSSSSSSSSSSSSSSSSSSSSSSSSSSSSSSSSSSSSSSSSSSSSSSSS";
+    for words in [
+        ["--stdio", "FIX.4.3", "SELL", "BUY"],
+        ["--help", "FIX.4.2", "SELL", "BUY"],
+        ["--stdio", "FIX.4.2", "", "BUY"],
+        ["--stdio", "FIX.4.2", "SELL", "B\u{1}Y"],
+        ["--stdio", "FIX.4.4", long, "BUY"],
+    ] {
+        let (status, o) = served(alloc, words.as_slice(), Vec::new(alloc), NONE, 9)?;
+        assert_eq!(rt; status, Status(2));
+        assert_eq!(rt; o.tape().acts().len(), 0);
+    }
+    let (status, _) = served(
+        alloc,
+        &["--stdio", "FIX.4.2", "SELL"],
+        Vec::new(alloc),
+        NONE,
+        9,
+    )?;
+    assert_eq!(rt; status, Status(2));
+    let (status, _) = served(
+        alloc,
+        &["--stdio", "FIX.4.4", "S", "B"],
+        Vec::new(alloc),
+        NONE,
+        9,
+    )?;
+    assert_eq!(rt; status, Status(1));
+    Ok(())
+}
+
+#[test]
+fn each_fault_has_its_status(rt: HostRuntime) -> Result<(), Fail> {
+    let alloc = rt.alloc();
+    for (keep, link, sink, want) in [
+        (1, 0, 0, 5),
+        (2, 0, 0, 5),
+        (3, 0, 0, 5),
+        (0, 1, 0, 6),
+        (0, 2, 0, 6),
+        (0, 3, 0, 6),
+        (0, 0, 1, 7),
+    ] {
+        let fails = Fails { keep, link, sink };
+        let (status, _) = served_at_once(alloc, &[LOGON, ORDER, LOGOUT], fails)?;
+        assert_eq!(rt; status, Status(want));
+    }
+    let mut pieces = Vec::new(alloc);
+    pieces.push(Bytes::copy(alloc, b"")?)?;
+    let (status, _) = served(alloc, WORDS.as_slice(), pieces, NONE, 1)?;
+    assert_eq!(rt; status, Status(8));
+    assert_eq!(rt; status_name(status), "Turns");
+    Ok(())
+}

@@ -34,12 +34,7 @@ fn is_comp(text: &[u8]) -> bool
 }
 
 // What four words name, if they ask for a session.
-fn party_of<'a>(
-    mode: &[u8],
-    begin: &[u8],
-    sender: &'a [u8],
-    target: &'a [u8],
-) -> Option<Named<'a>>
+fn party_of<'a>(mode: &[u8], begin: &[u8], sender: &'a [u8], target: &'a [u8]) -> Option<Named<'a>>
     ensures known { IfSome result (λ n. IsForm (mode.now ∷ begin.now ∷ sender.now ∷ target.now ∷ []) (identity_of n)) }
     ensures each { IfNone result (IsNoForm (mode.now ∷ begin.now ∷ sender.now ∷ target.now ∷ [])) }
 {
