@@ -14,3 +14,4 @@ pub mod OnLemmas
 pub mod LawfulSteps
 pub mod LawfulAnswers
 pub mod LawfulRuns
+pub mod OneConnection

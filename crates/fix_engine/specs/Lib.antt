@@ -8,3 +8,4 @@ pub mod Written
 pub mod Turn
 pub mod Run
 pub mod Lawful
+pub mod InStep
