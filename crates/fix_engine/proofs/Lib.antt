@@ -15,3 +15,4 @@ pub mod LawfulSteps
 pub mod LawfulAnswers
 pub mod LawfulRuns
 pub mod OneConnection
+pub mod InStepLemmas
