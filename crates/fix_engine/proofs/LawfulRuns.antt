@@ -216,8 +216,3 @@ Ran-lawful id n l notes r to (turn.no_cut {to = behind} {e = end} h d) e f =
 
 pub run_lawful : (id : Identity) (n : ℕ) (l : Live) (r : Result ⊤ Ending) (to : Live) (old new : Seen) → Goes old new (λ notes. Ran id n l notes r to) → Goes old new (IsLawful id l (run_end r) to)
 run_lawful id n l r to old new g = (g.0, g.1, Ran-lawful id n l g.0 r to g.2)
-
--- ---- a new connection
-
-new_connection : EndState → Connection
-new_connection e = record { opened = e.end; read = []; written = []; base = length e.handled; gave = [] }

@@ -17,3 +17,5 @@ pub mod LawfulRuns
 pub mod Settled
 pub mod Turns
 pub mod Prefix
+pub mod OneConnection
+pub mod InStepLemmas

@@ -1,5 +1,5 @@
 -- Every run of the engine is a run of a lawful end.
-use Rattle.std.specs.Prelude.{◌≡◌, ◌≢◌, ℕ, ◌<◌, ◌≤◌, List, ◌++◌, length, Bool, true, Option, Some, None, IfSome, Result, Ok, Err}
+use Rattle.std.specs.Prelude.{◌≡◌, ◌≢◌, ℕ, ◌<◌, ◌≤◌, List, length, true, Option, Some, None, Result, Ok, Err}
 use Rattle.fix_base.specs.Lists.{Among}
 use Rattle.fix_base.specs.declared.identity.Identity.{Identity}
 use Rattle.fix_base.specs.Stream.{Ahead, Item, TakesAll, frames}
@@ -11,7 +11,7 @@ use Rattle.fix_base.specs.End.{End}
 use Rattle.fix_base.specs.declared.act.Act.{Act}
 use Rattle.fix_base.specs.Wrote.{WroteWhole}
 use Rattle.fix_base.specs.EndStep.{Connection, EndState, EndRun}
-use Rattle.fix_base.specs.Seen.{Stores, Note, Seen, acts_of}
+use Rattle.fix_base.specs.Seen.{Stores, Note, acts_of}
 use Rattle.fix_engine.specs.State.{State, Down, Say}
 use Rattle.fix_engine.specs.Answer.{entry_of}
 use Rattle.fix_engine.specs.Turn.{Live}
@@ -109,20 +109,3 @@ AfterBegin id (Err (begins.Stopped cause)) to e = ⊥
 -- whatever end has a session's numbers, and no doubt, the acts that open its connection are a run of it
 abbrev pub IsLawfulBegin : {T : Type 0} → Seat → Result T BeginFault → Seat → List Note → Type 0
 IsLawfulBegin old answer new notes = (e : EndState) → IsSettled old.live.state e → Leads old.identity e (acts_of notes) (AfterBegin old.identity answer new.live)
-
--- the end is in step with a session: on a connection, or between two of them
-pub data IsBeside (id : Identity) (l : Live) (e : EndState) : Type 0 where
-  connected : Fits id l e → IsBeside id l e
-  down : l.state.phase ≡ Down → IsSettled l.state e → IsBeside id l e
-
--- a session is in step with what is outside of it: a run of a lawful end led to one that is in step with the session;
--- where the tape is told, its last acts are those of the run, and where the stored end is told, it is this end's
-pub record IsInStep (w : Seen) (seat : Seat) : Type 0 where
-  pub before : List Act
-  pub acts : List Act
-  pub start : EndState
-  pub to : EndState
-  pub run : EndRun seat.identity start acts to
-  pub beside : IsBeside seat.identity seat.live to
-  pub tape : IfSome w.tape (λ tape. tape ≡ before ++ acts)
-  pub stored : IfSome w.stored (λ held. held ≡ to.end)

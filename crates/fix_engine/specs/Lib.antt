@@ -11,3 +11,4 @@ pub mod Plain
 pub mod Lawful
 pub mod Turns
 pub mod Stated
+pub mod InStep

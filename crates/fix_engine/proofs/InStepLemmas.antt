@@ -1,0 +1,214 @@
+-- A session stays in step with what is outside of it, and keeps up with its counterparty.
+use Rattle.std.proofs.Common.{◌≡◌, ◌≢◌, inl, inr, ℕ, ◌≤◌, List, [], ◌∷◌, ◌++◌, length, Option, Some, None, Result, Ok, Err, refl, sym, ap, ◌∙◌, subst, append_assoc, arith}
+use Rattle.std.specs.Prelude.{⊤, IfSome, IfNone}
+use Rattle.fix_base.specs.declared.identity.Identity.{Identity}
+use Rattle.fix_base.specs.declared.entry.Record.TheVariants.{Push, Expect, Reset}
+use Rattle.fix_base.specs.declared.act.Act.{Act}
+use Rattle.fix_base.specs.declared.act.Act.TheVariants as act
+use Rattle.fix_base.specs.End.{End}
+use Rattle.fix_base.specs.EndStep as steps
+use Rattle.fix_base.specs.EndStep.{Connection, EndState, EndStep, EndRun}
+use Rattle.fix_base.specs.Seen.{Stores, grown, Note, acts_of, Seen, Moves, Goes}
+use Rattle.fix_base.proofs.RunLemmas.{EndRun-append}
+use Rattle.fix_base.proofs.ReaderLemmas.{reader}
+use Rattle.fix_base.proofs.WholeLemmas.{whole_start}
+use Rattle.fix_engine.specs.State.{Down, Ending}
+use Rattle.fix_engine.specs.declared.state.Ending.TheVariants as ending
+use Rattle.fix_engine.specs.declared.stop.StopCause.{StopCause}
+use Rattle.fix_engine.specs.declared.stop.BeginFault.{BeginFault}
+use Rattle.fix_engine.specs.Turn.{Live, live, Ran}
+use Rattle.fix_engine.specs.Run.{Seat, run_end, stop_cause, BeginsTo, opened_to, no_memory, no_memory_to_open, begun}
+use Rattle.fix_engine.specs.Lawful.{IsSettled, IsOn, Fits, HasLeft, Leads, After, AfterBegin, IsLawfulBegin}
+use Rattle.fix_engine.specs.InStep as step
+use Rattle.fix_engine.specs.InStep.{IsBeside, IsTape, IsStored, IsInStep, IsConnected, ReadsFrom, KeepsUpBehind}
+use Rattle.fix_engine.proofs.LeadsLemmas.{leads_nowhere, leads_step}
+use Rattle.fix_engine.proofs.ReadLemmas.{read_nothing}
+use Rattle.fix_engine.proofs.LawfulRuns.{Ran-lawful}
+use Rattle.fix_engine.proofs.OneConnection.{one-append, Ran-one}
+
+-- ---- what is told
+
+-- the tape has the acts behind those that it had
+tape_moves : (t t' : Option (List Act)) (xs acts : List Act) → t' ≡ grown t acts → IfSome t (λ tape. tape ≡ xs) → IfSome t' (λ tape. tape ≡ xs ++ acts)
+tape_moves None t' xs acts e h = subst (λ o. IfSome o (λ tape. tape ≡ xs ++ acts)) (sym e) tt
+tape_moves (Some old) t' xs acts e h = subst (λ o. IfSome o (λ tape. tape ≡ xs ++ acts)) (sym e) (ap (λ l. l ++ acts) h)
+
+-- a store that isn't told stays so
+untold : (acts : List Act) (o : Option End) → Stores acts None o → o ≡ None
+untold [] o s = s
+untold (act.Kept r ∷ acts) o s = untold acts o (subst (λ m. Stores acts m o) s.1 s.2)
+untold (act.KeepLost r ∷ acts) o s = untold acts o (subst (λ m. Stores acts m o) (elim s.1 [ inl a ↦ a | inr b ↦ b ]) s.2)
+untold (act.Opened ∷ acts) o s = untold acts o (subst (λ m. Stores acts m o) s.1 s.2)
+untold (act.Now t ∷ acts) o s = untold acts o (subst (λ m. Stores acts m o) s.1 s.2)
+untold (act.Read b ∷ acts) o s = untold acts o (subst (λ m. Stores acts m o) s.1 s.2)
+untold (act.Idle ∷ acts) o s = untold acts o (subst (λ m. Stores acts m o) s.1 s.2)
+untold (act.Ended ∷ acts) o s = untold acts o (subst (λ m. Stores acts m o) s.1 s.2)
+untold (act.Wrote b ∷ acts) o s = untold acts o (subst (λ m. Stores acts m o) s.1 s.2)
+untold (act.Handed n marked body ∷ acts) o s = untold acts o (subst (λ m. Stores acts m o) s.1 s.2)
+untold (act.HandLost n marked body ∷ acts) o s = untold acts o (subst (λ m. Stores acts m o) s.1 s.2)
+untold (act.Cut ∷ acts) o s = untold acts o (subst (λ m. Stores acts m o) s.1 s.2)
+untold (act.Stop ∷ acts) o s = untold acts o (subst (λ m. Stores acts m o) s.1 s.2)
+
+-- a store that held the end holds the one behind the acts
+store_moves : (o o' : Option End) (acts : List Act) (from to : End) → Stores acts o o' → ((held : Option End) → Stores acts (Some from) held → held ≡ Some to) → IfSome o (λ held. held ≡ from) → IfSome o' (λ held. held ≡ to)
+store_moves None o' acts from to s follows h = subst (λ x. IfSome x (λ held. held ≡ to)) (sym (untold acts o' s)) tt
+store_moves (Some old) o' acts from to s follows h = subst (λ x. IfSome x (λ held. held ≡ to)) (sym (follows o' (subst (λ f. Stores acts (Some f) o') h s))) refl
+
+-- ---- a run of turns
+
+beside_settled : (id : Identity) (l : Live) (e : EndState) → IsBeside id l e → IsSettled l.state e
+beside_settled id l e (step.connected f) = f.on.settled
+beside_settled id l e (step.down p h) = h
+
+beside_fits : (id : Identity) (l : Live) (e : EndState) → l.state.phase ≢ Down → IsBeside id l e → Fits id l e
+beside_fits id l e is_open (step.connected f) = f
+beside_fits id l e is_open (step.down p h) = absurd (is_open p)
+
+-- a session that isn't stopped behind a run is in step
+after_beside : (id : Identity) (r : Result ⊤ Ending) (to : Live) (e : EndState) → stop_cause (run_end r) ≡ None → After id (run_end r) to e → IsBeside id to e
+after_beside id (Ok x) to e none h = step.connected h
+after_beside id (Err (ending.Closed why)) to e none h = step.down h.phase h.settled
+after_beside id (Err (ending.NotBuilt n)) to e none h = step.down h.phase h.settled
+after_beside id (Err ending.LinkFault) to e none h = step.down h.phase h.settled
+after_beside id (Err ending.NumbersSpent) to e none h = step.down h.phase h.settled
+after_beside id (Err ending.AppFault) to e none h = cc
+after_beside id (Err ending.StoreFault) to e none h = cc
+after_beside id (Err ending.OutOfMemory) to e none h = cc
+
+abbrev seated : Seat → Live → Option StopCause → Seat
+seated seat to stopped = record { identity = seat.identity; live = to; stopped = stopped }
+
+-- calls that lead an end to one that is in step
+moved : (start : EndState) (before : List Act) (old new : Seen) (seat : Seat) (to : Live) (stopped : Option StopCause) (notes : List Note) (P : EndState → Type 0) → Moves old new notes → ((e : EndState) → P e → IsBeside seat.identity to e) → (h : IsInStep start before old seat) → Leads seat.identity h.to (acts_of notes) P → IsInStep start before new (seated seat to stopped)
+moved start before old new seat to stopped notes P m beside h l =
+    let b = beside l.to l.holds in
+    record {
+      acts = h.acts ++ acts_of notes;
+      to = l.to;
+      run = EndRun-append h.run l.run;
+      beside = b;
+      tape = subst (λ acts. IsTape new acts) (append_assoc before h.acts (acts_of notes)) (tape_moves old.tape new.tape (before ++ h.acts) (acts_of notes) m.tape h.tape);
+      stored = store_moves old.stored new.stored (acts_of notes) h.to.end l.to.end m.stored (λ held s. l.store held (beside_settled seat.identity to l.to b).doubt s) h.stored;
+    }
+
+if_none : {A : Type 0} (o : Option A) (P : Type 0) → (o ≡ None → P) → IfNone o P
+if_none None P h = h refl
+if_none (Some x) P h = tt
+
+-- a session that isn't stopped by a run stays in step
+pub run_in_step : (n : ℕ) (seat : Seat) (r : Result ⊤ Ending) (to : Live) (old new : Seen) → seat.live.state.phase ≢ Down → Goes old new (λ notes. Ran seat.identity n seat.live notes r to) → IfNone (stop_cause (run_end r)) ((start : EndState) (before : List Act) → IsInStep start before old seat → IsInStep start before new (seated seat to (stop_cause (run_end r))))
+run_in_step n seat r to old new is_open g =
+    if_none (stop_cause (run_end r)) ((start : EndState) (before : List Act) → IsInStep start before old seat → IsInStep start before new (seated seat to (stop_cause (run_end r))))
+    (λ none start before h. moved start before old new seat to (stop_cause (run_end r)) g.0 (After seat.identity (run_end r) to) g.1 (λ e k. after_beside seat.identity r to e none k) h
+    (Ran-lawful seat.identity n seat.live g.0 r to g.2 h.to (beside_fits seat.identity seat.live h.to is_open h.beside)))
+
+-- where all turns were made, the connection goes on
+pub run_connected : (n : ℕ) (seat : Seat) (x : ⊤) (to : Live) (stopped : Option StopCause) (old new : Seen) → Goes old new (λ notes. Ran seat.identity n seat.live notes (Ok x) to) → (start : EndState) (before : List Act) → IsConnected start before old seat → IsConnected start before new (seated seat to stopped)
+run_connected n seat x to stopped old new g start before h =
+    let acts = acts_of g.0 in
+    let l = Ran-lawful seat.identity n seat.live g.0 (Ok x) to g.2 h.to h.fits in
+    record {
+      opened = h.opened;
+      opens = h.opens;
+      acts = h.acts ++ acts;
+      one = one-append h.acts acts h.one (Ran-one seat.identity n seat.live g.0 (Ok x) to g.2);
+      to = l.to;
+      run = EndRun-append h.run l.run;
+      fits = l.holds;
+      tape = subst (λ (w : List Act). IsTape new w) (append_assoc before (act.Opened ∷ h.acts) acts) (tape_moves old.tape new.tape (before ++ act.Opened ∷ h.acts) acts g.1.tape h.tape);
+      stored = store_moves old.stored new.stored acts h.to.end l.to.end g.1.stored (λ held s. l.store held l.holds.on.settled.doubt s) h.stored;
+    }
+
+-- the session keeps up with its counterparty
+pub run_keeps_up : (n : ℕ) (seat : Seat) (r : Result ⊤ Ending) (to : Live) (old new : Seen) → Goes old new (λ notes. Ran seat.identity n seat.live notes r to) → (start : EndState) (before : List Act) (h : IsConnected start before old seat) (f0 f1 : End) → Goes old new (λ notes. ReadsFrom seat.identity start (h.acts ++ acts_of notes) f0 f1 → KeepsUpBehind seat.identity (run_end r) to h.opened (h.acts ++ acts_of notes) f0 f1)
+run_keeps_up n seat r to old new g start before h f0 f1 =
+    let acts = acts_of g.0 in
+    let l = Ran-lawful seat.identity n seat.live g.0 r to g.2 h.to h.fits in
+    let run : EndRun seat.identity h.opened (h.acts ++ acts) l.to = EndRun-append h.run l.run in
+    (
+      g.0,
+      g.1,
+      λ p. record {
+        to = l.to;
+        run = run;
+        behind = l.holds;
+        keeps_up = reader seat.identity start h.opened l.to (h.acts ++ acts) f0 f1 p.wrote p.persistent p.writes h.opens run (one-append h.acts acts h.one (Ran-one seat.identity n seat.live g.0 r to g.2)) p.front p.stored p.running;
+      },
+    )
+
+-- ---- a new connection
+
+abbrev new_connection : EndState → Connection
+new_connection e = record { opened = e.end; read = []; written = []; base = length e.handled; gave = [] }
+
+abbrev opened_by : EndState → EndState
+opened_by e = record e { connection = Some (new_connection e) }
+
+fits_opened : (id : Identity) (l : Live) (t : ℕ) (e : EndState) → IsSettled l.state e → Fits id (begun l t) (opened_by e)
+fits_opened id l t e h = record {
+  connection = new_connection e;
+  on = record {
+    phase = λ p. cc;
+    settled = record { doubt = h.doubt; numbers = record { expected = h.numbers.expected; stored = h.numbers.stored; out = h.numbers.out } };
+    is_open = refl;
+    read = read_nothing;
+    last = length e.end.out;
+    kept = omega arith;
+    whole = whole_start id e.end;
+    base = omega arith;
+  };
+  counted = λ n m. elim m [ ];
+}
+
+opening : (id : Identity) (s : EndState) → s.doubt ≡ None → EndStep id s act.Opened (opened_by s)
+opening id s none = record { certain = none; row = steps.opened }
+
+-- the opening of a connection is a run of a lawful end
+Begins-lawful : {T : Type 0} (old new : Seat) (r : Result T BeginFault) (notes : List Note) → BeginsTo old r new notes → IsLawfulBegin old r new notes
+Begins-lawful old new r notes (opened_to t) e h =
+    leads_step old.identity e e (act.Now t) (act.Opened ∷ []) (Fits old.identity (begun old.live t)) (record { certain = h.doubt; row = steps.now t }) (λ held k. k)
+    (leads_step old.identity e (opened_by e) act.Opened [] (Fits old.identity (begun old.live t)) (opening old.identity e h.doubt) (λ held k. k)
+    (leads_nowhere old.identity (opened_by e) (Fits old.identity (begun old.live t)) (fits_opened old.identity old.live t e h)))
+Begins-lawful old new r notes no_memory e h = leads_nowhere old.identity e (IsSettled old.live.state) h
+Begins-lawful old new r notes (no_memory_to_open t) e h =
+    leads_step old.identity e e (act.Now t) [] (IsSettled old.live.state) (record { certain = h.doubt; row = steps.now t }) (λ held k. k) (leads_nowhere old.identity e (IsSettled old.live.state) h)
+
+pub begin_lawful : {T : Type 0} (old new : Seat) (r : Result T BeginFault) (a b : Seen) → Goes a b (BeginsTo old r new) → Goes a b (IsLawfulBegin old r new)
+begin_lawful old new r a b g = (g.0, g.1, Begins-lawful old new r g.0 g.2)
+
+-- a session that isn't stopped is in step on the new connection
+Begins-in_step : {T : Type 0} (old new : Seat) (r : Result T BeginFault) (a b : Seen) (notes : List Note) → Moves a b notes → BeginsTo old r new notes → IfNone new.stopped ((start : EndState) (before : List Act) → IsInStep start before a old → IsInStep start before b new)
+Begins-in_step old new r a b notes m (opened_to {x = x} t) =
+    λ start before h. moved start before a b old (begun old.live t) None notes (Fits old.identity (begun old.live t)) m (λ e f. step.connected f) h
+    (Begins-lawful old new (Ok x) notes (opened_to t) h.to (beside_settled old.identity old.live h.to h.beside))
+Begins-in_step old new r a b notes m no_memory = tt
+Begins-in_step old new r a b notes m (no_memory_to_open t) = tt
+
+pub begin_in_step : {T : Type 0} (old new : Seat) (r : Result T BeginFault) (a b : Seen) → Goes a b (BeginsTo old r new) → IfNone new.stopped ((start : EndState) (before : List Act) → IsInStep start before a old → IsInStep start before b new)
+begin_in_step old new r a b g = Begins-in_step old new r a b g.0 g.1 g.2
+
+-- and from there on it is connected
+Begins-connected : {T : Type 0} (old new : Seat) (r : Result T BeginFault) (a b : Seen) (notes : List Note) → Moves a b notes → BeginsTo old r new notes → IfNone new.stopped ((start : EndState) (before : List Act) (h : IsInStep start before a old) → (time : ℕ) × IsConnected h.to (before ++ h.acts ++ act.Now time ∷ []) b new)
+Begins-connected old new r a b notes m (opened_to t) =
+    λ start before h.
+        (let e = h.to in
+        let settled = beside_settled old.identity old.live e h.beside in
+        (t, record {
+          opened = opened_by e;
+          opens = opening old.identity e settled.doubt;
+          acts = [];
+          one = tt;
+          to = opened_by e;
+          run = steps.stop;
+          fits = fits_opened old.identity old.live t e settled;
+          tape = subst (λ (w : List Act). IsTape b w) (again before h.acts t) (tape_moves a.tape b.tape (before ++ h.acts) (act.Now t ∷ act.Opened ∷ []) m.tape h.tape);
+          stored = store_moves a.stored b.stored (act.Now t ∷ act.Opened ∷ []) e.end e.end m.stored (λ held s. s.2.2 ∙ s.2.1 ∙ s.1) h.stored;
+        }))
+  where
+    again : (xs ys : List Act) (time : ℕ) → (xs ++ ys) ++ act.Now time ∷ act.Opened ∷ [] ≡ (xs ++ ys ++ act.Now time ∷ []) ++ act.Opened ∷ []
+    again xs ys time = simp append_assoc
+Begins-connected old new r a b notes m no_memory = tt
+Begins-connected old new r a b notes m (no_memory_to_open t) = tt
+
+pub begin_connected : {T : Type 0} (old new : Seat) (r : Result T BeginFault) (a b : Seen) → Goes a b (BeginsTo old r new) → IfNone new.stopped ((start : EndState) (before : List Act) (h : IsInStep start before a old) → (time : ℕ) × IsConnected h.to (before ++ h.acts ++ act.Now time ∷ []) b new)
+begin_connected old new r a b g = Begins-connected old new r a b g.0 g.1 g.2

@@ -1,0 +1,74 @@
+-- A session is in step with what is outside of it, from its first call on, and keeps up with its counterparty.
+use Rattle.std.specs.Prelude.{◌≡◌, ℕ, List, ◌∷◌, ◌++◌, IfSome}
+use Rattle.fix_base.specs.Lists.{IsPrefixOf}
+use Rattle.fix_base.specs.declared.identity.Identity.{Identity}
+use Rattle.fix_base.specs.Session.{mirrored}
+use Rattle.fix_base.specs.declared.act.Act.{Act}
+use Rattle.fix_base.specs.declared.act.Act.TheVariants as act
+use Rattle.fix_base.specs.End.{End}
+use Rattle.fix_base.specs.Payload.{IsPersistent}
+use Rattle.fix_base.specs.Wrote.{Wrote}
+use Rattle.fix_base.specs.EndStep.{EndState, EndStep, EndRun}
+use Rattle.fix_base.specs.Agrees.{Agrees}
+use Rattle.fix_base.specs.Reader.{bytes_read, AreOfOneConnection, ReaderKeepsUp}
+use Rattle.fix_base.specs.Seen.{Seen}
+use Rattle.fix_engine.specs.State.{Down}
+use Rattle.fix_engine.specs.Turn.{Live}
+use Rattle.fix_engine.specs.declared.stop.RunEnd.{RunEnd}
+use Rattle.fix_engine.specs.Run.{Seat}
+use Rattle.fix_engine.specs.Lawful.{IsSettled, Fits, After}
+
+-- the end is in step with a session: on a connection, or between two of them
+pub data IsBeside (id : Identity) (l : Live) (e : EndState) : Type 0 where
+  connected : Fits id l e → IsBeside id l e
+  down : l.state.phase ≡ Down → IsSettled l.state e → IsBeside id l e
+
+-- where the tape is told it is these acts
+abbrev pub IsTape : Seen → List Act → Type 0
+IsTape w acts = IfSome w.tape (λ tape. tape ≡ acts)
+
+-- where the stored end is told it is this one
+abbrev pub IsStored : Seen → End → Type 0
+IsStored w end = IfSome w.stored (λ held. held ≡ end)
+
+-- a session is in step with what is outside of it: since the end was `start`, and the tape had the acts `before`, a
+-- lawful run led to an end that is in step with the session. The tape has the acts of the run behind those, and this
+-- end is stored
+pub record IsInStep (start : EndState) (before : List Act) (w : Seen) (seat : Seat) : Type 0 where
+  pub acts : List Act
+  pub to : EndState
+  pub run : EndRun seat.identity start acts to
+  pub beside : IsBeside seat.identity seat.live to
+  pub tape : IsTape w (before ++ acts)
+  pub stored : IsStored w to.end
+
+-- the same from the opening of the connection on, which is open still
+pub record IsConnected (start : EndState) (before : List Act) (w : Seen) (seat : Seat) : Type 0 where
+  pub opened : EndState
+  pub opens : EndStep seat.identity start act.Opened opened
+  pub acts : List Act
+  pub one : AreOfOneConnection acts
+  pub to : EndState
+  pub run : EndRun seat.identity opened acts to
+  pub fits : Fits seat.identity seat.live to
+  pub tape : IsTape w (before ++ act.Opened ∷ acts)
+  pub stored : IsStored w to.end
+
+-- what these acts read on a connection is a front of what a counterparty wrote that keeps its messages to be sent
+-- again: `f0` is the counterparty at its opening, when the end agreed with it, and `f1` the counterparty now
+pub record ReadsFrom (id : Identity) (start : EndState) (acts : List Act) (f0 f1 : End) : Type 0 where
+  pub wrote : List ℕ
+  pub persistent : IsPersistent f1
+  pub writes : Wrote (mirrored id) f0 f1 wrote
+  pub front : IsPrefixOf (bytes_read acts) wrote
+  pub stored : Agrees start.end.stored start.handled f0.out
+  pub running : Agrees start.expected start.handled f0.out
+
+-- these acts on a connection led to an end behind this answer that keeps up with its counterparty: what was handed
+-- over, each number once, are the first messages that the counterparty stored, and each message that the counterparty
+-- had before the connection came marked
+pub record KeepsUpBehind (id : Identity) (answer : RunEnd) (live : Live) (opened : EndState) (acts : List Act) (f0 f1 : End) : Type 0 where
+  pub to : EndState
+  pub run : EndRun id opened acts to
+  pub behind : After id answer live to
+  pub keeps_up : ReaderKeepsUp f0 f1 acts to
