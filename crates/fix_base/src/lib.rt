@@ -15,6 +15,8 @@ mod precision;
 mod status;
 mod stream_laws;
 mod tags;
+#[cfg(test)]
+mod tests;
 mod world_laws;
 
 pub use act::Act;
