@@ -1,25 +1,17 @@
 -- A field whose `=` and SOH are found first.
-use Rattle.std.proofs.Common.{◌≡◌, ◌≢◌, ℕ, ◌+◌, ◌-◌, ◌<◌, ◌≤◌, ◌^◌, true, nat_lt, nat_le, ◌&&◌, if◌then◌else◌, List, [], ◌∷◌, ◌++◌, length, get_or, take, drop, Option, Some, None, refl, sym, ap, subst, ◌∙◌, append_assoc, arith, inl, inr, lit<}
+use Rattle.std.proofs.Common.{◌≡◌, ◌≢◌, ℕ, ◌<◌, ◌≤◌, ◌^◌, true, nat_lt, nat_le, ◌&&◌, if◌then◌else◌, List, [], ◌∷◌, ◌++◌, length, get_or, take, Option, Some, None, refl, sym, ap, subst, ◌∙◌, append_assoc, arith, inl, inr, lit<}
 use Rattle.std.specs.Prelude.{MatchOption, codes}
 use Rattle.std.specs.Fmt.{decimal}
 use Rattle.std.specs.Str.{all_ascii_digits}
 use Rattle.std.specs.Str.Parse.{digits_value, AllDigits}
 use Rattle.std.proofs.lemmas.Bool.{cases_lt, and_left, false_from_ne_true}
-use Rattle.std.proofs.lemmas.List.{length-take-le, take-append-drop, take_rest, take_at, drop_more, get_or-take, same_from_push}
+use Rattle.std.proofs.lemmas.List.{take_at, same_from_push}
 use Rattle.std.proofs.lemmas.Fmt.{digits_decimal, decimal-digits_value, length-decimal-le, decimal_nonempty, first_decimal}
 use Rattle.std.proofs.lemmas.Str.Parse.{IsNumeralModel, numerals_by_value, tells_all_ascii_digits, digits_value_short}
 use Rattle.fix_base.specs.Front.{Begins}
-use Rattle.fix_base.specs.Frame.{HasNoSoh}
 use Rattle.fix_base.specs.Fields.{IsTag, is_data_length}
-use Rattle.fix_base.proofs.Pieces.{from}
 use Rattle.fix_base.proofs.Digits.{numerals, data_length_is}
 use Rattle.fix_base.proofs.TagTexts.{tag_ends}
-
--- what stands before a byte, the byte, and what is behind it
-cut_at : (bytes : List ℕ) (i byte : ℕ) → i < length bytes → get_or bytes i 0 ≡ byte → bytes ≡ take i bytes ++ byte ∷ from (i + 1) bytes
-cut_at bytes i byte lt at =
-    let behind : drop i bytes ≡ byte ∷ drop (i + 1) bytes = drop_more bytes i 0 lt ∙ ap (λ b. b ∷ drop (i + 1) bytes) at in
-    sym (take-append-drop i bytes) ∙ ap (λ (t : List ℕ). take i bytes ++ t) (behind ∙ ap (λ (t : List ℕ). byte ∷ t) (sym (take_rest bytes (i + 1))))
 
 -- ---- a tag
 
@@ -61,13 +53,6 @@ pub tag_from : (text : List ℕ) (r : Option ℕ) → 0 < length text → length
 tag_from text None some few other h = λ n p. h (tag_text text n p).digits
 tag_from text (Some n) some few other h = tag_is text n some few other h.0 h.1
 
-pub tag_found : (bytes : List ℕ) (i n : ℕ) → i < length bytes → get_or bytes i 0 ≡ 61 → IsTag n (take i bytes ++ 61 ∷ []) → Begins (IsTag n) bytes (from (i + 1) bytes)
-tag_found bytes i n lt at is = record { text = take i bytes ++ 61 ∷ []; is = is; spelled = cut_at bytes i 61 lt at ∙ sym (append_assoc (take i bytes) (61 ∷ []) (from (i + 1) bytes)) }
-
--- no `=` is there
-pub no_equals : (bytes : List ℕ) → ((k : ℕ) → k < length bytes → get_or bytes k 0 ≢ 61) → (n : ℕ) (rest : List ℕ) → Begins (IsTag n) bytes rest → ⊥
-no_equals bytes clear n rest b = let e = tag_ends n bytes rest b in clear (length (decimal n)) e.inside e.end
-
 -- what stands before the first `=` is no tag
 pub no_tag_before : (bytes : List ℕ) (i : ℕ) → ((k : ℕ) → k < i → get_or bytes k 0 ≢ 61) → get_or bytes i 0 ≡ 61 → ((n : ℕ) → IsTag n (take i bytes ++ 61 ∷ []) → ⊥) → (n : ℕ) (rest : List ℕ) → Begins (IsTag n) bytes rest → ⊥
 no_tag_before bytes i clear at never n rest b =
@@ -78,13 +63,6 @@ no_tag_before bytes i clear at never n rest b =
     let spelled : bytes ≡ decimal n ++ 61 ∷ rest = b.spelled ∙ ap (λ (t : List ℕ). t ++ rest) b.is.spelled ∙ append_assoc (decimal n) (61 ∷ []) rest in
     let front : take i bytes ≡ decimal n = ap (λ k. take k bytes) same ∙ ap (take (length (decimal n))) spelled ∙ take_at (decimal n) (61 ∷ rest) (length (decimal n)) refl in
     never n (record { first = b.is.first; last = b.is.last; spelled = ap (λ (t : List ℕ). t ++ 61 ∷ []) front })
-
--- ---- a value
-
-pub value_found : (bytes : List ℕ) (i : ℕ) → i < length bytes → ((k : ℕ) → k < i → get_or bytes k 0 ≢ 1) → get_or bytes i 0 ≡ 1 → HasNoSoh (take i bytes) × (bytes ≡ take i bytes ++ 1 ∷ from (i + 1) bytes)
-value_found bytes i lt clear at =
-    let len : length (take i bytes) ≡ i = length-take-le i bytes (omega (arith, lt)) in
-    (λ k h. rw (get_or-take i bytes k 0 (omega (arith, h, len))) (clear k (omega (arith, h, len))), cut_at bytes i 1 lt at)
 
 -- ---- the length of data
 

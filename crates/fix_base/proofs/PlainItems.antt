@@ -1,12 +1,12 @@
 -- The plain reading, item by item.
-use Rattle.std.proofs.Common.{◌≡◌, ℕ, ◌+◌, ◌-◌, ◌<◌, ◌≤◌, Bool, true, IsTrue, nat_eq, List, [], ◌∷◌, ◌++◌, length, get_or, take, drop, refl, sym, ap, ◌∙◌, subst, arith, lit<}
-use Rattle.std.proofs.lemmas.List.{length-append, length-drop, append-nil, drop-drop, drop_at, take_at, get_or-drop, drop_more}
+use Rattle.std.proofs.Common.{◌≡◌, ℕ, ◌+◌, ◌-◌, ◌<◌, ◌≤◌, Bool, true, IsTrue, nat_eq, List, [], ◌∷◌, ◌++◌, length, get_or, drop, refl, sym, ap, ◌∙◌, subst, arith, lit<}
+use Rattle.std.proofs.lemmas.List.{length-append, length-drop, drop-drop, drop_at, get_or-drop, drop_more}
 use Rattle.std.proofs.lemmas.List.Prefix.{front_reads}
 use Rattle.fix_base.specs.Front.{Begins, NeverBegins}
 use Rattle.fix_base.specs.Shape.{Parts, HasShape, IsShape, IsRight}
 use Rattle.fix_base.specs.Stream.{Ahead, Item, Frame, Span, Byte, text_of, IsItem, Takes, TakesAll, HasNoItem, Reads, frames}
 use Rattle.fix_base.specs.Plain.{IsFound, PassesBy, AreFramesOf}
-use Rattle.fix_base.proofs.Spans.{shape_free, shape_long, shape_short}
+use Rattle.fix_base.proofs.Spans.{shape_free, shape_long}
 use Rattle.fix_base.proofs.Runs.{all_then, frames-append, reads_same}
 
 -- no shape can begin there: one byte
@@ -35,29 +35,6 @@ frame_found bytes parts rest b right = record {
   frames_are = refl;
 }
 
--- what the checksum is of is no longer than a shape
-pub summed_short : (bytes : List ℕ) (parts : Parts) (rest : List ℕ) → Begins (HasShape parts) bytes rest → length parts.before_sum ≤ 1048612
-summed_short bytes parts rest b = omega (arith, shape_short parts b.text b.is, ap length b.is.spelled, length-append parts.before_sum b.is.trailer)
-
--- ---- one item is taken
-
-pub found_short : (a : Ahead) (n : ℕ) (given : List ℕ → List (List ℕ)) → IsFound a n given → n ≤ length a.bytes
-found_short a n given f = omega (arith, f.long, ap length f.spelled, length-append (text_of f.item) f.rest)
-
-pub pass_skip : (a : Ahead) (old : List (List ℕ)) (n : ℕ) → IsFound a n (λ text. []) → PassesBy a old old n
-pass_skip a old n f = record {
-  item = f.item; is = f.is; rest = f.rest; spelled = f.spelled; long = f.long;
-  given = sym (ap (λ (w : List (List ℕ)). old ++ w) f.frames_are ∙ append-nil old);
-}
-
-pub pass_frame : (a : Ahead) (old new : List (List ℕ)) (n : ℕ) → IsFound a n (λ text. text ∷ []) → new ≡ old ++ take n a.bytes ∷ [] → PassesBy a old new n
-pass_frame a old new n f e =
-    let text : take n a.bytes ≡ text_of f.item = ap (take n) f.spelled ∙ take_at (text_of f.item) f.rest n f.long in
-    record {
-      item = f.item; is = f.is; rest = f.rest; spelled = f.spelled; long = f.long;
-      given = e ∙ ap (λ (t : List ℕ). old ++ t ∷ []) text ∙ ap (λ (w : List (List ℕ)). old ++ w) (sym f.frames_are);
-    }
-
 -- ---- the loop
 
 -- an item has a byte
@@ -72,9 +49,6 @@ pub record ReadTo (stream : List ℕ) (at : ℕ) (mark : Bool) (given : List (Li
   pub all : TakesAll (record { may_mark = true; bytes = stream }) items (record { may_mark = mark; bytes = drop at stream })
   pub given_is : given ≡ frames items
   pub inside : at ≤ length stream
-
-pub read_none : (stream : List ℕ) → ReadTo stream 0 true []
-read_none stream = record { items = []; all = refl; given_is = refl; inside = omega arith }
 
 pub pass_fits : (stream : List ℕ) (at n : ℕ) (mark : Bool) (old new : List (List ℕ)) → at ≤ length stream → PassesBy (record { may_mark = mark; bytes = drop at stream }) old new n → (0 < n) × (at + n ≤ length stream)
 pass_fits stream at n mark old new le p =

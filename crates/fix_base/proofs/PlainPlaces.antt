@@ -1,15 +1,15 @@
 -- A fixed place that is found first and judged as a whole.
-use Rattle.std.proofs.Common.{◌≡◌, ◌≢◌, ◌⊎◌, inl, inr, ℕ, ◌+◌, ◌-◌, ◌<◌, ◌≤◌, ◌^◌, List, [], ◌∷◌, ◌++◌, length, get_or, take, drop, refl, sym, ap, subst, ◌∙◌, append_assoc, arith}
+use Rattle.std.proofs.Common.{◌≡◌, ◌≢◌, ◌⊎◌, inl, inr, ℕ, ◌<◌, ◌≤◌, ◌^◌, List, [], ◌∷◌, ◌++◌, length, get_or, take, drop, refl, sym, ap, subst, ◌∙◌, arith}
 use Rattle.std.specs.Str.Parse.{digits_value, AllDigits}
 use Rattle.std.proofs.lemmas.Bool.{cases_lt}
-use Rattle.std.proofs.lemmas.List.{append-nil, length-append, length-take-le, take-append-drop, take_rest, take_all, nil_from_length, drop_more}
+use Rattle.std.proofs.lemmas.List.{append-nil, length-append, length-take-le, take_rest, take_all, nil_from_length}
 use Rattle.std.proofs.lemmas.Str.Parse.{digits_value_short}
 use Rattle.fix_base.specs.declared.front.Stop.TheVariants.{Wrong}
 use Rattle.fix_base.specs.Front.{Begins, NeverBegins, IsPartOf, SomeOf}
 use Rattle.fix_base.specs.Frame.{HasNoSoh, IsText, IsLine, IsLengthOf, IsSumOf}
 use Rattle.fix_base.proofs.Fronts.{stops_same}
-use Rattle.fix_base.proofs.Pieces.{from, line_begins, line_wrong, line_wrong_at}
-use Rattle.fix_base.proofs.Digits.{numerals, HasDigits, HasSum, length_partial, sum_partial}
+use Rattle.fix_base.proofs.Pieces.{from, line_wrong, line_wrong_at}
+use Rattle.fix_base.proofs.Digits.{numerals, length_partial, sum_partial}
 
 -- ---- a word
 

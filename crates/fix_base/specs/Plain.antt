@@ -6,7 +6,7 @@ use Rattle.fix_base.specs.declared.plain.PlainItem.TheVariants as found
 use Rattle.fix_base.specs.declared.plain.PlainShape.{PlainShape}
 use Rattle.fix_base.specs.Fields.{Field}
 use Rattle.fix_base.specs.Shape.{Parts}
-use Rattle.fix_base.specs.Stream.{Ahead, Item, Frame, text_of, IsItem, HasNoItem, Reads, frames}
+use Rattle.fix_base.specs.Stream.{Ahead, Item, text_of, IsItem, HasNoItem, Reads, frames}
 
 abbrev pub field_read : PlainField → Field
 field_read f = record { tag = f.tag; value = f.value.now }

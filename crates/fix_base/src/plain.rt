@@ -135,7 +135,12 @@ fn keep(alloc: Global, out: &mut Vec<Bytes>, frame: &[u8]) -> Result<(), OutOfMe
 
 /// Takes the item at the front: adds a copy of it if it is a frame, and gives how many bytes it has.
 /// None where no item stands.
-fn take_item(alloc: Global, out: &mut Vec<Bytes>, bytes: &[u8], may_mark: bool) -> Result<Option<usize>, OutOfMemory>
+fn take_item(
+    alloc: Global,
+    out: &mut Vec<Bytes>,
+    bytes: &[u8],
+    may_mark: bool,
+) -> Result<Option<usize>, OutOfMemory>
     ensures { IfOk result (λ taken. Passes (record { may_mark = may_mark; bytes = bytes.now }) out.old.items out.new.items taken) }
 {
     match item_at(bytes, may_mark) {
