@@ -11,6 +11,9 @@ mod fault;
 mod front;
 mod identity;
 mod number;
+mod plain;
+mod plain_fields;
+mod plain_places;
 mod precision;
 mod status;
 mod stream_laws;
@@ -30,6 +33,7 @@ pub use fault::Fault;
 pub use front::Stop;
 pub use identity::{Begin, Identity};
 pub use number::{SeqNum, Tag};
+pub use plain::plain_reading;
 pub use precision::Precision;
 pub use status::Status;
 pub use stream_laws::{
