@@ -11,3 +11,6 @@ pub mod Phases
 pub mod Settled
 pub mod Turns
 pub mod Prefix
+pub mod LookBackLemmas
+pub mod Shown
+pub mod Recounting

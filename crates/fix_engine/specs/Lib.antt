@@ -9,3 +9,4 @@ pub mod Turn
 pub mod Run
 pub mod Turns
 pub mod Stated
+pub mod LookBack
