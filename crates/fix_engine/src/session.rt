@@ -1,4 +1,4 @@
-ghost use Rattle.std.specs.Prelude.{◌≡◌, ◌≢◌, ℕ, List, IfSome, IfNone, IfOk, OnOk, OnErr, Some, None, Err};
+ghost use Rattle.std.specs.Prelude.{◌≡◌, ◌≢◌, ℕ, List, [], IfSome, IfNone, IfOk, OnOk, OnErr, Some, None, Err};
 ghost use Rattle.fix_base.specs.Session.{IsValidIdentity};
 ghost use Rattle.fix_base.specs.Seen.{acts_of, NoneRose, Goes};
 ghost use Rattle.fix_base.specs.declared.act.Act.{Act};
@@ -122,6 +122,7 @@ impl Session {
 
         // On a session that goes on.
         ensures begins { IfNone self.old.stopped (Goes (O.seen o.old) (O.seen o.new) (BeginsTo self.old result self.new)) }
+        ensures from_here { IfNone self.old.stopped (OnOk result (StandsAt self.new.live.state [] [] self.new.live)) }
     {
         if let Some(cause) = self.stopped {
             return Err(BeginFault::Stopped(cause));
