@@ -19,3 +19,6 @@ pub mod Turns
 pub mod Prefix
 pub mod OneConnection
 pub mod InStepLemmas
+pub mod LookBackLemmas
+pub mod Shown
+pub mod Recounting

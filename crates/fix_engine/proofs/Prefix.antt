@@ -161,8 +161,8 @@ Performed-total a id frame valid f (step.Send say n) fit s ok =
     elim (cases_lt s.last 999999999) [
       | inr h ↦ record { more = []; faultless = tt; r = Err ending.NumbersSpent; to = _; good = ok; whole = answer.spent say n h; no_want = λ h. cc }
       | inl h ↦
-      let t = said a id s say valid h ok fit in
-      record { more = Did (act.Kept (Push (entry_of s say))) ∷ Did (act.Wrote t.0) ∷ []; faultless = tt; r = Ok tt; to = with_last s (s.last + 1); good = ok; whole = answer.sent say n t.0 h t.1; no_want = Ok-no_want }
+          let t = said a id s say valid h ok fit in
+          record { more = Did (act.Kept (Push (entry_of s say))) ∷ Did (act.Wrote t.0) ∷ []; faultless = tt; r = Ok tt; to = with_last s (s.last + 1); good = ok; whole = answer.sent say n t.0 h t.1; no_want = Ok-no_want }
     ]
 
 Performed-resumes : (a : HasAnswers) (id : Identity) (frame : List ℕ) → IsValidIdentity id → IsFrame frame → (x : Step) → IsFit x → Resumes IsTimely (λ s. Performed id frame s x)
@@ -219,7 +219,7 @@ answers-fit frame AwaitLogon id s i p =
 answers-fit frame Up id s i p =
     by-test (AllByRecursion IsFit) _ (not_built i) _ (tt, (tt, (tt, (tt, tt))))
     (by-test (AllByRecursion IsFit) (names i.header.type (codes "5")) (logout_answer s.expected) _ (tt, (tt, (tt, (tt, tt))))
-      (by-test (AllByRecursion IsFit) (is_app_type i.header.type) (app_answer s.expected) (not_built i) (tt, (tt, (tt, (tt, tt)))) (tt, (tt, (tt, (tt, tt))))))
+    (by-test (AllByRecursion IsFit) (is_app_type i.header.type) (app_answer s.expected) (not_built i) (tt, (tt, (tt, (tt, tt)))) (tt, (tt, (tt, (tt, tt))))))
 
 -- ---- the frames
 

@@ -12,3 +12,4 @@ pub mod Lawful
 pub mod Turns
 pub mod Stated
 pub mod InStep
+pub mod LookBack

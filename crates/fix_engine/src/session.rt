@@ -1,11 +1,14 @@
-ghost use Rattle.std.specs.Prelude.{◌≡◌, ◌≢◌, IfSome, IfNone, IfOk, OnOk, OnErr, Some, None, Err};
+ghost use Rattle.std.specs.Prelude.{◌≡◌, ◌≢◌, ℕ, List, [], IfSome, IfNone, IfOk, OnOk, OnErr, Some, None, Err};
 ghost use Rattle.fix_base.specs.Session.{IsValidIdentity};
 ghost use Rattle.fix_base.specs.Seen.{acts_of, NoneRose, Goes};
+ghost use Rattle.fix_base.specs.declared.act.Act.{Act};
+ghost use Rattle.fix_engine.specs.declared.state.State.{State};
 ghost use Rattle.fix_engine.specs.State.{IsInRange, first_state};
 ghost use Rattle.fix_engine.specs.Turn.{live};
 ghost use Rattle.fix_engine.specs.Run.{no_bytes, run_end, RanTo, stop_cause, RunHasCause, IsDownUnlessSpent, Opens, BeginsTo};
 ghost use Rattle.fix_engine.specs.Turns.{HasTurns, IsSettled};
 ghost use Rattle.fix_engine.specs.Stated.{IsAsStated};
+ghost use Rattle.fix_engine.specs.LookBack.{StandsAt, LooksBack};
 
 use crate::party::Party;
 use crate::turn::{ROOM, run_and_cut, take_reading};
@@ -119,6 +122,7 @@ impl Session {
 
         // On a session that goes on.
         ensures begins { IfNone self.old.stopped (Goes (O.seen o.old) (O.seen o.new) (BeginsTo self.old result self.new)) }
+        ensures from_here { IfNone self.old.stopped (OnOk result (StandsAt self.new.live.state [] [] self.new.live)) }
     {
         if let Some(cause) = self.stopped {
             return Err(BeginFault::Stopped(cause));
@@ -163,6 +167,9 @@ impl Session {
 
         // Where no part failed: all of it, or a front of it where memory was refused.
         ensures as_stated { NoneRose (O.seen o.old).faults (O.seen o.new).faults → IfNone self.old.stopped (Goes (O.seen o.old) (O.seen o.new) (IsAsStated self.old.identity turns self.old.live result self.new.live)) }
+
+        // By looking back over the frames that were answered on the connection, and over its acts.
+        ensures looks_back { IfNone self.old.stopped ((start : State) (answered : List (List ℕ)) (acts : List Act) → StandsAt start answered acts self.old.live → Goes (O.seen o.old) (O.seen o.new) (LooksBack self.old.identity start answered acts result self.new.live)) }
 
         // How many turns it made, and what is kept behind them.
         ensures turns { IfNone self.old.stopped (Goes (O.seen o.old) (O.seen o.new) (λ notes. HasTurns turns result (acts_of notes))) }

@@ -3,6 +3,7 @@ use Rattle.fix_engine.proofs.Phases.{Ran-phase}
 use Rattle.fix_engine.proofs.Settled.{Ran-settled}
 use Rattle.fix_engine.proofs.Turns.{Ran-has_turns}
 use Rattle.fix_engine.proofs.Prefix.{as_stated}
+use Rattle.fix_engine.proofs.Recounting.{looks_back}
 use Rattle.fix_engine.proofs.session.Session.run_turns.Goals as goal
 
 pub returns-clause-cause : goal.returns-clause-cause
@@ -26,3 +27,7 @@ returns-clause-settled g c =
 pub returns-clause-as_stated : goal.returns-clause-as_stated
 returns-clause-as_stated g c =
     rw (← c.self.view_is, c.in_default.is, c.answer_of-answer.ensures) (λ calm. as_stated _ c.self.invariant.0 _ _ _ _ _ _ c.self.invariant.1.reading c.run_and_cut-ran.ensures.notes calm)
+
+pub returns-clause-looks_back : goal.returns-clause-looks_back
+returns-clause-looks_back g c =
+    rw (← c.self.view_is, c.in_default.is, c.answer_of-answer.ensures) (λ start answered acts stands. looks_back _ _ _ _ _ _ _ c.run_and_cut-ran.ensures.notes start answered acts stands)

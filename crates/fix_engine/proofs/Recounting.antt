@@ -1,0 +1,319 @@
+-- A run is found again by looking back.
+use Rattle.std.proofs.Common.{◌≡◌, ℕ, ◌+◌, List, [], ◌∷◌, ◌++◌, length, min, Bool, true, false, Result, Ok, Err, refl, sym, ap, subst, ◌∙◌, append_assoc, arith, replicate}
+use Rattle.std.specs.Prelude.{⊤}
+use Rattle.std.proofs.lemmas.List.{append-nil}
+use Rattle.fix_base.specs.declared.identity.Identity.{Identity}
+use Rattle.fix_base.specs.declared.act.Act.{Act}
+use Rattle.fix_base.specs.declared.act.Act.TheVariants as act
+use Rattle.fix_base.specs.declared.entry.Record.TheVariants.{Expect}
+use Rattle.fix_base.specs.Lists.{here}
+use Rattle.fix_base.specs.Reader.{bytes_read}
+use Rattle.fix_base.specs.Stream.{Ahead, HasNoItem}
+use Rattle.fix_base.specs.Seen.{Note, Did, Failed, StorePart, LinkPart, Seen, Moves, Goes, acts_of}
+use Rattle.fix_base.proofs.SeenLemmas.{acts_of-append}
+use Rattle.fix_frame.specs.Given.{GivesFrame}
+use Rattle.fix_engine.specs.State.{State, Ending, PeerEnd, with_kept, with_reading}
+use Rattle.fix_engine.specs.declared.state.Ending.TheVariants as ending
+use Rattle.fix_engine.specs.declared.stop.RunEnd.TheVariants as run
+use Rattle.fix_engine.specs.Fold as fold
+use Rattle.fix_engine.specs.Fold.{Each, AndThen, first_ends, both}
+use Rattle.fix_engine.specs.Answer.{Handled}
+use Rattle.fix_engine.specs.Turn as turn
+use Rattle.fix_engine.specs.Turn.{Live, live, fed, down, Taken, Fed, Heard, Clocked, KeptExpected, Turn, OneTurn, Ran, settles_of, is_cut_of}
+use Rattle.fix_engine.specs.Run.{run_end}
+use Rattle.fix_engine.specs.LookBack.{last_sent, last_kept, last_reading, state_at, AreFramesTo, IsNext, AreAll, StandsAt, Calls, reads, idles, is_over, looks, keeps, loses, cuts, fails, Closes, nothing_more, keeps_it, loses_it, cuts_off, Recounts, done, calls, answers, ends, IsShown, LooksBack}
+use Rattle.fix_engine.proofs.LookBackLemmas.{last_sent-append, last_kept-append, last_reading-append, bytes_read-append, same_state, behind_frame, next_frame, no_frame, more_bytes}
+use Rattle.fix_engine.proofs.Shown.{shown_behind, shown_before, frame_shown}
+
+-- the state behind one act more
+state_more : (start : State) (answered : List (List ℕ)) (acts more : List Act) (s : State) → s.phase ≡ (state_at start answered acts).phase → s.expected ≡ (state_at start answered acts).expected → s.kept ≡ last_kept (last_kept start.kept acts) more → s.last ≡ last_sent (last_sent start.last acts) more → s.reading ≡ last_reading (last_reading start.reading acts) more → s ≡ state_at start answered (acts ++ more)
+state_more start answered acts more s p e k l r =
+    same_state s (state_at start answered (acts ++ more)) p e (k ∙ sym (last_kept-append start.kept acts more)) (l ∙ sym (last_sent-append start.last acts more)) (r ∙ sym (last_reading-append start.reading acts more))
+
+-- the stream behind acts that read nothing
+stream_more : (answered : List (List ℕ)) (acts more : List Act) (place : Ahead) → bytes_read more ≡ [] → AreAll answered acts place → AreAll answered (acts ++ more) place
+stream_more answered acts more place none all = record {
+  stands = subst (λ (w : List ℕ). AreFramesTo w answered place) (sym (bytes_read-append acts more ∙ ap (λ (w : List ℕ). bytes_read acts ++ w) none ∙ append-nil (bytes_read acts))) all.stands;
+  end = all.end;
+}
+
+module _ (id : Identity) (start : State) where
+  -- the notes of what went on, from where these frames were answered and these acts done
+  record Went (answered : List (List ℕ)) (acts : List Act) (notes : List Note) (to : Live) : Type 0 where
+    now : List (List ℕ)
+    behind : List Act
+    are : behind ≡ acts ++ acts_of notes
+    stands : StandsAt start now behind to
+    goes_on : (more : List Note) (last : List (List ℕ)) → Recounts id start now behind more last → Recounts id start answered acts (notes ++ more) last
+
+  -- the notes of what ended
+  record Ended (answered : List (List ℕ)) (acts : List Act) (notes : List Note) (to : Live) : Type 0 where
+    now : List (List ℕ)
+    closes : (more : List Note) → Closes to.state.expected more → Recounts id start answered acts (notes ++ more) now
+
+  -- the same, with why it ended
+  record Why (answered : List (List ℕ)) (acts : List Act) (notes : List Note) (e : Ending) (to : Live) : Type 0 where
+    ended : Ended answered acts notes to
+    shown : IsShown (run_end (Err e)) ended.now (acts_of notes)
+
+  -- what comes behind the end, where no frame made it
+  closing : (answered : List (List ℕ)) (n : ℕ) (acts : List Act) (more : List Note) → n ≡ start.expected + length answered → Closes n more → Recounts id start answered acts more answered
+  closing answered n acts more e nothing_more = done
+  closing answered n acts more e (keeps_it {more = rest} c) = calls (subst (λ k. Calls start answered acts (Did (act.Kept (Expect k)))) (sym e) keeps) (closing answered n (acts ++ act.Kept (Expect n) ∷ []) rest e c)
+  closing answered n acts more e (loses_it {more = rest} c) = calls (subst (λ k. Calls start answered acts (Did (act.KeepLost (Expect k)))) (sym e) loses) (calls (fails StorePart) (closing answered n ((acts ++ act.KeepLost (Expect n) ∷ []) ++ []) rest e c))
+  closing answered n acts more e cuts_off = calls cuts done
+
+  expected_is : (answered : List (List ℕ)) (acts : List Act) (l : Live) → l.state ≡ state_at start answered acts → l.state.expected ≡ start.expected + length answered
+  expected_is answered acts l e = ap (λ (s : State). s.expected) e
+
+  -- what went on may end here
+  may_end : (answered : List (List ℕ)) (acts : List Act) (notes : List Note) (to : Live) → Went answered acts notes to → Ended answered acts notes to
+  may_end answered acts notes to w = record { now = w.now; closes = λ more c. w.goes_on more w.now (closing w.now to.state.expected w.behind more (expected_is w.now w.behind to w.stands.state) c) }
+
+  -- nothing was done
+  went_nowhere : (answered : List (List ℕ)) (acts : List Act) (l : Live) → StandsAt start answered acts l → Went answered acts [] l
+  went_nowhere answered acts l s = record { now = answered; behind = acts; are = sym (append-nil acts); stands = s; goes_on = λ more last r. r }
+
+  ends_here : (answered : List (List ℕ)) (acts : List Act) (to : Live) → to.state.expected ≡ start.expected + length answered → Ended answered acts [] to
+  ends_here answered acts to e = record { now = answered; closes = λ more c. closing answered to.state.expected acts more e c }
+
+  -- one call that answers no frame
+  one_call : (answered : List (List ℕ)) (acts : List Act) (note : Note) (to : Live) → Calls start answered acts note → StandsAt start answered (acts ++ acts_of (note ∷ [])) to → Went answered acts (note ∷ []) to
+  one_call answered acts note to c s = record { now = answered; behind = acts ++ acts_of (note ∷ []); are = refl; stands = s; goes_on = λ more last r. calls c r }
+
+  one_call_ends : (answered : List (List ℕ)) (acts : List Act) (note : Note) (to : Live) → Calls start answered acts note → to.state.expected ≡ start.expected + length answered → Ended answered acts (note ∷ []) to
+  one_call_ends answered acts note to c e = record { now = answered; closes = λ more k. calls c (closing answered to.state.expected (acts ++ acts_of (note ∷ [])) more e k) }
+
+  -- one part and then another
+  then_went : (answered : List (List ℕ)) (acts : List Act) (xs ys : List Note) (mid to : Live) → (w : Went answered acts xs mid) → Went w.now w.behind ys to → Went answered acts (xs ++ ys) to
+  then_went answered acts xs ys mid to w v = record {
+    now = v.now;
+    behind = v.behind;
+    are = v.are ∙ ap (λ (z : List Act). z ++ acts_of ys) w.are ∙ append_assoc acts (acts_of xs) (acts_of ys) ∙ ap (λ (z : List Act). acts ++ z) (sym (acts_of-append xs ys));
+    stands = v.stands;
+    goes_on = λ more last r. subst (λ z. Recounts id start answered acts z last) (sym (append_assoc xs ys more)) (w.goes_on (ys ++ more) last (v.goes_on more last r));
+  }
+
+  abbrev then_ended : (answered : List (List ℕ)) (acts : List Act) (xs ys : List Note) (mid to : Live) → (w : Went answered acts xs mid) → Ended w.now w.behind ys to → Ended answered acts (xs ++ ys) to
+  then_ended answered acts xs ys mid to w v = record {
+    now = v.now;
+    closes = λ more c. subst (λ z. Recounts id start answered acts z v.now) (sym (append_assoc xs ys more)) (w.goes_on (ys ++ more) v.now (v.closes more c));
+  }
+
+  then_why : (answered : List (List ℕ)) (acts : List Act) (xs ys : List Note) (e : Ending) (mid to : Live) → (w : Went answered acts xs mid) → Why w.now w.behind ys e to → Why answered acts (xs ++ ys) e to
+  then_why answered acts xs ys e mid to w v = record { ended = then_ended answered acts xs ys mid to w v.ended; shown = shown_behind (run_end (Err e)) v.ended.now xs ys v.shown }
+
+  -- ---- the frames
+
+  -- the frame is answered as the state is by looking back
+  one_frame : (answered : List (List ℕ)) (acts : List Act) (s mid : State) (from behind : Ahead) (frame : List ℕ) (first : List Note) → s ≡ state_at start answered acts → AreFramesTo (bytes_read acts) answered from → GivesFrame from behind frame → Handled id s frame first (Ok tt) mid
+      → (more : List Note) (last : List (List ℕ)) → Recounts id start (answered ++ frame ∷ []) (acts ++ acts_of first) more last → Recounts id start answered acts (first ++ more) last
+  one_frame answered acts s mid from behind frame first e f gives h more last r =
+      let known : Handled id (state_at start answered acts) frame first (Ok tt) mid = subst (λ s. Handled id s frame first (Ok tt) mid) e h in
+      let b = behind_frame id start answered acts frame first mid known in
+      answers frame (record { behind = behind; stands = next_frame (bytes_read acts) answered from behind frame f gives }) (subst (λ m. Handled id (state_at start answered acts) frame first (Ok tt) m) b.state known) r
+
+  Taken-went : (answered : List (List ℕ)) (acts : List Act) (l : Live) (notes : List Note) (to : Live) → l.state ≡ state_at start answered acts → AreFramesTo (bytes_read acts) answered l.ahead → Taken id l notes (Ok tt) to → Went answered acts notes to
+  Taken-went answered acts l notes to e f (turn.no_more {a = from} {b = b} gives) =
+      went_nowhere answered acts to (record { state = e; all = record { stands = no_frame (bytes_read acts) answered from b f gives; end = gives.end.none } })
+  Taken-went answered acts l notes to e f (turn.goes {s = s} {mid = mid} {a = from} {b = b} {first = first} {more = more} frame gives h k) =
+      let known : Handled id (state_at start answered acts) frame first (Ok tt) mid = subst (λ s. Handled id s frame first (Ok tt) mid) e h in
+      let behind = behind_frame id start answered acts frame first mid known in
+      let place : AreFramesTo (bytes_read (acts ++ acts_of first)) (answered ++ frame ∷ []) b = subst (λ (w : List ℕ). AreFramesTo w (answered ++ frame ∷ []) b) (sym behind.stream) (next_frame (bytes_read acts) answered from b frame f gives) in
+      let w = Taken-went (answered ++ frame ∷ []) (acts ++ acts_of first) (live mid b) more to behind.state place k in
+      record {
+        now = w.now;
+        behind = w.behind;
+        are = w.are ∙ append_assoc acts (acts_of first) (acts_of more) ∙ ap (λ (z : List Act). acts ++ z) (sym (acts_of-append first more));
+        stands = w.stands;
+        goes_on = λ x last r. subst (λ z. Recounts id start answered acts z last) (sym (append_assoc first more x)) (one_frame answered acts s mid from b frame first e f gives h (more ++ x) last (w.goes_on x last r));
+      }
+
+  Taken-why : (answered : List (List ℕ)) (acts : List Act) (l : Live) (notes : List Note) (e : Ending) (to : Live) → l.state ≡ state_at start answered acts → AreFramesTo (bytes_read acts) answered l.ahead → Taken id l notes (Err e) to → Why answered acts notes e to
+  Taken-why answered acts l notes e to same f (turn.ends {s' = s'} {a = from} {b = b} frame gives h) =
+      let known : Handled id (state_at start answered acts) frame notes (Err e) s' = subst (λ s. Handled id s frame notes (Err e) s') same h in
+      record {
+        ended = record { now = answered ++ frame ∷ []; closes = λ more c. ends frame (record { behind = b; stands = next_frame (bytes_read acts) answered from b frame f gives }) known c };
+        shown = frame_shown id start answered acts (acts_of notes) frame notes e s' known;
+      }
+  Taken-why answered acts l notes e to same f (turn.goes {s = s} {mid = mid} {a = from} {b = b} {first = first} {more = more} frame gives h k) =
+      let known : Handled id (state_at start answered acts) frame first (Ok tt) mid = subst (λ s. Handled id s frame first (Ok tt) mid) same h in
+      let behind = behind_frame id start answered acts frame first mid known in
+      let place : AreFramesTo (bytes_read (acts ++ acts_of first)) (answered ++ frame ∷ []) b = subst (λ (w : List ℕ). AreFramesTo w (answered ++ frame ∷ []) b) (sym behind.stream) (next_frame (bytes_read acts) answered from b frame f gives) in
+      let w = Taken-why (answered ++ frame ∷ []) (acts ++ acts_of first) (live mid b) more e to behind.state place k in
+      record {
+        ended = record {
+          now = w.ended.now;
+          closes = λ x c. subst (λ z. Recounts id start answered acts z w.ended.now) (sym (append_assoc first more x)) (one_frame answered acts s mid from b frame first same f gives h (more ++ x) w.ended.now (w.ended.closes x c));
+        };
+        shown = shown_behind (run_end (Err e)) w.ended.now first more w.shown;
+      }
+
+  -- ---- a read
+
+  -- bytes came
+  read_state : (answered : List (List ℕ)) (acts : List Act) (l : Live) (b : List ℕ) → StandsAt start answered acts l → l.state ≡ state_at start answered (acts ++ act.Read b ∷ [])
+  read_state answered acts l b s = s.state ∙ state_more start answered acts (act.Read b ∷ []) (state_at start answered acts) refl refl refl refl refl
+
+  read_place : (answered : List (List ℕ)) (acts : List Act) (l : Live) (b : List ℕ) → StandsAt start answered acts l → AreFramesTo (bytes_read (acts ++ act.Read b ∷ [])) answered (fed l.ahead b)
+  read_place answered acts l b s =
+      subst (λ (w : List ℕ). AreFramesTo w answered (fed l.ahead b)) (sym (bytes_read-append acts (act.Read b ∷ []) ∙ ap (λ (w : List ℕ). bytes_read acts ++ w) (append-nil b))) (more_bytes (bytes_read acts) b answered l.ahead s.all.stands)
+
+  Heard-went : (answered : List (List ℕ)) (acts : List Act) (l : Live) (notes : List Note) (to : Live) → StandsAt start answered acts l → Heard id l notes (Ok tt) to → Went answered acts notes to
+  Heard-went answered acts l notes to s (turn.bytes {more = more} b some fits (turn.fed_frames d)) =
+      let w = Taken-went answered (acts ++ act.Read b ∷ []) (live l.state (fed l.ahead b)) more to (read_state answered acts l b s) (read_place answered acts l b s) d in
+      record {
+        now = w.now;
+        behind = w.behind;
+        are = w.are ∙ append_assoc acts (act.Read b ∷ []) (acts_of more);
+        stands = w.stands;
+        goes_on = λ x last r. calls (reads b) (w.goes_on x last r);
+      }
+  Heard-went answered acts l notes to s turn.idle =
+      one_call answered acts (Did act.Idle) l idles (record { state = s.state ∙ state_more start answered acts (act.Idle ∷ []) (state_at start answered acts) refl refl refl refl refl; all = stream_more answered acts (act.Idle ∷ []) l.ahead refl s.all })
+
+  Heard-why : (answered : List (List ℕ)) (acts : List Act) (l : Live) (notes : List Note) (e : Ending) (to : Live) → StandsAt start answered acts l → Heard id l notes (Err e) to → Why answered acts notes e to
+  Heard-why answered acts l notes e to s (turn.bytes {more = more} b some fits (turn.fed_frames d)) =
+      let w = Taken-why answered (acts ++ act.Read b ∷ []) (live l.state (fed l.ahead b)) more e to (read_state answered acts l b s) (read_place answered acts l b s) d in
+      record {
+        ended = record { now = w.ended.now; closes = λ x c. calls (reads b) (w.ended.closes x c) };
+        shown = shown_behind (run_end (Err e)) w.ended.now (Did (act.Read b) ∷ []) more w.shown;
+      }
+  Heard-why answered acts l notes e to s (turn.bytes b some fits turn.fed_memory) = record { ended = one_call_ends answered acts (Did (act.Read b)) l (reads b) (expected_is answered acts l s.state); shown = tt }
+  Heard-why answered acts l notes e to s turn.over = record { ended = one_call_ends answered acts (Did act.Ended) to is_over (expected_is answered acts l s.state); shown = here }
+  Heard-why answered acts l notes e to s turn.read_lost = record { ended = one_call_ends answered acts (Failed LinkPart) l (fails LinkPart) (expected_is answered acts l s.state); shown = tt }
+  Heard-why answered acts l notes e to s turn.read_memory = record { ended = ends_here answered acts l (expected_is answered acts l s.state); shown = tt }
+
+  -- ---- a look at the clock
+
+  Clocked-went : (answered : List (List ℕ)) (acts : List Act) (l : Live) (notes : List Note) (to : Live) → StandsAt start answered acts l → Clocked l notes (Ok tt) to → Went answered acts notes to
+  Clocked-went answered acts l notes to s (turn.now t) =
+      one_call answered acts (Did (act.Now t)) (live (with_reading l.state t) l.ahead) (looks t l.ahead s.all) (record {
+        state = ap (λ (z : State). with_reading z t) s.state ∙ state_more start answered acts (act.Now t ∷ []) (with_reading (state_at start answered acts) t) refl refl refl refl refl;
+        all = stream_more answered acts (act.Now t ∷ []) l.ahead refl s.all;
+      })
+
+  Clocked-why : (answered : List (List ℕ)) (acts : List Act) (l : Live) (notes : List Note) (e : Ending) (to : Live) → StandsAt start answered acts l → Clocked l notes (Err e) to → Why answered acts notes e to
+  Clocked-why answered acts l notes e to s turn.now_memory = record { ended = ends_here answered acts l (expected_is answered acts l s.state); shown = tt }
+
+  Met-went : (answered : List (List ℕ)) (acts : List Act) (l : Live) (notes : List Note) (to : Live) → StandsAt start answered acts l → AndThen (Heard id) Clocked l notes (Ok tt) to → Went answered acts notes to
+  Met-went answered acts l notes to s (both {mid = mid} {first = first} {more = more} d k) =
+      let w = Heard-went answered acts l first mid s d in
+      then_went answered acts first more mid to w (Clocked-went w.now w.behind mid more to w.stands k)
+
+  Met-why : (answered : List (List ℕ)) (acts : List Act) (l : Live) (notes : List Note) (e : Ending) (to : Live) → StandsAt start answered acts l → AndThen (Heard id) Clocked l notes (Err e) to → Why answered acts notes e to
+  Met-why answered acts l notes e to s (first_ends d) = Heard-why answered acts l notes e to s d
+  Met-why answered acts l notes e to s (both {mid = mid} {first = first} {more = more} d k) =
+      let w = Heard-went answered acts l first mid s d in
+      then_why answered acts first more e mid to w (Clocked-why w.now w.behind mid more e to w.stands k)
+
+  -- however it ended
+  Met-ended : (answered : List (List ℕ)) (acts : List Act) (l : Live) (notes : List Note) (met : Result ⊤ Ending) (to : Live) → StandsAt start answered acts l → AndThen (Heard id) Clocked l notes met to → Ended answered acts notes to
+  Met-ended answered acts l notes (Ok x) to s d = may_end answered acts notes to (Met-went answered acts l notes to s d)
+  Met-ended answered acts l notes (Err e) to s d = (Met-why answered acts l notes e to s d).ended
+
+  -- ---- the expected number
+
+  KeptExpected-went : (answered : List (List ℕ)) (acts : List Act) (l : Live) (notes : List Note) (to : Live) → StandsAt start answered acts l → KeptExpected l notes (Ok tt) to → Went answered acts notes to
+  KeptExpected-went answered acts l notes to s (turn.same h) = went_nowhere answered acts l s
+  KeptExpected-went answered acts l notes to s (turn.kept h) =
+      let n : l.state.expected ≡ start.expected + length answered = expected_is answered acts l s.state in
+      one_call answered acts (Did (act.Kept (Expect l.state.expected))) (live (with_kept l.state) l.ahead) (subst (λ k. Calls start answered acts (Did (act.Kept (Expect k)))) (sym n) keeps) (record {
+        state = state_more start answered acts (act.Kept (Expect l.state.expected) ∷ []) (with_kept l.state) (ap (λ (z : State). z.phase) s.state) n refl (ap (λ (z : State). z.last) s.state) (ap (λ (z : State). z.reading) s.state);
+        all = stream_more answered acts (act.Kept (Expect l.state.expected) ∷ []) l.ahead refl s.all;
+      })
+
+  -- it may be kept behind an end, too
+  kept_closes : (l to : Live) (notes more : List Note) → KeptExpected l notes (Ok tt) to → Closes to.state.expected more → Closes l.state.expected (notes ++ more)
+  kept_closes l to notes more (turn.same h) c = c
+  kept_closes l to notes more (turn.kept h) c = keeps_it c
+
+  lost_closes : (l to : Live) (notes more : List Note) (e : Ending) → KeptExpected l notes (Err e) to → Closes to.state.expected more → Closes l.state.expected (notes ++ more)
+  lost_closes l to notes more e (turn.expect_lost h) c = loses_it c
+  lost_closes l to notes more e (turn.expect_memory h) c = c
+
+  lost_shown : (l to : Live) (notes : List Note) (e : Ending) (answered : List (List ℕ)) (acts : List Act) → KeptExpected l notes (Err e) to → IsShown (run_end (Err e)) answered acts
+  lost_shown l to notes e answered acts (turn.expect_lost h) = tt
+  lost_shown l to notes e answered acts (turn.expect_memory h) = tt
+
+  abbrev ended_more : (answered : List (List ℕ)) (acts : List Act) (xs ys : List Note) (mid to : Live) → Ended answered acts xs mid → ((more : List Note) → Closes to.state.expected more → Closes mid.state.expected (ys ++ more)) → Ended answered acts (xs ++ ys) to
+  ended_more answered acts xs ys mid to w behind = record { now = w.now; closes = λ more c. subst (λ z. Recounts id start answered acts z w.now) (sym (append_assoc xs ys more)) (w.closes (ys ++ more) (behind more c)) }
+
+  -- ---- a turn
+
+  Turn-went : (answered : List (List ℕ)) (acts : List Act) (l : Live) (notes : List Note) (to : Live) → StandsAt start answered acts l → Turn id l notes (Ok tt) to → Went answered acts notes to
+  Turn-went answered acts l notes to s (turn.stops h d) = absurd cc
+  Turn-went answered acts l notes to s (turn.keeps {mid = mid} {first = first} {more = more} h d k) =
+      let w = Met-went answered acts l first mid s d in
+      then_went answered acts first more mid to w (KeptExpected-went w.now w.behind mid more to w.stands k)
+
+  Turn-why : (answered : List (List ℕ)) (acts : List Act) (l : Live) (notes : List Note) (e : Ending) (to : Live) → StandsAt start answered acts l → Turn id l notes (Err e) to → Why answered acts notes e to
+  Turn-why answered acts l notes e to s (turn.stops h d) = Met-why answered acts l notes e to s d
+  Turn-why answered acts l notes e to s (turn.keeps {mid = mid} {first = first} {more = more} h d k) =
+      let w = Met-why answered acts l first e mid s d in
+      record {
+        ended = ended_more answered acts first more mid to w.ended (λ x c. kept_closes mid to more x k c);
+        shown = shown_before (run_end (Err e)) w.ended.now first more w.shown;
+      }
+  Turn-why answered acts l notes e to s (turn.keeps_not {mid = mid} {met = met} {first = first} {more = more} h d k) =
+      let w = Met-ended answered acts l first met mid s d in
+      record {
+        ended = ended_more answered acts first more mid to w (λ x c. lost_closes mid to more x e k c);
+        shown = lost_shown mid to more e w.now (acts_of (first ++ more)) k;
+      }
+
+  Turns-went : (us : List ⊤) (answered : List (List ℕ)) (acts : List Act) (l : Live) (notes : List Note) (to : Live) → StandsAt start answered acts l → Each (OneTurn id) l us notes (Ok tt) to → Went answered acts notes to
+  Turns-went [] answered acts l notes to s fold.none = went_nowhere answered acts l s
+  Turns-went (u ∷ us) answered acts l notes to s (fold.goes {mid = mid} {first = first} {more = more} d k) =
+      let w = Turn-went answered acts l first mid s d in
+      then_went answered acts first more mid to w (Turns-went us w.now w.behind mid more to w.stands k)
+
+  Turns-why : (us : List ⊤) (answered : List (List ℕ)) (acts : List Act) (l : Live) (notes : List Note) (e : Ending) (to : Live) → StandsAt start answered acts l → Each (OneTurn id) l us notes (Err e) to → Why answered acts notes e to
+  Turns-why [] answered acts l notes e to s d = elim d [ ]
+  Turns-why (u ∷ us) answered acts l notes e to s (fold.ends d) = Turn-why answered acts l notes e to s d
+  Turns-why (u ∷ us) answered acts l notes e to s (fold.goes {mid = mid} {first = first} {more = more} d k) =
+      let w = Turn-went answered acts l first mid s d in
+      then_why answered acts first more e mid to w (Turns-why us w.now w.behind mid more e to w.stands k)
+
+  -- ---- a run
+
+  never_spent : (e : Ending) → run_end (Err e) ≡ run.TurnsSpent → ⊥
+  never_spent (ending.Closed why) h = cc
+  never_spent (ending.NotBuilt n) h = cc
+  never_spent ending.StoreFault h = cc
+  never_spent ending.LinkFault h = cc
+  never_spent ending.AppFault h = cc
+  never_spent ending.NumbersSpent h = cc
+  never_spent ending.OutOfMemory h = cc
+
+  -- it ended, and nothing came behind
+  closed : (answered : List (List ℕ)) (acts : List Act) (notes : List Note) (to : Live) (w : Ended answered acts notes to) → Recounts id start answered acts notes w.now
+  closed answered acts notes to w = subst (λ z. Recounts id start answered acts z w.now) (append-nil notes) (w.closes [] nothing_more)
+
+  pub Ran-looks_back : (n : ℕ) (answered : List (List ℕ)) (acts : List Act) (l : Live) (notes : List Note) (r : Result ⊤ Ending) (to : Live) → StandsAt start answered acts l → Ran id n l notes r to → LooksBack id start answered acts (run_end r) to notes
+  Ran-looks_back n answered acts l notes r to s (turn.all_turns d) =
+      let w = Turns-went (replicate n tt) answered acts l notes to s d in
+      record {
+        frames = w.now;
+        recounts = subst (λ z. Recounts id start answered acts z w.now) (append-nil notes) (w.goes_on [] w.now done);
+        goes_on = λ h. subst (λ z. StandsAt start w.now z to) w.are w.stands;
+        shown = tt;
+      }
+  Ran-looks_back n answered acts l notes r to s (turn.cut {to = at} {notes = xs} {e = e} h d) =
+      let w = Turns-why (replicate n tt) answered acts l xs e at s d in
+      record {
+        frames = w.ended.now;
+        recounts = w.ended.closes (Did act.Cut ∷ []) cuts_off;
+        goes_on = λ h. absurd (never_spent e h);
+        shown = shown_before (run_end (Err e)) w.ended.now xs (Did act.Cut ∷ []) w.shown;
+      }
+  Ran-looks_back n answered acts l notes r to s (turn.cut_memory {to = at} {e = e} h d) =
+      let w = Turns-why (replicate n tt) answered acts l notes e at s d in
+      record { frames = w.ended.now; recounts = closed answered acts notes at w.ended; goes_on = λ h. absurd (never_spent ending.OutOfMemory h); shown = tt }
+  Ran-looks_back n answered acts l notes r to s (turn.no_cut {to = at} {e = e} h d) =
+      let w = Turns-why (replicate n tt) answered acts l notes e at s d in
+      record { frames = w.ended.now; recounts = closed answered acts notes at w.ended; goes_on = λ h. absurd (never_spent e h); shown = w.shown }
+
+-- a run by looking back over its connection
+pub looks_back : (id : Identity) (n : ℕ) (l : Live) (r : Result ⊤ Ending) (to : Live) (old new : Seen) → Goes old new (λ notes. Ran id n l notes r to) → (start : State) (answered : List (List ℕ)) (acts : List Act) → StandsAt start answered acts l → Goes old new (LooksBack id start answered acts (run_end r) to)
+looks_back id n l r to old new g start answered acts s = (g.0, g.1, Ran-looks_back id start n answered acts l g.0 r to s g.2)
