@@ -80,39 +80,52 @@ fn served(
     Ok((status, o))
 }
 
-// Serves a connection that gives these texts in one piece.
-fn served_at_once(alloc: Global, texts: &[&[u8]], fails: Fails) -> Result<(Status, Tested), Fail> {
+// The texts in one piece.
+fn at_once(alloc: Global, texts: &[&[u8]]) -> Result<Vec<Bytes>, Fail> {
     let mut pieces = Vec::new(alloc);
     pieces.push(Bytes::from_vec(bytes_of(alloc, texts)?))?;
-    served(alloc, WORDS.as_slice(), pieces, fails, u64::MAX)
+    Ok(pieces)
 }
 
-// Asserts what came out.
-fn assert_out(
+// What must come of a connection.
+#[derive(Clone, Copy)]
+struct Want<'a> {
+    status: u8,
+    written: &'a [&'a [u8]],
+    lines: &'a [u8],
+}
+
+const WHOLE: Want<'static> = Want {
+    status: 0,
+    written: &[LOGON_ANSWER, LOGOUT_ANSWER],
+    lines: LINE,
+};
+
+// Serves the pieces, and asserts what comes out.
+fn assert_serves(
     rt: &impl Abort,
     alloc: Global,
-    o: &Tested,
-    written: &[&[u8]],
-    lines: &[u8],
-) -> Result<(), Fail> {
-    let written = bytes_of(alloc, written)?;
+    pieces: Vec<Bytes>,
+    want: &Want<'_>,
+) -> Result<Stored, Fail> {
+    let (status, o) = served(alloc, WORDS.as_slice(), pieces, NONE, u64::MAX)?;
+    assert_eq!(rt; status, Status(want.status));
+    let written = bytes_of(alloc, want.written)?;
     assert!(rt; o.link().written() == written.as_slice());
-    assert!(rt; o.app().sink().written() == lines);
-    Ok(())
+    assert!(rt; o.app().sink().written() == want.lines);
+    Ok(o.stored())
 }
 
 #[test]
 fn an_order_is_handed_over(rt: HostRuntime) -> Result<(), Fail> {
     let alloc = rt.alloc();
-    let (status, o) = served_at_once(alloc, &[LOGON, ORDER, LOGOUT], NONE)?;
-    assert_eq!(rt; status, Status(0));
-    assert_out(&rt, alloc, &o, &[LOGON_ANSWER, LOGOUT_ANSWER], LINE)?;
-    let stored = Stored {
+    let stored = assert_serves(&rt, alloc, at_once(alloc, &[LOGON, ORDER, LOGOUT])?, &WHOLE)?;
+    let want = Stored {
         last: 2,
         expected: 4,
         since: None,
     };
-    assert_eq!(rt; o.stored(), stored);
+    assert_eq!(rt; stored, want);
     Ok(())
 }
 
@@ -124,9 +137,7 @@ fn a_cut_anywhere_changes_nothing(rt: HostRuntime) -> Result<(), Fail> {
         let mut pieces = Vec::new(alloc);
         pieces.push(Bytes::copy(alloc, &input[..at])?)?;
         pieces.push(Bytes::copy(alloc, &input[at..])?)?;
-        let (status, o) = served(alloc, WORDS.as_slice(), pieces, NONE, u64::MAX)?;
-        assert_eq!(rt; status, Status(0));
-        assert_out(&rt, alloc, &o, &[LOGON_ANSWER, LOGOUT_ANSWER], LINE)?;
+        assert_serves(&rt, alloc, pieces, &WHOLE)?;
     }
     Ok(())
 }
@@ -139,41 +150,54 @@ fn byte_by_byte_comes_to_the_same(rt: HostRuntime) -> Result<(), Fail> {
         pieces.push(Bytes::copy(alloc, &[*byte])?)?;
         pieces.push(Bytes::copy(alloc, b"")?)?;
     }
-    let (status, o) = served(alloc, WORDS.as_slice(), pieces, NONE, u64::MAX)?;
-    assert_eq!(rt; status, Status(0));
-    assert_out(&rt, alloc, &o, &[LOGON_ANSWER, LOGOUT_ANSWER], LINE)?;
+    assert_serves(&rt, alloc, pieces, &WHOLE)?;
     Ok(())
 }
 
 #[test]
-fn other_beginnings_end_otherwise(rt: HostRuntime) -> Result<(), Fail> {
+fn what_is_no_message_is_skipped(rt: HostRuntime) -> Result<(), Fail> {
     let alloc = rt.alloc();
-    // Nothing comes.
-    let (status, o) = served_at_once(alloc, &[], NONE)?;
-    assert_eq!(rt; status, Status(1));
-    assert_out(&rt, alloc, &o, &[], b"")?;
-
-    // The first message is no Logon.
-    let (status, o) = served_at_once(alloc, &[HEARTBEAT], NONE)?;
-    assert_eq!(rt; status, Status(1));
-    assert_out(&rt, alloc, &o, &[], b"")?;
-
-    // The connection ends behind the order.
-    let (status, o) = served_at_once(alloc, &[LOGON, ORDER], NONE)?;
-    assert_eq!(rt; status, Status(1));
-    assert_out(&rt, alloc, &o, &[LOGON_ANSWER], LINE)?;
-
-    // A message comes that isn't answered yet.
-    let (status, o) = served_at_once(alloc, &[LOGON, TEST_REQUEST], NONE)?;
-    assert_eq!(rt; status, Status(10));
-    assert_out(&rt, alloc, &o, &[LOGON_ANSWER], b"")?;
-
-    // What is no message is skipped.
     let texts = [b"8=FIX.4.2|9=x|abc|".as_slice(), LOGON, ORDER, LOGOUT];
-    let (status, o) = served_at_once(alloc, &texts, NONE)?;
-    assert_eq!(rt; status, Status(0));
-    assert_out(&rt, alloc, &o, &[LOGON_ANSWER, LOGOUT_ANSWER], LINE)?;
+    assert_serves(&rt, alloc, at_once(alloc, &texts)?, &WHOLE)?;
     Ok(())
+}
+
+#[test]
+fn nothing_is_answered_before_a_logon(rt: HostRuntime) -> Result<(), Fail> {
+    let alloc = rt.alloc();
+    let want = Want {
+        status: 1,
+        written: &[],
+        lines: b"",
+    };
+    assert_serves(&rt, alloc, at_once(alloc, &[])?, &want)?;
+    assert_serves(&rt, alloc, at_once(alloc, &[HEARTBEAT])?, &want)?;
+    Ok(())
+}
+
+#[test]
+fn a_session_may_end_without_a_logout(rt: HostRuntime) -> Result<(), Fail> {
+    let alloc = rt.alloc();
+    let lost = Want {
+        status: 1,
+        written: &[LOGON_ANSWER],
+        lines: LINE,
+    };
+    assert_serves(&rt, alloc, at_once(alloc, &[LOGON, ORDER])?, &lost)?;
+    // A message comes that isn't answered yet.
+    let given_up = Want {
+        status: 10,
+        written: &[LOGON_ANSWER],
+        lines: b"",
+    };
+    assert_serves(&rt, alloc, at_once(alloc, &[LOGON, TEST_REQUEST])?, &given_up)?;
+    Ok(())
+}
+
+// Serves an empty input for these words, and gives the status and how many acts were noted.
+fn status_for(alloc: Global, words: &[&str]) -> Result<(u8, usize), Fail> {
+    let (status, o) = served(alloc, words, Vec::new(alloc), NONE, 9)?;
+    Ok((status.0, o.tape().acts().len()))
 }
 
 #[test]
@@ -187,26 +211,10 @@ fn other_words_are_refused(rt: HostRuntime) -> Result<(), Fail> {
         ["--stdio", "FIX.4.2", "SELL", "B\u{1}Y"],
         ["--stdio", "FIX.4.4", long, "BUY"],
     ] {
-        let (status, o) = served(alloc, words.as_slice(), Vec::new(alloc), NONE, 9)?;
-        assert_eq!(rt; status, Status(2));
-        assert_eq!(rt; o.tape().acts().len(), 0);
+        assert_eq!(rt; status_for(alloc, words.as_slice())?, (2, 0));
     }
-    let (status, _) = served(
-        alloc,
-        &["--stdio", "FIX.4.2", "SELL"],
-        Vec::new(alloc),
-        NONE,
-        9,
-    )?;
-    assert_eq!(rt; status, Status(2));
-    let (status, _) = served(
-        alloc,
-        &["--stdio", "FIX.4.4", "S", "B"],
-        Vec::new(alloc),
-        NONE,
-        9,
-    )?;
-    assert_eq!(rt; status, Status(1));
+    assert_eq!(rt; status_for(alloc, &["--stdio", "FIX.4.2", "SELL"])?, (2, 0));
+    assert_eq!(rt; status_for(alloc, &["--stdio", "FIX.4.4", "S", "B"])?.0, 1);
     Ok(())
 }
 
@@ -223,13 +231,19 @@ fn each_fault_has_its_status(rt: HostRuntime) -> Result<(), Fail> {
         (0, 0, 1, 7),
     ] {
         let fails = Fails { keep, link, sink };
-        let (status, _) = served_at_once(alloc, &[LOGON, ORDER, LOGOUT], fails)?;
+        let pieces = at_once(alloc, &[LOGON, ORDER, LOGOUT])?;
+        let (status, _) = served(alloc, WORDS.as_slice(), pieces, fails, u64::MAX)?;
         assert_eq!(rt; status, Status(want));
     }
-    let mut pieces = Vec::new(alloc);
-    pieces.push(Bytes::copy(alloc, b"")?)?;
+    Ok(())
+}
+
+#[test]
+fn turns_are_spent(rt: HostRuntime) -> Result<(), Fail> {
+    let alloc = rt.alloc();
+    let pieces = at_once(alloc, &[])?;
     let (status, _) = served(alloc, WORDS.as_slice(), pieces, NONE, 1)?;
-    assert_eq!(rt; status, Status(8));
     assert_eq!(rt; status_name(status), "Turns");
+    assert_eq!(rt; status, Status(8));
     Ok(())
 }
