@@ -1,5 +1,5 @@
 -- What begin and the run come to, together.
-use Rattle.std.proofs.Common.{◌≡◌, ℕ, List, ◌++◌, IfNone, Ok}
+use Rattle.std.proofs.Common.{ℕ, List, ◌++◌, IfNone, Ok}
 use Rattle.std.specs.Prelude.{⊤}
 use Rattle.fix_base.specs.declared.identity.Identity.{Identity}
 use Rattle.fix_base.specs.Seen.{Note, Seen, Moves, Goes}

@@ -1,5 +1,5 @@
 -- What comes of serving one connection, and with which status.
-use Rattle.std.specs.Prelude.{◌≡◌, ℕ, List, [], ◌++◌, None, Result, Ok, Err, ⊤}
+use Rattle.std.specs.Prelude.{◌≡◌, ℕ, List, [], ◌++◌, None, Ok, Err, ⊤}
 use Rattle.fix_base.specs.declared.identity.Identity.{Identity}
 use Rattle.fix_base.specs.Seen.{Faults, Note, Rises}
 use Rattle.fix_engine.specs.declared.state.Why.TheVariants.{PeerEnd, LoggedOut, Refused}

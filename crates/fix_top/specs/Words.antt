@@ -1,5 +1,5 @@
 -- The words that a program is started with.
-use Rattle.std.specs.Prelude.{◌≡◌, ℕ, List, [], ◌∷◌, map, codes}
+use Rattle.std.specs.Prelude.{◌≡◌, ℕ, List, [], ◌∷◌, codes}
 use Rattle.fix_base.specs.declared.identity.Identity.{Identity}
 use Rattle.fix_base.specs.Session.{IsValidIdentity, begin_string_of}
 use Rattle.fix_top.specs.declared.words.Named.{Named}

@@ -190,7 +190,12 @@ fn a_session_may_end_without_a_logout(rt: HostRuntime) -> Result<(), Fail> {
         written: &[LOGON_ANSWER],
         lines: b"",
     };
-    assert_serves(&rt, alloc, at_once(alloc, &[LOGON, TEST_REQUEST])?, &given_up)?;
+    assert_serves(
+        &rt,
+        alloc,
+        at_once(alloc, &[LOGON, TEST_REQUEST])?,
+        &given_up,
+    )?;
     Ok(())
 }
 

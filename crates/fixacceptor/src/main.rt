@@ -20,6 +20,7 @@ use std::process::ExitCode;
 const WORDS: Status = Status(2);
 /// The text can't be printed.
 const LINK: Status = Status(6);
+
 const MEMORY: Status = Status(9);
 
 // Serves a session over the standard streams.

@@ -1,4 +1,4 @@
-use Rattle.std.proofs.Common.{[], ◌∷◌}
+use Rattle.std.proofs.Common.{[]}
 use Rattle.fix_base.proofs.SeenLemmas.{Moves-nil}
 use Rattle.fix_top.specs.Serve.{not_opened, not_begun}
 use Rattle.fix_top.proofs.ServeLemmas.{begun-ran}

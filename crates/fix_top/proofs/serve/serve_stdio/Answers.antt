@@ -1,7 +1,6 @@
 use Rattle.std.proofs.Common.{[]}
 use Rattle.fix_base.proofs.SeenLemmas.{Moves-nil}
 use Rattle.fix_top.specs.Serve.{not_opened}
-use Rattle.fix_top.proofs.WordsLemmas.{form-unique}
 use Rattle.fix_top.proofs.serve.serve_stdio.Goals as goal
 
 pub returns-in-Err-clause-serves : goal.returns-in-Err-clause-serves

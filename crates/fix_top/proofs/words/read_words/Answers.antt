@@ -1,4 +1,4 @@
-use Rattle.std.proofs.Common.{◌≡◌, ℕ, List, [], ◌∷◌, map, subst, Bor, Option, IfSome, IfNone}
+use Rattle.std.proofs.Common.{◌≡◌, ℕ, List, [], ◌∷◌, map, subst, Bor, IfSome, IfNone}
 use Rattle.fix_top.specs.declared.words.Named.{Named}
 use Rattle.fix_top.specs.Words.{IsForm, IsNoForm, identity_of}
 use Rattle.fix_top.proofs.WordsLemmas.{four-seen}
