@@ -1,4 +1,6 @@
 //! The fast reader is compared with the plain reading, which shares no code with it.
+ghost use Rattle.std.specs.Prelude.{◌<◌};
+
 use crate::Reader;
 use fix_base::{Bytes, OutOfMemory, plain_reading};
 use std::alloc::{AllocError, Global};
@@ -38,10 +40,10 @@ fn next_number(seed: u32) -> u32 {
 }
 
 /// A number below `count`. The generator's high bits are the good ones.
-fn pick(seed: u32, count: usize) -> usize {
-    if count == 0 {
-        return 0;
-    }
+fn pick(seed: u32, count: usize) -> usize
+    requires { 0 < count }
+    ensures { result < count }
+{
     (seed >> 16) as usize % count
 }
 
