@@ -14,6 +14,7 @@ pub mod OnLemmas
 pub mod LawfulSteps
 pub mod LawfulAnswers
 pub mod LawfulRuns
+pub mod EachTime
 pub mod Settled
 pub mod Turns
 pub mod Prefix
