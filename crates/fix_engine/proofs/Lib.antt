@@ -15,6 +15,7 @@ pub mod LawfulSteps
 pub mod LawfulAnswers
 pub mod LawfulRuns
 pub mod EachTime
+pub mod EachFrame
 pub mod Settled
 pub mod Turns
 pub mod Prefix
