@@ -14,6 +14,8 @@ pub mod OnLemmas
 pub mod LawfulSteps
 pub mod LawfulAnswers
 pub mod LawfulRuns
+pub mod EachTime
+pub mod EachFrame
 pub mod Settled
 pub mod Turns
 pub mod Prefix

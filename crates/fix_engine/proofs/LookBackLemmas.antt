@@ -1,20 +1,19 @@
 -- The state and the place in the stream that are found by looking back.
-use Rattle.std.proofs.Common.{◌≡◌, ◌≢◌, ℕ, ◌+◌, List, [], ◌∷◌, ◌++◌, length, min, Bool, true, false, Option, Some, None, Result, Ok, Err, refl, sym, ap, subst, ◌∙◌, append_assoc, length-append, arith}
+use Rattle.std.proofs.Common.{◌≡◌, ◌≢◌, ℕ, ◌+◌, List, [], ◌∷◌, ◌++◌, min, Bool, true, false, Option, Some, None, Ok, refl, sym, ap, ◌∙◌, append_assoc, length-append, arith}
 use Rattle.std.proofs.lemmas.List.{append-nil}
-use Rattle.std.specs.Prelude.{⊤, if◌then◌else◌}
+use Rattle.std.specs.Prelude.{if◌then◌else◌}
 use Rattle.fix_base.specs.declared.identity.Identity.{Identity}
 use Rattle.fix_base.specs.declared.act.Act.{Act}
 use Rattle.fix_base.specs.declared.act.Act.TheVariants as act
 use Rattle.fix_base.specs.declared.entry.Record.TheVariants.{Push, Expect, Reset}
 use Rattle.fix_base.specs.Payload.{LAST_TIME}
 use Rattle.fix_base.specs.Reader.{bytes_read}
-use Rattle.fix_base.specs.Stream.{Ahead, Item, Frame, TakesAll, frames}
-use Rattle.fix_base.specs.Seen.{Note, Did, Failed, acts_of}
+use Rattle.fix_base.specs.Stream.{Ahead, Item, Frame, frames}
+use Rattle.fix_base.specs.Seen.{Note, acts_of}
 use Rattle.fix_base.proofs.Runs.{all_more, all_then, frames-append}
 use Rattle.fix_frame.specs.Given.{GivesFrame, GivesNone}
-use Rattle.fix_engine.specs.State.{State, Phase, Down, AwaitLogon, Up, LoggedOut, Logon, Logout, Ending}
-use Rattle.fix_engine.specs.declared.state.Step.TheVariants as step
-use Rattle.fix_engine.specs.Fold.{Each, none, ends, goes}
+use Rattle.fix_engine.specs.State.{State, Phase, Down, AwaitLogon, Up}
+use Rattle.fix_engine.specs.Fold.{Each, none, goes}
 use Rattle.fix_engine.specs.Inbound.{Inbound}
 use Rattle.fix_engine.specs.Answer.{Performed, nothing, count, go_up, taken, sent, Handled, answer_in, logon_answer, logon_steps, logout_answer, app_answer, not_built, refused}
 use Rattle.fix_engine.specs.Turn.{fed}

@@ -1,6 +1,6 @@
 -- Where no part failed, a run is as stated, or memory was refused and it would have gone on.
-use Rattle.std.proofs.Common.{◌≡◌, ◌≢◌, ◌⊎◌, inl, inr, ℕ, zero, suc, ◌+◌, ◌<◌, ◌≤◌, ◌^◌, min, List, [], ◌∷◌, ◌++◌, length, Bool, true, false, Option, Some, None, Result, Ok, Err, refl, sym, ◌∙◌, ap, subst, append_assoc, arith, replicate}
-use Rattle.std.specs.Prelude.{⊤, IfSome, if◌then◌else◌, not, is_none, codes}
+use Rattle.std.proofs.Common.{◌≡◌, ◌≢◌, inl, inr, ℕ, zero, suc, ◌+◌, ◌<◌, ◌≤◌, List, [], ◌∷◌, ◌++◌, length, Bool, true, false, Option, Some, None, Result, Ok, Err, refl, sym, ap, subst, append_assoc, arith, replicate}
+use Rattle.std.specs.Prelude.{⊤, IfSome, if◌then◌else◌, not, codes}
 use Rattle.std.specs.List.{AllByRecursion}
 use Rattle.std.proofs.lemmas.List.{append-nil}
 use Rattle.std.proofs.lemmas.Bool.{cases_lt}
@@ -20,7 +20,6 @@ use Rattle.fix_frame.specs.Given.{GivesFrame}
 use Rattle.fix_engine.specs.State.{State, Phase, Down, AwaitLogon, Up, Ending, Say, Step, with_kept, with_last, counted}
 use Rattle.fix_engine.specs.declared.state.Ending.TheVariants as ending
 use Rattle.fix_engine.specs.declared.state.Step.TheVariants as step
-use Rattle.fix_engine.specs.declared.stop.RunEnd.TheVariants as run
 use Rattle.fix_engine.specs.Fold.{Each, none, ends, goes, AndThen, first_ends, both}
 use Rattle.fix_engine.specs.Inbound.{Inbound, IsInbound, IsLogon}
 use Rattle.fix_engine.specs.Written.{header_fields}
@@ -29,7 +28,9 @@ use Rattle.fix_engine.specs.Answer.{Performed, Carried, Handled, IsSaid, IsSayab
 use Rattle.fix_engine.specs.Turn as turn
 use Rattle.fix_engine.specs.Turn.{Live, live, fed, down, Taken, Fed, Heard, Clocked, KeptExpected, Turn, OneTurn, Turns, Ran, settles_of, is_cut_of}
 use Rattle.fix_engine.specs.Run.{run_end}
-use Rattle.fix_engine.specs.Stated.{IsFaultless, GoesOn, frame_next, none_next, Next, HasAnswers, IsAsStated}
+use Rattle.fix_engine.specs.Stated.{IsFaultless, GoesOn, CanNotFail, IsAsStated}
+use Rattle.fix_engine.proofs.EachTime.{each_time}
+use Rattle.fix_engine.proofs.EachFrame.{Next, frame_next, none_next, each_presents, each_next}
 use Rattle.fix_engine.proofs.FrameLemmas.{fields_in, frame_has}
 use Rattle.fix_engine.proofs.SaidLemmas.{said_frame}
 use Rattle.fix_engine.proofs.TakenLemmas.{frame_shortens}
@@ -63,7 +64,7 @@ Total {S} Good R = (s : S) → Good s → Onward Good R s []
 
 -- where memory was refused it would have gone on
 abbrev Resumes : {S : Type 0} → (S → Type 0) → (S → List Note → Result ⊤ Ending → S → Type 0) → Type 0
-Resumes {S} Good R = (s : S) (notes : List Note) (s' : S) → Good s → R s notes (Err ending.OutOfMemory) s' → Onward Good R s notes
+Resumes {S} Good R = (s : S) (notes : List Note) (s' : S) → Good s → R s notes (Err ending.OutOfMemory) s' → CanNotFail (Onward Good R s notes)
 
 -- however it ends, the state stays good
 abbrev Stays : {S : Type 0} → (S → Type 0) → (S → List Note → Result ⊤ Ending → S → Type 0) → Type 0
@@ -105,10 +106,9 @@ module _ {S X : Type 0} (Good : S → Type 0) (R : S → X → List Note → Res
 
   Each-resumes : (Fit : X → Type 0) → ((x : X) → Fit x → Total Good (λ s. R s x)) → ((x : X) → Fit x → Resumes Good (λ s. R s x)) → ((x : X) → Stays Good (λ s. R s x)) → (xs : List X) → AllByRecursion Fit xs → Resumes Good (λ s. Each R s xs)
   Each-resumes Fit one again stays [] fit s notes s' ok d = elim d [ ]
-  Each-resumes Fit one again stays (x ∷ xs) fit s notes s' ok (ends d) = then_onward x xs s notes (Each-total Fit one xs fit.1) (again x fit.0 s notes s' ok d)
+  Each-resumes Fit one again stays (x ∷ xs) fit s notes s' ok (ends d) = λ k. again x fit.0 s notes s' ok d (λ t. k (then_onward x xs s notes (Each-total Fit one xs fit.1) t))
   Each-resumes Fit one again stays (x ∷ xs) fit s notes s' ok (goes {mid = mid} {first = a} {more = b} d k) =
-      let t = Each-resumes Fit one again stays xs fit.1 mid b s' (stays x s a (Ok tt) mid ok d) k in
-      record {
+      λ hold. Each-resumes Fit one again stays xs fit.1 mid b s' (stays x s a (Ok tt) mid ok d) k (λ t. hold (record {
         more = t.more;
         faultless = t.faultless;
         r = t.r;
@@ -116,7 +116,7 @@ module _ {S X : Type 0} (Good : S → Type 0) (R : S → X → List Note → Res
         good = t.good;
         whole = subst (λ l. Each R s (x ∷ xs) l t.r t.to) (sym (append_assoc a b t.more)) (goes d t.whole);
         no_want = t.no_want;
-      }
+      }))
 
   Each-stays : ((x : X) → Stays Good (λ s. R s x)) → (xs : List X) → Stays Good (λ s. Each R s xs)
   Each-stays stays [] s notes r s' ok none = ok
@@ -143,36 +143,36 @@ IsFit step.Nothing = ⊤
 abbrev Said : Identity → State → Say → Type 0
 Said id s say = (text : List ℕ) × IsSaid id (s.last + 1) s.reading say text
 
-said : (a : HasAnswers) (id : Identity) (s : State) (say : Say) → IsValidIdentity id → s.last < 999999999 → IsTimely s → IsSayable say → Said id s say
-said a id s say valid few timely fits =
-    let at = a.time_text s.reading timely in
+said : (id : Identity) (s : State) (say : Say) → IsValidIdentity id → s.last < 999999999 → IsTimely s → IsSayable say → Said id s say
+said id s say valid few timely fits =
+    let at = each_time s.reading timely in
     let header : List ℕ = fields_text (header_fields id (s.last + 1) at.0) in
     let rest : List ℕ = fields_text (fields_of say) in
     (sealed id.begin (message_text (kind_of say ∷ []) header rest), said_frame id (s.last + 1) s.reading say header rest _ valid (omega arith) fits (record { at = at.0; sent_at = at.1; spelled = refl }) refl refl)
 
-Performed-total : (a : HasAnswers) (id : Identity) (frame : List ℕ) → IsValidIdentity id → IsFrame frame → (x : Step) → IsFit x → Total IsTimely (λ s. Performed id frame s x)
-Performed-total a id frame valid f step.Nothing fit s ok = record { more = []; faultless = tt; r = Ok tt; to = s; good = ok; whole = answer.nothing; no_want = Ok-no_want }
-Performed-total a id frame valid f (step.Count n) fit s ok = record { more = []; faultless = tt; r = Ok tt; to = _; good = ok; whole = answer.count n; no_want = Ok-no_want }
-Performed-total a id frame valid f step.GoUp fit s ok = record { more = []; faultless = tt; r = Ok tt; to = _; good = ok; whole = answer.go_up; no_want = Ok-no_want }
-Performed-total a id frame valid f (step.Close why) fit s ok = record { more = []; faultless = tt; r = Err (ending.Closed why); to = _; good = ok; whole = answer.close why; no_want = λ h. cc }
-Performed-total a id frame valid f (step.GiveUp n) fit s ok = record { more = []; faultless = tt; r = Err (ending.NotBuilt n); to = _; good = ok; whole = answer.give_up n; no_want = λ h. cc }
-Performed-total a id frame valid f (step.Hand n marked) fit s ok = record { more = Did (act.Handed n marked (body_of (fields_in f))) ∷ []; faultless = tt; r = Ok tt; to = s; good = ok; whole = answer.taken n marked (fields_in f) (frame_has f); no_want = Ok-no_want }
-Performed-total a id frame valid f (step.Send say n) fit s ok =
+Performed-total : (id : Identity) (frame : List ℕ) → IsValidIdentity id → IsFrame frame → (x : Step) → IsFit x → Total IsTimely (λ s. Performed id frame s x)
+Performed-total id frame valid f step.Nothing fit s ok = record { more = []; faultless = tt; r = Ok tt; to = s; good = ok; whole = answer.nothing; no_want = Ok-no_want }
+Performed-total id frame valid f (step.Count n) fit s ok = record { more = []; faultless = tt; r = Ok tt; to = _; good = ok; whole = answer.count n; no_want = Ok-no_want }
+Performed-total id frame valid f step.GoUp fit s ok = record { more = []; faultless = tt; r = Ok tt; to = _; good = ok; whole = answer.go_up; no_want = Ok-no_want }
+Performed-total id frame valid f (step.Close why) fit s ok = record { more = []; faultless = tt; r = Err (ending.Closed why); to = _; good = ok; whole = answer.close why; no_want = λ h. cc }
+Performed-total id frame valid f (step.GiveUp n) fit s ok = record { more = []; faultless = tt; r = Err (ending.NotBuilt n); to = _; good = ok; whole = answer.give_up n; no_want = λ h. cc }
+Performed-total id frame valid f (step.Hand n marked) fit s ok = record { more = Did (act.Handed n marked (body_of (fields_in f))) ∷ []; faultless = tt; r = Ok tt; to = s; good = ok; whole = answer.taken n marked (fields_in f) (frame_has f); no_want = Ok-no_want }
+Performed-total id frame valid f (step.Send say n) fit s ok =
     elim (cases_lt s.last 999999999) [
       | inr h ↦ record { more = []; faultless = tt; r = Err ending.NumbersSpent; to = _; good = ok; whole = answer.spent say n h; no_want = λ h. cc }
       | inl h ↦
-          let t = said a id s say valid h ok fit in
+          let t = said id s say valid h ok fit in
           record { more = Did (act.Kept (Push (entry_of s say))) ∷ Did (act.Wrote t.0) ∷ []; faultless = tt; r = Ok tt; to = with_last s (s.last + 1); good = ok; whole = answer.sent say n t.0 h t.1; no_want = Ok-no_want }
     ]
 
-Performed-resumes : (a : HasAnswers) (id : Identity) (frame : List ℕ) → IsValidIdentity id → IsFrame frame → (x : Step) → IsFit x → Resumes IsTimely (λ s. Performed id frame s x)
-Performed-resumes a id frame valid f x fit s notes s' ok (answer.hand_memory n marked) = record { more = Did (act.Handed n marked (body_of (fields_in f))) ∷ []; faultless = tt; r = Ok tt; to = s; good = ok; whole = answer.taken n marked (fields_in f) (frame_has f); no_want = Ok-no_want }
-Performed-resumes a id frame valid f x fit s notes s' ok (answer.keep_memory say n h) =
-    let t = said a id s say valid h ok fit in
-    record { more = Did (act.Kept (Push (entry_of s say))) ∷ Did (act.Wrote t.0) ∷ []; faultless = tt; r = Ok tt; to = with_last s (s.last + 1); good = ok; whole = answer.sent say n t.0 h t.1; no_want = Ok-no_want }
-Performed-resumes a id frame valid f x fit s notes s' ok (answer.write_memory say n h) =
-    let t = said a id s say valid h ok fit in
-    record { more = Did (act.Wrote t.0) ∷ []; faultless = tt; r = Ok tt; to = with_last s (s.last + 1); good = ok; whole = answer.sent say n t.0 h t.1; no_want = Ok-no_want }
+Performed-resumes : (id : Identity) (frame : List ℕ) → IsValidIdentity id → IsFrame frame → (x : Step) → IsFit x → Resumes IsTimely (λ s. Performed id frame s x)
+Performed-resumes id frame valid f x fit s notes s' ok (answer.hand_memory n marked) = λ hold. hold (record { more = Did (act.Handed n marked (body_of (fields_in f))) ∷ []; faultless = tt; r = Ok tt; to = s; good = ok; whole = answer.taken n marked (fields_in f) (frame_has f); no_want = Ok-no_want })
+Performed-resumes id frame valid f x fit s notes s' ok (answer.keep_memory say n h) =
+    let t = said id s say valid h ok fit in
+    λ hold. hold (record { more = Did (act.Kept (Push (entry_of s say))) ∷ Did (act.Wrote t.0) ∷ []; faultless = tt; r = Ok tt; to = with_last s (s.last + 1); good = ok; whole = answer.sent say n t.0 h t.1; no_want = Ok-no_want })
+Performed-resumes id frame valid f x fit s notes s' ok (answer.write_memory say n h) =
+    let t = said id s say valid h ok fit in
+    λ hold. hold (record { more = Did (act.Wrote t.0) ∷ []; faultless = tt; r = Ok tt; to = with_last s (s.last + 1); good = ok; whole = answer.sent say n t.0 h t.1; no_want = Ok-no_want })
 
 counted_timely : (s : State) (n : Option ℕ) → IsTimely s → IsTimely (counted s n)
 counted_timely s None ok = ok
@@ -223,16 +223,15 @@ answers-fit frame Up id s i p =
 
 -- ---- the frames
 
-Handled-total : (a : HasAnswers) (id : Identity) (frame : List ℕ) → IsValidIdentity id → IsFrame frame → Total IsTimely (λ s. Handled id s frame)
-Handled-total a id frame valid f s ok =
-    let p = a.presents frame f in
-    let t = Each-total IsTimely (Performed id frame) IsFit (Performed-total a id frame valid f) (answer_to id s p.0) (answers-fit frame s.phase id s p.0 p.1) s ok in
-    record { more = t.more; faultless = t.faultless; r = t.r; to = t.to; good = t.good; whole = record { inbound = p.0; presents = p.1; carried = t.whole }; no_want = t.no_want }
+Handled-total : (id : Identity) (frame : List ℕ) → IsValidIdentity id → IsFrame frame → (s : State) → IsTimely s → CanNotFail (Onward IsTimely (λ s. Handled id s frame) s [])
+Handled-total id frame valid f s ok = λ hold. each_presents frame f (λ p.
+    let t = Each-total IsTimely (Performed id frame) IsFit (Performed-total id frame valid f) (answer_to id s p.0) (answers-fit frame s.phase id s p.0 p.1) s ok in
+    hold (record { more = t.more; faultless = t.faultless; r = t.r; to = t.to; good = t.good; whole = record { inbound = p.0; presents = p.1; carried = t.whole }; no_want = t.no_want }))
 
-Handled-resumes : (a : HasAnswers) (id : Identity) (frame : List ℕ) → IsValidIdentity id → IsFrame frame → Resumes IsTimely (λ s. Handled id s frame)
-Handled-resumes a id frame valid f s notes s' ok d =
-    let t = Each-resumes IsTimely (Performed id frame) IsFit (Performed-total a id frame valid f) (Performed-resumes a id frame valid f) (Performed-stays id frame) (answer_to id s d.inbound) (answers-fit frame s.phase id s d.inbound d.presents) s notes s' ok d.carried in
-    record { more = t.more; faultless = t.faultless; r = t.r; to = t.to; good = t.good; whole = record { inbound = d.inbound; presents = d.presents; carried = t.whole }; no_want = t.no_want }
+Handled-resumes : (id : Identity) (frame : List ℕ) → IsValidIdentity id → IsFrame frame → Resumes IsTimely (λ s. Handled id s frame)
+Handled-resumes id frame valid f s notes s' ok d = λ hold.
+    Each-resumes IsTimely (Performed id frame) IsFit (Performed-total id frame valid f) (Performed-resumes id frame valid f) (Performed-stays id frame) (answer_to id s d.inbound) (answers-fit frame s.phase id s d.inbound d.presents) s notes s' ok d.carried
+    (λ t. hold (record { more = t.more; faultless = t.faultless; r = t.r; to = t.to; good = t.good; whole = record { inbound = d.inbound; presents = d.presents; carried = t.whole }; no_want = t.no_want }))
 
 Handled-stays : (id : Identity) (frame : List ℕ) → Stays IsTimely (λ s. Handled id s frame)
 Handled-stays id frame s notes r s' ok d = Each-stays IsTimely (Performed id frame) (Performed-stays id frame) (answer_to id s d.inbound) s notes r s' ok d.carried
@@ -241,43 +240,40 @@ Handled-stays id frame s notes r s' ok d = Each-stays IsTimely (Performed id fra
 abbrev IsOnTime : Live → Type 0
 IsOnTime l = IsTimely l.state
 
-frame_onward : (id : Identity) (s : State) (from behind : Ahead) (frame : List ℕ) (notes : List Note) → GivesFrame from behind frame → Onward IsTimely (λ s. Handled id s frame) s notes → ((mid : State) → IsTimely mid → Onward IsOnTime (Taken id) (live mid behind) []) → Onward IsOnTime (Taken id) (live s from) notes
-frame_onward id s from behind frame notes gives g total = by-answer g.r g.to g.good g.whole g.no_want
+frame_onward : (id : Identity) (s : State) (from behind : Ahead) (frame : List ℕ) (notes : List Note) → GivesFrame from behind frame → ((mid : State) → IsTimely mid → CanNotFail (Onward IsOnTime (Taken id) (live mid behind) [])) → Onward IsTimely (λ s. Handled id s frame) s notes → CanNotFail (Onward IsOnTime (Taken id) (live s from) notes)
+frame_onward id s from behind frame notes gives total g = by-answer g.r g.to g.good g.whole g.no_want
   where
-    by-answer : (r : Result ⊤ Ending) (to : State) → IsTimely to → Handled id s frame (notes ++ g.more) r to → r ≢ Err ending.OutOfMemory → Onward IsOnTime (Taken id) (live s from) notes
-    by-answer (Err e) to ok d n = record { more = g.more; faultless = g.faultless; r = Err e; to = live to behind; good = ok; whole = turn.ends frame gives d; no_want = n }
-    by-answer (Ok x) to ok d n =
-        let t = total to ok in
-        record {
-          more = g.more ++ t.more;
-          faultless = IsFaultless-append g.more t.more g.faultless t.faultless;
-          r = t.r;
-          to = t.to;
-          good = t.good;
-          whole = subst (λ l. Taken id (live s from) l t.r t.to) (append_assoc notes g.more t.more) (turn.goes frame gives d t.whole);
-          no_want = t.no_want;
-        }
+    by-answer : (r : Result ⊤ Ending) (to : State) → IsTimely to → Handled id s frame (notes ++ g.more) r to → r ≢ Err ending.OutOfMemory → CanNotFail (Onward IsOnTime (Taken id) (live s from) notes)
+    by-answer (Err e) to ok d n = λ hold. hold (record { more = g.more; faultless = g.faultless; r = Err e; to = live to behind; good = ok; whole = turn.ends frame gives d; no_want = n })
+    by-answer (Ok x) to ok d n = λ hold. total to ok (λ t. hold (record {
+      more = g.more ++ t.more;
+      faultless = IsFaultless-append g.more t.more g.faultless t.faultless;
+      r = t.r;
+      to = t.to;
+      good = t.good;
+      whole = subst (λ l. Taken id (live s from) l t.r t.to) (append_assoc notes g.more t.more) (turn.goes frame gives d t.whole);
+      no_want = t.no_want;
+    }))
 
 -- what stands next in the bytes, where the frames of fewer bytes are known
-next_onward : (a : HasAnswers) (id : Identity) → IsValidIdentity id → (s : State) (from : Ahead) → IsTimely s → ((mid : State) (b : Ahead) → length b.bytes < length from.bytes → IsTimely mid → Onward IsOnTime (Taken id) (live mid b) []) → Next from → Onward IsOnTime (Taken id) (live s from) []
-next_onward a id valid s from ok fewer (none_next b gives) = record { more = []; faultless = tt; r = Ok tt; to = live s b; good = ok; whole = turn.no_more gives; no_want = Ok-no_want }
-next_onward a id valid s from ok fewer (frame_next b frame gives) =
-    frame_onward id s from b frame [] gives (Handled-total a id frame valid gives.frame_there.is.1 s ok) (λ mid timely. fewer mid b (frame_shortens from b frame gives) timely)
+next_onward : (id : Identity) → IsValidIdentity id → (s : State) (from : Ahead) → IsTimely s → ((mid : State) (b : Ahead) → length b.bytes < length from.bytes → IsTimely mid → CanNotFail (Onward IsOnTime (Taken id) (live mid b) [])) → Next from → CanNotFail (Onward IsOnTime (Taken id) (live s from) [])
+next_onward id valid s from ok fewer (none_next b gives) = λ hold. hold (record { more = []; faultless = tt; r = Ok tt; to = live s b; good = ok; whole = turn.no_more gives; no_want = Ok-no_want })
+next_onward id valid s from ok fewer (frame_next b frame gives) = λ hold.
+    Handled-total id frame valid gives.frame_there.is.1 s ok (λ g. frame_onward id s from b frame [] gives (λ mid timely. fewer mid b (frame_shortens from b frame gives) timely) g hold)
 
 -- the frames of fewer bytes than that
-Taken-few : (a : HasAnswers) (id : Identity) → IsValidIdentity id → (n : ℕ) (s : State) (from : Ahead) → length from.bytes < n → IsTimely s → Onward IsOnTime (Taken id) (live s from) []
-Taken-few a id valid zero s from few ok = absurd (omega arith)
-Taken-few a id valid (suc n) s from few ok = next_onward a id valid s from ok (λ mid b less timely. Taken-few a id valid n mid b (omega arith) timely) (a.next from)
+Taken-few : (id : Identity) → IsValidIdentity id → (n : ℕ) (s : State) (from : Ahead) → length from.bytes < n → IsTimely s → CanNotFail (Onward IsOnTime (Taken id) (live s from) [])
+Taken-few id valid zero s from few ok = absurd (omega arith)
+Taken-few id valid (suc n) s from few ok = λ hold. each_next from (λ next. next_onward id valid s from ok (λ mid b less timely. Taken-few id valid n mid b (omega arith) timely) next hold)
 
-Taken-total : (a : HasAnswers) (id : Identity) → IsValidIdentity id → (s : State) (from : Ahead) → IsTimely s → Onward IsOnTime (Taken id) (live s from) []
-Taken-total a id valid s from ok = Taken-few a id valid (suc (length from.bytes)) s from (omega arith) ok
+Taken-total : (id : Identity) → IsValidIdentity id → (s : State) (from : Ahead) → IsTimely s → CanNotFail (Onward IsOnTime (Taken id) (live s from) [])
+Taken-total id valid s from ok = Taken-few id valid (suc (length from.bytes)) s from (omega arith) ok
 
-Taken-resumes : (a : HasAnswers) (id : Identity) → IsValidIdentity id → (l : Live) (notes : List Note) (to : Live) → IsOnTime l → Taken id l notes (Err ending.OutOfMemory) to → Onward IsOnTime (Taken id) l notes
-Taken-resumes a id valid l notes to ok (turn.ends {s = s} {s' = s'} {a = from} {b = b} frame gives h) =
-    frame_onward id s from b frame notes gives (Handled-resumes a id frame valid gives.frame_there.is.1 s notes s' ok h) (λ mid ok. Taken-total a id valid mid b ok)
-Taken-resumes a id valid l notes to ok (turn.goes {s = s} {mid = mid} {a = from} {b = b} {first = first} {more = more} frame gives h k) =
-    let t = Taken-resumes a id valid (live mid b) more to (Handled-stays id frame s first (Ok tt) mid ok h) k in
-    record {
+Taken-resumes : (id : Identity) → IsValidIdentity id → Resumes IsOnTime (Taken id)
+Taken-resumes id valid l notes to ok (turn.ends {s = s} {s' = s'} {a = from} {b = b} frame gives h) = λ hold.
+    Handled-resumes id frame valid gives.frame_there.is.1 s notes s' ok h (λ g. frame_onward id s from b frame notes gives (λ mid timely. Taken-total id valid mid b timely) g hold)
+Taken-resumes id valid l notes to ok (turn.goes {s = s} {mid = mid} {a = from} {b = b} {first = first} {more = more} frame gives h k) = λ hold.
+    Taken-resumes id valid (live mid b) more to (Handled-stays id frame s first (Ok tt) mid ok h) k (λ t. hold (record {
       more = t.more;
       faultless = t.faultless;
       r = t.r;
@@ -285,7 +281,7 @@ Taken-resumes a id valid l notes to ok (turn.goes {s = s} {mid = mid} {a = from}
       good = t.good;
       whole = subst (λ l. Taken id (live s from) l t.r t.to) (sym (append_assoc first more t.more)) (turn.goes frame gives h t.whole);
       no_want = t.no_want;
-    }
+    }))
 
 Taken-stays : (id : Identity) → Stays IsOnTime (Taken id)
 Taken-stays id l notes r to ok (turn.no_more gives) = ok
@@ -300,10 +296,10 @@ Heard-total id l ok = record { more = Did act.Idle ∷ []; faultless = tt; r = O
 heard_onward : (id : Identity) (l : Live) (b : List ℕ) (notes : List Note) → 0 < length b → length b ≤ 65536 → Onward IsOnTime (Taken id) (live l.state (fed l.ahead b)) notes → Onward IsOnTime (Heard id) l (Did (act.Read b) ∷ notes)
 heard_onward id l b notes some fits t = record { more = t.more; faultless = t.faultless; r = t.r; to = t.to; good = t.good; whole = turn.bytes b some fits (turn.fed_frames t.whole); no_want = t.no_want }
 
-Heard-resumes : (a : HasAnswers) (id : Identity) → IsValidIdentity id → Resumes IsOnTime (Heard id)
-Heard-resumes a id valid l notes to ok (turn.bytes {more = more} b some fits (turn.fed_frames d)) = heard_onward id l b more some fits (Taken-resumes a id valid (live l.state (fed l.ahead b)) more to ok d)
-Heard-resumes a id valid l notes to ok (turn.bytes b some fits turn.fed_memory) = heard_onward id l b [] some fits (Taken-total a id valid l.state (fed l.ahead b) ok)
-Heard-resumes a id valid l notes to ok turn.read_memory = Heard-total id l ok
+Heard-resumes : (id : Identity) → IsValidIdentity id → Resumes IsOnTime (Heard id)
+Heard-resumes id valid l notes to ok (turn.bytes {more = more} b some fits (turn.fed_frames d)) = λ hold. Taken-resumes id valid (live l.state (fed l.ahead b)) more to ok d (λ t. hold (heard_onward id l b more some fits t))
+Heard-resumes id valid l notes to ok (turn.bytes b some fits turn.fed_memory) = λ hold. Taken-total id valid l.state (fed l.ahead b) ok (λ t. hold (heard_onward id l b [] some fits t))
+Heard-resumes id valid l notes to ok turn.read_memory = λ hold. hold (Heard-total id l ok)
 
 Heard-stays : (id : Identity) → Stays IsOnTime (Heard id)
 Heard-stays id l notes r to ok (turn.bytes {more = more} b some fits (turn.fed_frames d)) = Taken-stays id (live l.state (fed l.ahead b)) more r to ok d
@@ -343,11 +339,11 @@ met_onward id l notes g = by-answer g.r g.to g.good g.whole g.no_want
 Met-total : (id : Identity) → Total IsOnTime (AndThen (Heard id) Clocked)
 Met-total id l ok = met_onward id l [] (Heard-total id l ok)
 
-Met-resumes : (a : HasAnswers) (id : Identity) → IsValidIdentity id → Resumes IsOnTime (AndThen (Heard id) Clocked)
-Met-resumes a id valid l notes to ok (first_ends d) = met_onward id l notes (Heard-resumes a id valid l notes to ok d)
-Met-resumes a id valid l notes to ok (both {mid = mid} {first = first} {more = more} d k) =
+Met-resumes : (id : Identity) → IsValidIdentity id → Resumes IsOnTime (AndThen (Heard id) Clocked)
+Met-resumes id valid l notes to ok (first_ends d) = λ hold. Heard-resumes id valid l notes to ok d (λ g. hold (met_onward id l notes g))
+Met-resumes id valid l notes to ok (both {mid = mid} {first = first} {more = more} d k) =
     let t = Clocked-resumes mid more to k in
-    record {
+    λ hold. hold (record {
       more = t.more;
       faultless = t.faultless;
       r = t.r;
@@ -355,7 +351,7 @@ Met-resumes a id valid l notes to ok (both {mid = mid} {first = first} {more = m
       good = t.good;
       whole = subst (λ w. AndThen (Heard id) Clocked l w t.r t.to) (sym (append_assoc first more t.more)) (both d t.whole);
       no_want = t.no_want;
-    }
+    })
 
 Met-stays : (id : Identity) → Stays IsOnTime (AndThen (Heard id) Clocked)
 Met-stays id l notes r to ok (first_ends {e = e} d) = Heard-stays id l notes (Err e) to ok d
@@ -407,11 +403,11 @@ Turn-stays id l notes r to ok (turn.stops h d) = Met-stays id l notes r to ok d
 Turn-stays id l notes r to ok (turn.keeps {mid = mid} {met = met} {first = first} {more = more} h d k) = KeptExpected-stays mid more (Ok tt) to (Met-stays id l first met mid ok d) k
 Turn-stays id l notes r to ok (turn.keeps_not {mid = mid} {met = met} {first = first} {more = more} {e = e} h d k) = KeptExpected-stays mid more (Err e) to (Met-stays id l first met mid ok d) k
 
-Turn-resumes : (a : HasAnswers) (id : Identity) → IsValidIdentity id → Resumes IsOnTime (Turn id)
-Turn-resumes a id valid l notes to ok (turn.stops h d) = turn_onward id l notes (Met-resumes a id valid l notes to ok d)
-Turn-resumes a id valid l notes to ok (turn.keeps h d k) = absurd cc
-Turn-resumes a id valid l notes to ok (turn.keeps_not {mid = mid} {met = met} {first = first} h d (turn.expect_memory n)) =
-    record {
+Turn-resumes : (id : Identity) → IsValidIdentity id → Resumes IsOnTime (Turn id)
+Turn-resumes id valid l notes to ok (turn.stops h d) = λ hold. Met-resumes id valid l notes to ok d (λ g. hold (turn_onward id l notes g))
+Turn-resumes id valid l notes to ok (turn.keeps h d k) = absurd cc
+Turn-resumes id valid l notes to ok (turn.keeps_not {mid = mid} {met = met} {first = first} h d (turn.expect_memory n)) =
+    λ hold. hold (record {
       more = Did (act.Kept (Expect mid.state.expected)) ∷ [];
       faultless = tt;
       r = met;
@@ -419,12 +415,12 @@ Turn-resumes a id valid l notes to ok (turn.keeps_not {mid = mid} {met = met} {f
       good = Met-stays id l first met mid ok d;
       whole = subst (λ w. Turn id l w met (live (with_kept mid.state) mid.ahead)) (ap (λ w. w ++ Did (act.Kept (Expect mid.state.expected)) ∷ []) (sym (append-nil first))) (turn.keeps h d (turn.kept n));
       no_want = λ e. (let t : settles_of (Err ending.OutOfMemory) ≡ true = subst (λ r. settles_of r ≡ true) e h in cc);
-    }
+    })
 
 -- ---- a run
 
-Turns-resume : (a : HasAnswers) (id : Identity) → IsValidIdentity id → (n : ℕ) → Resumes IsOnTime (Turns id n)
-Turns-resume a id valid n l notes to ok d = Each-resumes IsOnTime (OneTurn id) (λ u. ⊤) (λ u fit. Turn-total id) (λ u fit. Turn-resumes a id valid) (λ u. Turn-stays id) (replicate n tt) (all_fit (replicate n tt)) l notes to ok d
+Turns-resume : (id : Identity) → IsValidIdentity id → (n : ℕ) → Resumes IsOnTime (Turns id n)
+Turns-resume id valid n l notes to ok d = Each-resumes IsOnTime (OneTurn id) (λ u. ⊤) (λ u fit. Turn-total id) (λ u fit. Turn-resumes id valid) (λ u. Turn-stays id) (replicate n tt) (all_fit (replicate n tt)) l notes to ok d
   where
     all_fit : (us : List ⊤) → AllByRecursion (λ u. ⊤) us
     all_fit [] = tt
@@ -452,18 +448,18 @@ run_onward id n l notes g = by-answer g.r g.to g.whole g.no_want
 err_same : (e : Ending) → failed e ≡ Err ending.OutOfMemory → e ≡ ending.OutOfMemory
 err_same e k = cc
 
-Ran-resumes : (a : HasAnswers) (id : Identity) → IsValidIdentity id → (n : ℕ) (l : Live) (notes : List Note) (to : Live) → IsOnTime l → Ran id n l notes (Err ending.OutOfMemory) to → GoesOn (Ran id n) l notes
-Ran-resumes a id valid n l notes to ok (turn.cut h d) = absurd cc
-Ran-resumes a id valid n l notes to ok (turn.cut_memory {to = at} {e = e} h d) =
-    record {
+Ran-resumes : (id : Identity) → IsValidIdentity id → (n : ℕ) (l : Live) (notes : List Note) (to : Live) → IsOnTime l → Ran id n l notes (Err ending.OutOfMemory) to → CanNotFail (GoesOn (Ran id n) l notes)
+Ran-resumes id valid n l notes to ok (turn.cut h d) = absurd cc
+Ran-resumes id valid n l notes to ok (turn.cut_memory {to = at} {e = e} h d) =
+    λ hold. hold (record {
       more = Did act.Cut ∷ [];
       faultless = tt;
       r = Err e;
       to = down at;
       whole = turn.cut h d;
       no_want = λ k. (let t : is_cut_of ending.OutOfMemory ≡ true = subst (λ e. is_cut_of e ≡ true) (err_same e k) h in cc);
-    }
-Ran-resumes a id valid n l notes to ok (turn.no_cut {to = at} h d) = run_onward id n l notes (Turns-resume a id valid n l notes at ok d)
+    })
+Ran-resumes id valid n l notes to ok (turn.no_cut {to = at} h d) = λ hold. Turns-resume id valid n l notes at ok d (λ g. hold (run_onward id n l notes g))
 
 stated : (id : Identity) → IsValidIdentity id → (n : ℕ) (l : Live) (notes : List Note) (r : Result ⊤ Ending) (to : Live) → IsOnTime l → IsFaultless notes → Ran id n l notes r to → IsAsStated id n l (run_end r) to notes
 stated id valid n l notes (Ok x) to ok f d = (f, inl ((λ h. cc), record { r = Ok x; answered = refl; ran = d }))
@@ -473,7 +469,7 @@ stated id valid n l notes (Err ending.StoreFault) to ok f d = (f, inl ((λ h. cc
 stated id valid n l notes (Err ending.LinkFault) to ok f d = (f, inl ((λ h. cc), record { r = Err ending.LinkFault; answered = refl; ran = d }))
 stated id valid n l notes (Err ending.AppFault) to ok f d = (f, inl ((λ h. cc), record { r = Err ending.AppFault; answered = refl; ran = d }))
 stated id valid n l notes (Err ending.NumbersSpent) to ok f d = (f, inl ((λ h. cc), record { r = Err ending.NumbersSpent; answered = refl; ran = d }))
-stated id valid n l notes (Err ending.OutOfMemory) to ok f d = (f, inr (refl, λ a. Ran-resumes a id valid n l notes to ok d))
+stated id valid n l notes (Err ending.OutOfMemory) to ok f d = (f, inr (refl, Ran-resumes id valid n l notes to ok d))
 
 -- where no count rose a run is as stated
 pub as_stated : (id : Identity) → IsValidIdentity id → (n : ℕ) (l : Live) (r : Result ⊤ Ending) (to : Live) (old new : Seen) → l.state.reading ≤ LAST_TIME → Goes old new (λ notes. Ran id n l notes r to) → NoneRose old.faults new.faults → Goes old new (IsAsStated id n l (run_end r) to)

@@ -1,5 +1,5 @@
 -- A run is found again by looking back.
-use Rattle.std.proofs.Common.{◌≡◌, ℕ, ◌+◌, List, [], ◌∷◌, ◌++◌, length, min, Bool, true, false, Result, Ok, Err, refl, sym, ap, subst, ◌∙◌, append_assoc, arith, replicate}
+use Rattle.std.proofs.Common.{◌≡◌, ℕ, ◌+◌, List, [], ◌∷◌, ◌++◌, length, Result, Ok, Err, refl, sym, ap, subst, ◌∙◌, append_assoc, replicate}
 use Rattle.std.specs.Prelude.{⊤}
 use Rattle.std.proofs.lemmas.List.{append-nil}
 use Rattle.fix_base.specs.declared.identity.Identity.{Identity}
@@ -8,11 +8,11 @@ use Rattle.fix_base.specs.declared.act.Act.TheVariants as act
 use Rattle.fix_base.specs.declared.entry.Record.TheVariants.{Expect}
 use Rattle.fix_base.specs.Lists.{here}
 use Rattle.fix_base.specs.Reader.{bytes_read}
-use Rattle.fix_base.specs.Stream.{Ahead, HasNoItem}
-use Rattle.fix_base.specs.Seen.{Note, Did, Failed, StorePart, LinkPart, Seen, Moves, Goes, acts_of}
+use Rattle.fix_base.specs.Stream.{Ahead}
+use Rattle.fix_base.specs.Seen.{Note, Did, Failed, StorePart, LinkPart, Seen, Goes, acts_of}
 use Rattle.fix_base.proofs.SeenLemmas.{acts_of-append}
 use Rattle.fix_frame.specs.Given.{GivesFrame}
-use Rattle.fix_engine.specs.State.{State, Ending, PeerEnd, with_kept, with_reading}
+use Rattle.fix_engine.specs.State.{State, Ending, with_kept, with_reading}
 use Rattle.fix_engine.specs.declared.state.Ending.TheVariants as ending
 use Rattle.fix_engine.specs.declared.stop.RunEnd.TheVariants as run
 use Rattle.fix_engine.specs.Fold as fold
@@ -21,7 +21,7 @@ use Rattle.fix_engine.specs.Answer.{Handled}
 use Rattle.fix_engine.specs.Turn as turn
 use Rattle.fix_engine.specs.Turn.{Live, live, fed, down, Taken, Fed, Heard, Clocked, KeptExpected, Turn, OneTurn, Ran, settles_of, is_cut_of}
 use Rattle.fix_engine.specs.Run.{run_end}
-use Rattle.fix_engine.specs.LookBack.{last_sent, last_kept, last_reading, state_at, AreFramesTo, IsNext, AreAll, StandsAt, Calls, reads, idles, is_over, looks, keeps, loses, cuts, fails, Closes, nothing_more, keeps_it, loses_it, cuts_off, Recounts, done, calls, answers, ends, IsShown, LooksBack}
+use Rattle.fix_engine.specs.LookBack.{last_sent, last_kept, last_reading, state_at, AreFramesTo, AreAll, StandsAt, Calls, reads, idles, is_over, looks, keeps, loses, cuts, fails, Closes, nothing_more, keeps_it, loses_it, cuts_off, Recounts, done, calls, answers, ends, IsShown, LooksBack}
 use Rattle.fix_engine.proofs.LookBackLemmas.{last_sent-append, last_kept-append, last_reading-append, bytes_read-append, same_state, behind_frame, next_frame, no_frame, more_bytes}
 use Rattle.fix_engine.proofs.Shown.{shown_behind, shown_before, frame_shown}
 

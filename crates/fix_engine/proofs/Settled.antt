@@ -1,9 +1,9 @@
 -- Behind a run that a store didn't fail the expected number is kept.
-use Rattle.std.proofs.Common.{◌≡◌, ℕ, zero, suc, Bool, true, false, List, ◌∷◌, [], Result, Ok, Err, refl, arith, replicate}
+use Rattle.std.proofs.Common.{◌≡◌, ℕ, zero, suc, true, List, ◌∷◌, [], Result, Ok, Err, refl, replicate}
 use Rattle.std.specs.Prelude.{⊤}
 use Rattle.fix_base.specs.declared.identity.Identity.{Identity}
 use Rattle.fix_base.specs.Seen.{Note}
-use Rattle.fix_engine.specs.State.{State, Ending}
+use Rattle.fix_engine.specs.State.{Ending}
 use Rattle.fix_engine.specs.declared.state.Ending.TheVariants as ending
 use Rattle.fix_engine.specs.Fold.{Each, none, ends, goes}
 use Rattle.fix_engine.specs.Turn.{Live, KeptExpected, same, kept, expect_lost, expect_memory, settles_of, Turn, stops, keeps, keeps_not, OneTurn, Ran, all_turns, cut, cut_memory, no_cut}

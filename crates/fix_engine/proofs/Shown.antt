@@ -1,22 +1,21 @@
 -- Why a connection was closed shows in the frames that were answered on it, and in the acts.
-use Rattle.std.proofs.Common.{◌≡◌, ℕ, List, [], ◌∷◌, ◌++◌, Bool, true, false, Option, Some, None, Result, Ok, Err, refl, sym, subst, ◌∙◌}
-use Rattle.std.specs.Prelude.{⊤, if◌then◌else◌, not, ◌&&◌, codes, is_none}
+use Rattle.std.proofs.Common.{◌≡◌, ℕ, List, [], ◌∷◌, ◌++◌, Bool, true, false, Option, Some, None, Err, refl, sym, subst}
+use Rattle.std.specs.Prelude.{if◌then◌else◌, not, ◌&&◌, codes, is_none}
 use Rattle.fix_base.specs.declared.identity.Identity.{Identity}
 use Rattle.fix_base.specs.declared.act.Act.{Act}
 use Rattle.fix_base.specs.declared.act.Act.TheVariants as act
 use Rattle.fix_base.specs.Lists.{Among, here, there}
-use Rattle.fix_base.specs.Seen.{Note, Did, Failed, acts_of}
+use Rattle.fix_base.specs.Seen.{Note, acts_of}
 use Rattle.fix_base.proofs.SeenLemmas.{acts_of-append}
-use Rattle.fix_engine.specs.State.{State, Phase, AwaitLogon, Up, Ending, Say, PeerEnd, LoggedOut, Refused, NotLogon}
-use Rattle.fix_engine.specs.declared.state.Ending.TheVariants as ending
+use Rattle.fix_engine.specs.State.{State, Ending, Say, PeerEnd, LoggedOut, Refused, NotLogon}
 use Rattle.fix_engine.specs.declared.state.Step.TheVariants as step
 use Rattle.fix_engine.specs.declared.stop.RunEnd.{RunEnd}
 use Rattle.fix_engine.specs.declared.stop.RunEnd.TheVariants as run
-use Rattle.fix_engine.specs.Fold.{Each, none, ends, goes}
+use Rattle.fix_engine.specs.Fold.{Each, ends, goes}
 use Rattle.fix_engine.specs.Inbound.{Inbound, IsInbound}
-use Rattle.fix_engine.specs.Answer.{Performed, nothing, count, go_up, close, give_up, taken, hand_lost, hand_memory, spent, keep_memory, keep_lost, sent, write_lost, write_memory, Handled, answer_in, logon_answer, logon_steps, logout_answer, app_answer, not_built, refused, first_answer, up_answer, names, is_numbered, is_in_order, is_app_type, number_or_0}
+use Rattle.fix_engine.specs.Answer.{Performed, close, give_up, hand_lost, hand_memory, spent, keep_memory, keep_lost, write_lost, write_memory, Handled, logon_answer, logon_steps, logout_answer, app_answer, not_built, refused, first_answer, up_answer, names, is_in_order, is_app_type, number_or_0}
 use Rattle.fix_engine.specs.Run.{run_end}
-use Rattle.fix_engine.specs.LookBack.{phase_behind, state_at, IsLast, IsLogout, IsNoLogon, IsOfNumber, IsShown}
+use Rattle.fix_engine.specs.LookBack.{state_at, IsLast, IsLogout, IsNoLogon, IsOfNumber, IsShown}
 
 among_before : {A : Type 0} (x : A) (xs ys : List A) → Among x xs → Among x (xs ++ ys)
 among_before x xs ys here = here

@@ -1,18 +1,18 @@
 -- How many turns a run makes.
-use Rattle.std.proofs.Common.{◌≡◌, ℕ, zero, suc, ◌+◌, ◌<◌, ◌≤◌, List, [], ◌∷◌, ◌++◌, Result, Ok, Err, refl, ap, arith, replicate, length}
+use Rattle.std.proofs.Common.{◌≡◌, ℕ, suc, ◌+◌, ◌≤◌, List, [], ◌∷◌, ◌++◌, Result, Ok, Err, refl, ap, arith, replicate, length}
 use Rattle.std.specs.Prelude.{⊤}
 use Rattle.std.proofs.lemmas.List.{length-replicate}
 use Rattle.fix_base.specs.declared.identity.Identity.{Identity}
 use Rattle.fix_base.specs.declared.act.Act.TheVariants as act
 use Rattle.fix_base.specs.declared.act.Act.{Act}
-use Rattle.fix_base.specs.Seen.{Note, Did, Failed, Seen, Moves, Goes, acts_of}
+use Rattle.fix_base.specs.Seen.{Note, Did, Seen, Goes, acts_of}
 use Rattle.fix_base.proofs.SeenLemmas.{acts_of-append}
 use Rattle.fix_engine.specs.State.{State, Ending, Step}
 use Rattle.fix_engine.specs.declared.state.Ending.TheVariants as ending
 use Rattle.fix_engine.specs.declared.stop.RunEnd.TheVariants as run
 use Rattle.fix_engine.specs.Fold.{Each, none, ends, goes, AndThen, first_ends, both}
 use Rattle.fix_engine.specs.Answer.{Performed, nothing, count, go_up, close, give_up, taken, hand_lost, hand_memory, spent, keep_memory, keep_lost, sent, write_lost, write_memory}
-use Rattle.fix_engine.specs.Turn.{Live, Taken, no_more, ends as ends_at, goes as goes_on, Fed, fed_frames, fed_memory, Heard, bytes, idle, over, read_lost, read_memory, Clocked, now, now_memory, KeptExpected, same, kept, expect_lost, expect_memory, settles_of, Turn, OneTurn, stops, keeps, keeps_not, Ran, all_turns, cut, cut_memory, no_cut}
+use Rattle.fix_engine.specs.Turn.{Live, Taken, no_more, ends as ends_at, goes as goes_on, Fed, fed_frames, fed_memory, Heard, bytes, idle, over, read_lost, read_memory, Clocked, now, now_memory, KeptExpected, same, kept, expect_lost, expect_memory, Turn, OneTurn, stops, keeps, keeps_not, Ran, all_turns, cut, cut_memory, no_cut}
 use Rattle.fix_engine.specs.Run.{run_end}
 use Rattle.fix_engine.specs.Turns.{reads_in, looks_in, IsMadeOf, HasTurns}
 
