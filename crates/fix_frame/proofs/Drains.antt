@@ -5,7 +5,8 @@ use Rattle.fix_base.specs.Stream.{Ahead, Item, Frame, text_of, HasNoItem, TakesA
 use Rattle.fix_frame.specs.Given.{GivesFrame, GivesNone}
 use Rattle.fix_base.specs.Says.{joined}
 use Rattle.fix_base.proofs.Fronted as fronted
-use Rattle.fix_frame.specs.Whole.{GivesAll, AreFramesOf}
+use Rattle.fix_base.specs.Plain.{AreFramesOf}
+use Rattle.fix_frame.specs.Whole.{GivesAll}
 use Rattle.fix_base.proofs.Spans.{shape_long}
 use Rattle.fix_base.proofs.Runs.{with_more, all_more, all_then, frames-append, reads_same}
 

@@ -1,6 +1,6 @@
 -- What is read of a whole stream.
-use Rattle.std.specs.Prelude.{◌≡◌, ℕ, true, List, ◌++◌}
-use Rattle.fix_base.specs.Stream.{Ahead, Item, HasNoItem, TakesAll, frames, Reads}
+use Rattle.std.specs.Prelude.{◌≡◌, ℕ, List, ◌++◌}
+use Rattle.fix_base.specs.Stream.{Ahead, Item, HasNoItem, TakesAll, frames}
 
 -- items up to a place that has none, and their frames at the end of what was given
 pub record GivesAll (a b : Ahead) (old new : List (List ℕ)) : Type 0 where
@@ -8,10 +8,3 @@ pub record GivesAll (a b : Ahead) (old new : List (List ℕ)) : Type 0 where
   pub take : TakesAll a items b
   pub end : HasNoItem b
   pub given : new ≡ old ++ frames items
-
--- these are the frames of the stream's reading
-pub record AreFramesOf (stream : List ℕ) (given : List (List ℕ)) : Type 0 where
-  pub items : List Item
-  pub rest : Ahead
-  pub reads : Reads (record { may_mark = true; bytes = stream }) items rest
-  pub frames_are : given ≡ frames items
