@@ -1,5 +1,5 @@
 -- What `begin` comes to.
-use Rattle.std.proofs.Common.{◌≡◌, ℕ, List, Result, Ok, Err}
+use Rattle.std.proofs.Common.{ℕ, List, Ok, Err}
 use Rattle.std.specs.Prelude.{None}
 use Rattle.fix_base.specs.Seen.{Note}
 use Rattle.fix_engine.specs.declared.stop.BeginFault.{BeginFault}

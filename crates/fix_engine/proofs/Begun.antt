@@ -1,5 +1,5 @@
 -- A loop of which a relation says what is still to be done: whatever the rest does makes the whole.
-use Rattle.std.proofs.Common.{◌≡◌, List, [], ◌++◌, ◌∷◌, Result, Ok, Err, sym, subst, append_assoc}
+use Rattle.std.proofs.Common.{List, [], ◌++◌, Result, sym, subst, append_assoc}
 use Rattle.std.specs.Prelude.{⊤}
 use Rattle.fix_base.specs.Seen.{Note, Seen, Moves, Goes}
 use Rattle.fix_base.proofs.SeenLemmas.{Moves-nil, Moves-append}

@@ -1,8 +1,8 @@
 -- A fault of a run has its cause: the part failed in it.
-use Rattle.std.proofs.Common.{◌≡◌, ℕ, ◌+◌, ◌≤◌, ◌<◌, min, List, [], ◌∷◌, ◌++◌, Result, Ok, Err, arith}
+use Rattle.std.proofs.Common.{ℕ, ◌<◌, List, [], ◌∷◌, ◌++◌, Result, Ok, Err, arith}
 use Rattle.std.specs.Prelude.{⊤}
 use Rattle.fix_base.specs.declared.identity.Identity.{Identity}
-use Rattle.fix_base.specs.Seen.{Note, Seen, Faults, Counts, Rises, Goes, store_failures, link_failures, app_failures}
+use Rattle.fix_base.specs.Seen.{Note, Seen, Faults, Counts, Goes, store_failures, link_failures, app_failures}
 use Rattle.fix_base.proofs.SeenLemmas.{store_failures-append, link_failures-append, app_failures-append}
 use Rattle.fix_engine.specs.State.{State, Ending, Step}
 use Rattle.fix_engine.specs.declared.state.Ending.TheVariants as ending

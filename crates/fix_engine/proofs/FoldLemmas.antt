@@ -1,5 +1,5 @@
 -- Loops over what is done in turn: each lemma closes one exit of a loop.
-use Rattle.std.proofs.Common.{◌≡◌, ℕ, ◌<◌, ◌≤◌, List, [], ◌∷◌, ◌++◌, Result, Ok, Err, refl, sym, ◌∙◌, ap, subst, append_assoc, arith, ◌+◌, length, get_or, drop, drop-cons, add-one, map, ◌-◌, suc, replicate}
+use Rattle.std.proofs.Common.{◌≡◌, ℕ, ◌<◌, ◌≤◌, List, [], ◌∷◌, ◌++◌, Result, Ok, Err, sym, ap, subst, append_assoc, arith, ◌+◌, length, get_or, drop, drop-cons, add-one, map, ◌-◌, suc, replicate}
 use Rattle.std.proofs.lemmas.List.{append-nil, drop_all}
 use Rattle.std.specs.Prelude.{⊤}
 use Rattle.fix_base.specs.Seen.{Note, Seen, Moves, Goes}

@@ -1,30 +1,35 @@
 -- A session stays in step with what is outside of it, and keeps up with its counterparty.
-use Rattle.std.proofs.Common.{◌≡◌, ◌≢◌, inl, inr, ℕ, ◌≤◌, List, [], ◌∷◌, ◌++◌, length, Option, Some, None, Result, Ok, Err, refl, sym, ap, ◌∙◌, subst, append_assoc, arith}
+use Rattle.std.proofs.Common.{◌≡◌, ◌≢◌, inl, inr, ℕ, List, [], ◌∷◌, ◌++◌, length, Option, Some, None, Result, Ok, Err, refl, sym, ap, ◌∙◌, subst, append_assoc, arith}
 use Rattle.std.specs.Prelude.{⊤, IfSome, IfNone}
+use Rattle.std.proofs.lemmas.List.{append-nil}
 use Rattle.fix_base.specs.declared.identity.Identity.{Identity}
-use Rattle.fix_base.specs.declared.entry.Record.TheVariants.{Push, Expect, Reset}
 use Rattle.fix_base.specs.declared.act.Act.{Act}
 use Rattle.fix_base.specs.declared.act.Act.TheVariants as act
-use Rattle.fix_base.specs.End.{End}
+use Rattle.fix_base.specs.End.{End, new_end}
 use Rattle.fix_base.specs.EndStep as steps
-use Rattle.fix_base.specs.EndStep.{Connection, EndState, EndStep, EndRun}
+use Rattle.fix_base.specs.EndStep.{Connection, EndState, new_state, EndStep, EndRun}
 use Rattle.fix_base.specs.Seen.{Stores, grown, Note, acts_of, Seen, Moves, Goes}
+use Rattle.fix_base.proofs.SeenLemmas.{Moves-nil}
 use Rattle.fix_base.proofs.RunLemmas.{EndRun-append}
 use Rattle.fix_base.proofs.ReaderLemmas.{reader}
 use Rattle.fix_base.proofs.WholeLemmas.{whole_start}
-use Rattle.fix_engine.specs.State.{Down, Ending}
+use Rattle.fix_engine.specs.State.{Down, Ending, first_state}
 use Rattle.fix_engine.specs.declared.state.Ending.TheVariants as ending
+use Rattle.fix_engine.specs.declared.stop.RunEnd.TheVariants as run
 use Rattle.fix_engine.specs.declared.stop.StopCause.{StopCause}
 use Rattle.fix_engine.specs.declared.stop.BeginFault.{BeginFault}
 use Rattle.fix_engine.specs.Turn.{Live, live, Ran}
-use Rattle.fix_engine.specs.Run.{Seat, run_end, stop_cause, BeginsTo, opened_to, no_memory, no_memory_to_open, begun}
-use Rattle.fix_engine.specs.Lawful.{IsSettled, IsOn, Fits, HasLeft, Leads, After, AfterBegin, IsLawfulBegin}
+use Rattle.fix_engine.specs.declared.stop.BeginFault.TheVariants as begins
+use Rattle.fix_engine.specs.Run.{Seat, no_bytes, run_end, stop_cause, stopped_for_memory, Opens, BeginsTo, opened_to, no_memory, no_memory_to_open, begun}
+use Rattle.fix_engine.specs.Lawful.{IsCertain, Fits, Leads, After, IsLawfulBegin}
 use Rattle.fix_engine.specs.InStep as step
-use Rattle.fix_engine.specs.InStep.{IsBeside, IsTape, IsStored, IsInStep, IsConnected, ReadsFrom, KeepsUpBehind}
+use Rattle.fix_engine.specs.InStep.{IsBeside, IsTape, IsStored, IsInStep, IsConnected, AreOfRun, HasServed}
+use Rattle.fix_engine.proofs.BeginLemmas.{begins_ok, begins_err}
 use Rattle.fix_engine.proofs.LeadsLemmas.{leads_nowhere, leads_step}
 use Rattle.fix_engine.proofs.ReadLemmas.{read_nothing}
 use Rattle.fix_engine.proofs.LawfulRuns.{Ran-lawful}
-use Rattle.fix_engine.proofs.OneConnection.{one-append, Ran-one}
+use Rattle.fix_engine.proofs.WritingLemmas.{run_wrote}
+use Rattle.fix_engine.proofs.RunActs.{of_run-append, of_run_one, Ran-one}
 
 -- ---- what is told
 
@@ -54,9 +59,22 @@ store_moves : (o o' : Option End) (acts : List Act) (from to : End) → Stores a
 store_moves None o' acts from to s follows h = subst (λ x. IfSome x (λ held. held ≡ to)) (sym (untold acts o' s)) tt
 store_moves (Some old) o' acts from to s follows h = subst (λ x. IfSome x (λ held. held ≡ to)) (sym (follows o' (subst (λ f. Stores acts (Some f) o') h s))) refl
 
+-- ---- a new session
+
+-- a session of which nothing is stored is in step with an outside that stores nothing
+pub new_in_step : (id : Identity) (w : Seen) (before : List Act) → IsTape w before → IsStored w new_end → IsInStep new_state before w (record { identity = id; live = live first_state no_bytes; stopped = None })
+new_in_step id w before tape stored = record {
+  acts = [];
+  to = new_state;
+  run = steps.stop;
+  beside = step.down refl (record { doubt = refl; numbers = record { expected = refl; stored = refl; out = refl } });
+  tape = subst (λ (acts : List Act). IsTape w acts) (sym (append-nil before)) tape;
+  stored = stored;
+}
+
 -- ---- a run of turns
 
-beside_settled : (id : Identity) (l : Live) (e : EndState) → IsBeside id l e → IsSettled l.state e
+beside_settled : (id : Identity) (l : Live) (e : EndState) → IsBeside id l e → IsCertain l.state e
 beside_settled id l e (step.connected f) = f.on.settled
 beside_settled id l e (step.down p h) = h
 
@@ -102,16 +120,28 @@ run_in_step n seat r to old new is_open g =
     (λ none start before h. moved start before old new seat to (stop_cause (run_end r)) g.0 (After seat.identity (run_end r) to) g.1 (λ e k. after_beside seat.identity r to e none k) h
     (Ran-lawful seat.identity n seat.live g.0 r to g.2 h.to (beside_fits seat.identity seat.live h.to is_open h.beside)))
 
+-- only a run that made all its turns answers so
+spent_ok : (r : Result ⊤ Ending) → run_end r ≡ run.TurnsSpent → r ≡ Ok tt
+spent_ok (Ok x) e = refl
+spent_ok (Err (ending.Closed why)) e = cc
+spent_ok (Err (ending.NotBuilt n)) e = cc
+spent_ok (Err ending.LinkFault) e = cc
+spent_ok (Err ending.AppFault) e = cc
+spent_ok (Err ending.NumbersSpent) e = cc
+spent_ok (Err ending.StoreFault) e = cc
+spent_ok (Err ending.OutOfMemory) e = cc
+
 -- where all turns were made, the connection goes on
-pub run_connected : (n : ℕ) (seat : Seat) (x : ⊤) (to : Live) (stopped : Option StopCause) (old new : Seen) → Goes old new (λ notes. Ran seat.identity n seat.live notes (Ok x) to) → (start : EndState) (before : List Act) → IsConnected start before old seat → IsConnected start before new (seated seat to stopped)
-run_connected n seat x to stopped old new g start before h =
+pub run_connected : (n : ℕ) (seat : Seat) (r : Result ⊤ Ending) (to : Live) (stopped : Option StopCause) (old new : Seen) → Goes old new (λ notes. Ran seat.identity n seat.live notes r to) → run_end r ≡ run.TurnsSpent → (start : EndState) (before : List Act) → IsConnected start before old seat → IsConnected start before new (seated seat to stopped)
+run_connected n seat r to stopped old new g spent start before h =
     let acts = acts_of g.0 in
-    let l = Ran-lawful seat.identity n seat.live g.0 (Ok x) to g.2 h.to h.fits in
+    let ran : Ran seat.identity n seat.live g.0 (Ok tt) to = subst (λ (x : Result ⊤ Ending). Ran seat.identity n seat.live g.0 x to) (spent_ok r spent) g.2 in
+    let l = Ran-lawful seat.identity n seat.live g.0 (Ok tt) to ran h.to h.fits in
     record {
       opened = h.opened;
       opens = h.opens;
       acts = h.acts ++ acts;
-      one = one-append h.acts acts h.one (Ran-one seat.identity n seat.live g.0 (Ok x) to g.2);
+      ran = of_run-append h.acts acts h.ran (Ran-one seat.identity n seat.live g.0 (Ok tt) to ran);
       to = l.to;
       run = EndRun-append h.run l.run;
       fits = l.holds;
@@ -119,20 +149,22 @@ run_connected n seat x to stopped old new g start before h =
       stored = store_moves old.stored new.stored acts h.to.end l.to.end g.1.stored (λ held s. l.store held l.holds.on.settled.doubt s) h.stored;
     }
 
--- the session keeps up with its counterparty
-pub run_keeps_up : (n : ℕ) (seat : Seat) (r : Result ⊤ Ending) (to : Live) (old new : Seen) → Goes old new (λ notes. Ran seat.identity n seat.live notes r to) → (start : EndState) (before : List Act) (h : IsConnected start before old seat) (f0 f1 : End) → Goes old new (λ notes. ReadsFrom seat.identity start (h.acts ++ acts_of notes) f0 f1 → KeepsUpBehind seat.identity (run_end r) to h.opened (h.acts ++ acts_of notes) f0 f1)
-run_keeps_up n seat r to old new g start before h f0 f1 =
-    let acts = acts_of g.0 in
-    let l = Ran-lawful seat.identity n seat.live g.0 r to g.2 h.to h.fits in
-    let run : EndRun seat.identity h.opened (h.acts ++ acts) l.to = EndRun-append h.run l.run in
-    (
+-- what it wrote is lawful, and the session keeps up with its counterparty
+pub run_serves : (n : ℕ) (seat : Seat) (r : Result ⊤ Ending) (to : Live) (old new : Seen) → Goes old new (λ notes. Ran seat.identity n seat.live notes r to) → (start : EndState) (before : List Act) (h : IsConnected start before old seat) → Goes old new (λ notes. HasServed seat.identity (run_end r) to start h.opened (h.acts ++ acts_of notes))
+run_serves n seat r to old new g start before h =
+    let id = seat.identity in
+    let acts = h.acts ++ acts_of g.0 in
+    let l = Ran-lawful id n seat.live g.0 r to g.2 h.to h.fits in
+    let run : EndRun id h.opened acts l.to = EndRun-append h.run l.run in
+    let ran : AreOfRun acts = of_run-append h.acts (acts_of g.0) h.ran (Ran-one id n seat.live g.0 r to g.2) in (
       g.0,
       g.1,
-      λ p. record {
+      record {
         to = l.to;
         run = run;
         behind = l.holds;
-        keeps_up = reader seat.identity start h.opened l.to (h.acts ++ acts) f0 f1 p.wrote p.persistent p.writes h.opens run (one-append h.acts acts h.one (Ran-one seat.identity n seat.live g.0 r to g.2)) p.front p.stored p.running;
+        wrote = run_wrote id start h.opened l.to acts h.opens run ran;
+        keeps_up = λ f0 f1 p. reader id start h.opened l.to acts f0 f1 p.wrote p.persistent p.writes h.opens run (of_run_one acts ran) p.front p.stored p.running;
       },
     )
 
@@ -144,7 +176,7 @@ new_connection e = record { opened = e.end; read = []; written = []; base = leng
 abbrev opened_by : EndState → EndState
 opened_by e = record e { connection = Some (new_connection e) }
 
-fits_opened : (id : Identity) (l : Live) (t : ℕ) (e : EndState) → IsSettled l.state e → Fits id (begun l t) (opened_by e)
+fits_opened : (id : Identity) (l : Live) (t : ℕ) (e : EndState) → IsCertain l.state e → Fits id (begun l t) (opened_by e)
 fits_opened id l t e h = record {
   connection = new_connection e;
   on = record {
@@ -169,9 +201,9 @@ Begins-lawful old new r notes (opened_to t) e h =
     leads_step old.identity e e (act.Now t) (act.Opened ∷ []) (Fits old.identity (begun old.live t)) (record { certain = h.doubt; row = steps.now t }) (λ held k. k)
     (leads_step old.identity e (opened_by e) act.Opened [] (Fits old.identity (begun old.live t)) (opening old.identity e h.doubt) (λ held k. k)
     (leads_nowhere old.identity (opened_by e) (Fits old.identity (begun old.live t)) (fits_opened old.identity old.live t e h)))
-Begins-lawful old new r notes no_memory e h = leads_nowhere old.identity e (IsSettled old.live.state) h
+Begins-lawful old new r notes no_memory e h = leads_nowhere old.identity e (IsCertain old.live.state) h
 Begins-lawful old new r notes (no_memory_to_open t) e h =
-    leads_step old.identity e e (act.Now t) [] (IsSettled old.live.state) (record { certain = h.doubt; row = steps.now t }) (λ held k. k) (leads_nowhere old.identity e (IsSettled old.live.state) h)
+    leads_step old.identity e e (act.Now t) [] (IsCertain old.live.state) (record { certain = h.doubt; row = steps.now t }) (λ held k. k) (leads_nowhere old.identity e (IsCertain old.live.state) h)
 
 pub begin_lawful : {T : Type 0} (old new : Seat) (r : Result T BeginFault) (a b : Seen) → Goes a b (BeginsTo old r new) → Goes a b (IsLawfulBegin old r new)
 begin_lawful old new r a b g = (g.0, g.1, Begins-lawful old new r g.0 g.2)
@@ -191,19 +223,21 @@ begin_in_step old new r a b g = Begins-in_step old new r a b g.0 g.1 g.2
 Begins-connected : {T : Type 0} (old new : Seat) (r : Result T BeginFault) (a b : Seen) (notes : List Note) → Moves a b notes → BeginsTo old r new notes → IfNone new.stopped ((start : EndState) (before : List Act) (h : IsInStep start before a old) → (time : ℕ) × IsConnected h.to (before ++ h.acts ++ act.Now time ∷ []) b new)
 Begins-connected old new r a b notes m (opened_to t) =
     λ start before h.
-        (let e = h.to in
-        let settled = beside_settled old.identity old.live e h.beside in
-        (t, record {
-          opened = opened_by e;
-          opens = opening old.identity e settled.doubt;
-          acts = [];
-          one = tt;
-          to = opened_by e;
-          run = steps.stop;
-          fits = fits_opened old.identity old.live t e settled;
-          tape = subst (λ (w : List Act). IsTape b w) (again before h.acts t) (tape_moves a.tape b.tape (before ++ h.acts) (act.Now t ∷ act.Opened ∷ []) m.tape h.tape);
-          stored = store_moves a.stored b.stored (act.Now t ∷ act.Opened ∷ []) e.end e.end m.stored (λ held s. s.2.2 ∙ s.2.1 ∙ s.1) h.stored;
-        }))
+    (let e = h.to in
+    let settled = beside_settled old.identity old.live e h.beside in (
+      t,
+      record {
+        opened = opened_by e;
+        opens = opening old.identity e settled.doubt;
+        acts = [];
+        ran = tt;
+        to = opened_by e;
+        run = steps.stop;
+        fits = fits_opened old.identity old.live t e settled;
+        tape = subst (λ (w : List Act). IsTape b w) (again before h.acts t) (tape_moves a.tape b.tape (before ++ h.acts) (act.Now t ∷ act.Opened ∷ []) m.tape h.tape);
+        stored = store_moves a.stored b.stored (act.Now t ∷ act.Opened ∷ []) e.end e.end m.stored (λ held s. s.2.2 ∙ s.2.1 ∙ s.1) h.stored;
+      },
+    ))
   where
     again : (xs ys : List Act) (time : ℕ) → (xs ++ ys) ++ act.Now time ∷ act.Opened ∷ [] ≡ (xs ++ ys ++ act.Now time ∷ []) ++ act.Opened ∷ []
     again xs ys time = simp append_assoc
@@ -212,3 +246,20 @@ Begins-connected old new r a b notes m (no_memory_to_open t) = tt
 
 pub begin_connected : {T : Type 0} (old new : Seat) (r : Result T BeginFault) (a b : Seen) → Goes a b (BeginsTo old r new) → IfNone new.stopped ((start : EndState) (before : List Act) (h : IsInStep start before a old) → (time : ℕ) × IsConnected h.to (before ++ h.acts ++ act.Now time ∷ []) b new)
 begin_connected old new r a b g = Begins-connected old new r a b g.0 g.1 g.2
+
+-- ---- the exits of `begin`
+
+pub opened_lawful : (old : Seat) (t : ℕ) (a b : Seen) → Goes a b (Opens (Ok t)) → Goes a b (IsLawfulBegin {T = ⊤} old (Ok tt) (seated old (begun old.live t) None))
+opened_lawful old t a b g = begin_lawful {T = ⊤} old (seated old (begun old.live t) None) (Ok tt) a b (g.0, g.1, begins_ok old tt t g.0 g.2)
+
+pub opened_in_step : (old : Seat) (t : ℕ) (a b : Seen) → Goes a b (Opens (Ok t)) → (start : EndState) (before : List Act) → IsInStep start before a old → IsInStep start before b (seated old (begun old.live t) None)
+opened_in_step old t a b g = begin_in_step {T = ⊤} old (seated old (begun old.live t) None) (Ok tt) a b (g.0, g.1, begins_ok old tt t g.0 g.2)
+
+pub opened_connected : (old : Seat) (t : ℕ) (a b : Seen) → Goes a b (Opens (Ok t)) → (start : EndState) (before : List Act) (h : IsInStep start before a old) → (time : ℕ) × IsConnected h.to (before ++ h.acts ++ act.Now time ∷ []) b (seated old (begun old.live t) None)
+opened_connected old t a b g = begin_connected {T = ⊤} old (seated old (begun old.live t) None) (Ok tt) a b (g.0, g.1, begins_ok old tt t g.0 g.2)
+
+pub not_opened_lawful : (old : Seat) (fault : BeginFault) (a b : Seen) → Goes a b (Opens (Err fault)) → Goes a b (IsLawfulBegin {T = ⊤} old (Err fault) (stopped_for_memory old))
+not_opened_lawful old fault a b g = begin_lawful {T = ⊤} old (stopped_for_memory old) (Err fault) a b (g.0, g.1, begins_err old fault g.0 g.2)
+
+pub refused_lawful : (old : Seat) (a : Seen) → Goes a a (IsLawfulBegin {T = ⊤} old (Err begins.OutOfMemory) (stopped_for_memory old))
+refused_lawful old a = begin_lawful {T = ⊤} old (stopped_for_memory old) (Err begins.OutOfMemory) a a ([], Moves-nil a, no_memory)

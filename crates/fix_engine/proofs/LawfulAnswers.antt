@@ -1,7 +1,7 @@
 -- The answer to a message is a run of a lawful end.
-use Rattle.std.proofs.Common.{◌≡◌, ◌≢◌, inl, inr, ℕ, ◌+◌, ◌<◌, ◌==◌, ◌&&◌, ◌||◌, not, codes, bytes_eq, List, [], ◌∷◌, ◌++◌, Bool, true, false, if◌then◌else◌, Option, Some, None, is_none, Result, Ok, Err, refl, sym, ap, ◌∙◌, subst}
+use Rattle.std.proofs.Common.{◌≡◌, ◌≢◌, ℕ, ◌<◌, ◌&&◌, ◌||◌, not, codes, bytes_eq, List, [], ◌∷◌, Bool, true, false, if◌then◌else◌, Option, Some, None, is_none, Result, refl, sym, ap, ◌∙◌}
 use Rattle.std.specs.Prelude.{⊤}
-use Rattle.std.proofs.lemmas.Bool.{eqb-true, not-true}
+use Rattle.std.proofs.lemmas.Bool.{eqb-true}
 use Rattle.std.proofs.lemmas.Slice.Eq.{bytes_eq-Decides}
 use Rattle.fix_base.specs.Lists.{Among}
 use Rattle.fix_base.specs.declared.identity.Identity.{Identity}
@@ -12,18 +12,17 @@ use Rattle.fix_base.specs.Says.{value_of, seq_num_of, is_admin_type, body_of, me
 use Rattle.fix_base.specs.Stream.{Ahead}
 use Rattle.fix_base.specs.EndStep.{Connection, EndState, WasRead}
 use Rattle.fix_base.specs.Seen.{Note, acts_of}
-use Rattle.fix_base.proofs.HandledLemmas.{test}
-use Rattle.fix_fields.specs.Header.{Header, header_of_fields}
-use Rattle.fix_engine.specs.State.{State, Phase, Down, AwaitLogon, Up, Ending, Step, Why, LoggedOut, Refused, NotLogon, Logon, Logout}
+use Rattle.fix_fields.specs.Header.{Header}
+use Rattle.fix_engine.specs.State.{State, Phase, Down, AwaitLogon, Up, Ending, Step, LoggedOut, Refused, NotLogon, Logon, Logout}
 use Rattle.fix_engine.specs.declared.state.Step.TheVariants as do_step
 use Rattle.fix_engine.specs.Inbound.{Inbound, IsInbound}
-use Rattle.fix_engine.specs.Answer.{Performed, Carried, Handled, names, is_numbered, is_of_session, is_addressed, is_near, is_in_order, is_app_type, number_or_0, not_built, refused, logon_steps, logon_answer, logout_answer, app_answer, first_answer, up_answer, answer_in, answer_to}
-use Rattle.fix_engine.specs.Turn.{Live, live}
+use Rattle.fix_engine.specs.Answer.{Carried, Handled, names, is_numbered, is_of_session, is_in_order, is_app_type, number_or_0, not_built, refused, logon_steps, logon_answer, logout_answer, app_answer, first_answer, up_answer, answer_in}
+use Rattle.fix_engine.specs.Turn.{live}
 use Rattle.fix_engine.specs.Lawful.{IsOn, Fits, Leads}
 use Rattle.fix_frame.specs.Given.{GivesFrame}
 use Rattle.fix_engine.proofs.ReadLemmas.{read_frame, was_read, says_admin, says_app}
 use Rattle.fix_engine.proofs.OnLemmas.{on_place}
-use Rattle.fix_engine.proofs.LawfulSteps.{Behind, Triple, IsCertain, AdminDue, AppDue, AppGiven, In, itself, certain_in, certain_due, certain_given, nowhere, first_of, nothing_leads, close_leads, give_up_leads, go_up_leads, count_admin_leads, count_app_leads, hand_leads, answer_leads, send_leads}
+use Rattle.fix_engine.proofs.LawfulSteps.{Behind, Triple, AdminDue, AppDue, AppGiven, In, itself, certain_in, certain_due, certain_given, nowhere, first_of, nothing_leads, close_leads, give_up_leads, go_up_leads, count_admin_leads, count_app_leads, hand_leads, answer_leads, send_leads}
 
 -- ---- the answers
 

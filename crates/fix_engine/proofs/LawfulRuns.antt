@@ -1,27 +1,23 @@
 -- A run of the engine is a run of a lawful end.
-use Rattle.std.proofs.Common.{◌≡◌, ◌≢◌, ℕ, ◌<◌, ◌≤◌, List, [], ◌∷◌, ◌++◌, length, Bool, true, false, Option, Some, None, Result, Ok, Err, refl, sym, ap, ◌∙◌, subst, arith, replicate}
+use Rattle.std.proofs.Common.{◌≡◌, ℕ, List, [], ◌∷◌, true, false, Some, None, Result, Ok, Err, refl, sym, replicate}
 use Rattle.std.specs.Prelude.{⊤}
 use Rattle.fix_base.specs.declared.identity.Identity.{Identity}
 use Rattle.fix_base.specs.declared.entry.Record.{Record}
 use Rattle.fix_base.specs.declared.entry.Record.TheVariants.{Expect}
 use Rattle.fix_base.specs.declared.act.Act.TheVariants as act
-use Rattle.fix_base.specs.Stream.{Ahead}
 use Rattle.fix_base.specs.EndStep as steps
 use Rattle.fix_base.specs.EndStep.{Connection, EndState}
-use Rattle.fix_base.specs.Seen.{Note, Did, Failed, acts_of, Seen, Goes}
-use Rattle.fix_base.proofs.WholeLemmas.{whole_start}
-use Rattle.fix_frame.specs.Given.{GivesFrame, GivesNone}
-use Rattle.fix_engine.specs.State.{State, Down, AwaitLogon, Ending, with_phase, with_kept, with_reading}
+use Rattle.fix_base.specs.Seen.{Note, Did, acts_of, Seen, Goes}
+use Rattle.fix_engine.specs.State.{State, Down, Ending, with_phase, with_kept, with_reading}
 use Rattle.fix_engine.specs.declared.state.Ending.TheVariants as ending
-use Rattle.fix_engine.specs.declared.stop.BeginFault.{BeginFault}
 use Rattle.fix_engine.specs.Fold.{Each, none, ends, goes, AndThen, first_ends, both}
 use Rattle.fix_engine.specs.Turn as turn
 use Rattle.fix_engine.specs.Turn.{Live, live, fed, Taken, Fed, Heard, Clocked, KeptExpected, settles_of, Turn, OneTurn, Turns, is_cut_of, down, Ran}
-use Rattle.fix_engine.specs.Run.{Seat, run_end, RanTo, BeginsTo, opened_to, no_memory, no_memory_to_open, begun}
+use Rattle.fix_engine.specs.Run.{run_end}
 use Rattle.fix_engine.specs.Lawful as lawful
-use Rattle.fix_engine.specs.Lawful.{HasNumbers, IsSettled, IsOn, Fits, HasLeft, IsLost, IsInDoubt, Leads, After, IsLawful, AfterBegin, IsLawfulBegin}
+use Rattle.fix_engine.specs.Lawful.{HasNumbers, IsCertain, IsOn, Fits, HasLeft, IsLost, IsInDoubt, Leads, After, IsLawful, AfterBegin, IsLawfulBegin}
 use Rattle.fix_engine.proofs.LeadsLemmas.{leads_nowhere, leads_step, leads_lost, leads_on, leads_weaker}
-use Rattle.fix_engine.proofs.ReadLemmas.{read_nothing, read_none}
+use Rattle.fix_engine.proofs.ReadLemmas.{read_none}
 use Rattle.fix_engine.proofs.OnLemmas.{connected, settled_connected, on_state, reading, on_read, on_place, keeping, settled_kept, on_kept}
 use Rattle.fix_engine.proofs.LawfulSteps.{BehindEnd, Behind, Triple}
 use Rattle.fix_engine.proofs.LawfulAnswers.{handled_leads}
@@ -32,11 +28,11 @@ state_of l = l.state
 certain_fits : (id : Identity) (l : Live) (e : EndState) → Fits id l e → e.doubt ≡ None
 certain_fits id l e f = f.on.settled.doubt
 
-certain_settled : (s : State) (e : EndState) → IsSettled s e → e.doubt ≡ None
+certain_settled : (s : State) (e : EndState) → IsCertain s e → e.doubt ≡ None
 certain_settled s e h = h.doubt
 
 -- the phase makes no difference to the numbers
-settled_phase : (s : State) (e : EndState) → IsSettled s e → IsSettled (with_phase s Down) e
+settled_phase : (s : State) (e : EndState) → IsCertain s e → IsCertain (with_phase s Down) e
 settled_phase s e h = record { doubt = h.doubt; numbers = record { expected = h.numbers.expected; stored = h.numbers.stored; out = h.numbers.out } }
 
 -- ---- what is read
@@ -57,16 +53,16 @@ fed_leads id b l notes r to (turn.fed_frames d) e f =
 fed_leads id b l notes r to turn.fed_memory e f =
     let c = f.connection in
     let mid = connected e (reading c b) in
-    leads_step id e mid (act.Read b) [] (IsSettled l.state) (record { certain = f.on.settled.doubt; row = steps.read b c f.on.is_open }) (λ held h. h) (leads_nowhere id mid (IsSettled l.state) (settled_connected l.state e (reading c b) f.on.settled))
+    leads_step id e mid (act.Read b) [] (IsCertain l.state) (record { certain = f.on.settled.doubt; row = steps.read b c f.on.is_open }) (λ held h. h) (leads_nowhere id mid (IsCertain l.state) (settled_connected l.state e (reading c b) f.on.settled))
 
 heard_leads : (id : Identity) → Triple id state_of (Fits id) (Heard id) (Fits id)
 heard_leads id l notes r to (turn.bytes {more = more} b some fits d) e f = fed_leads id b l more r to d e f
 heard_leads id l notes r to turn.idle e f =
     leads_step id e e act.Idle [] (Fits id l) (record { certain = f.on.settled.doubt; row = steps.idle f.connection f.on.is_open }) (λ held h. h) (leads_nowhere id e (Fits id l) f)
 heard_leads id l notes r to turn.over e f =
-    leads_step id e e act.Ended [] (IsSettled (with_phase l.state Down)) (record { certain = f.on.settled.doubt; row = steps.ended f.connection f.on.is_open }) (λ held h. h) (leads_nowhere id e (IsSettled (with_phase l.state Down)) (settled_phase l.state e f.on.settled))
-heard_leads id l notes r to turn.read_lost e f = leads_nowhere id e (IsSettled l.state) f.on.settled
-heard_leads id l notes r to turn.read_memory e f = leads_nowhere id e (IsSettled l.state) f.on.settled
+    leads_step id e e act.Ended [] (IsCertain (with_phase l.state Down)) (record { certain = f.on.settled.doubt; row = steps.ended f.connection f.on.is_open }) (λ held h. h) (leads_nowhere id e (IsCertain (with_phase l.state Down)) (settled_phase l.state e f.on.settled))
+heard_leads id l notes r to turn.read_lost e f = leads_nowhere id e (IsCertain l.state) f.on.settled
+heard_leads id l notes r to turn.read_memory e f = leads_nowhere id e (IsCertain l.state) f.on.settled
 
 -- ---- one turn
 
@@ -75,7 +71,7 @@ clocked_leads id l notes r to (turn.now t) e f =
     let next = live (with_reading l.state t) l.ahead in
     leads_step id e e (act.Now t) [] (Fits id next) (record { certain = f.on.settled.doubt; row = steps.now t }) (λ held h. h)
     (leads_nowhere id e (Fits id next) (record { connection = f.connection; on = on_state id l.state (with_reading l.state t) l.ahead f.connection e f.on.phase refl refl refl f.on; counted = f.counted }))
-clocked_leads id l notes r to turn.now_memory e f = leads_nowhere id e (IsSettled l.state) f.on.settled
+clocked_leads id l notes r to turn.now_memory e f = leads_nowhere id e (IsCertain l.state) f.on.settled
 
 met_leads : (id : Identity) → Triple id state_of (Fits id) (AndThen (Heard id) Clocked) (Fits id)
 met_leads id l notes r to (first_ends {e = end} d) e f = heard_leads id l notes (Err end) to d e f
@@ -83,14 +79,14 @@ met_leads id l notes r to (both {mid = mid} {first = first} {more = more} d k) e
     leads_on id e first more (Fits id mid) (Behind (Fits id to) r to.state) (certain_fits id mid) (heard_leads id l first (Ok tt) mid d e f) (λ m q. clocked_leads id mid more r to k m q)
 
 -- the expected number is lost
-expect_lost_leads : (id : Identity) (s : State) (e : EndState) → IsSettled s e → Leads id e (act.KeepLost (Expect s.expected) ∷ []) (IsInDoubt s)
+expect_lost_leads : (id : Identity) (s : State) (e : EndState) → IsCertain s e → Leads id e (act.KeepLost (Expect s.expected) ∷ []) (IsInDoubt s)
 expect_lost_leads id s e h =
     let left : EndState = record e { doubt = Some (Expect s.expected); connection = None } in
     leads_lost id e left (act.KeepLost (Expect s.expected)) (Expect s.expected) (IsInDoubt s) (record { certain = h.doubt; row = steps.lost_expect s.expected (sym h.numbers.expected) }) refl
     (record { numbers = record { expected = h.numbers.expected; stored = h.numbers.stored; out = h.numbers.out }; record_lost = Expect s.expected; doubt = refl; is = lawful.number; closed = refl })
 
 -- or kept
-expect_kept_leads : (id : Identity) (s : State) (e : EndState) (P : EndState → Type 0) → IsSettled s e → P (keeping e s.expected) → Leads id e (act.Kept (Expect s.expected) ∷ []) P
+expect_kept_leads : (id : Identity) (s : State) (e : EndState) (P : EndState → Type 0) → IsCertain s e → P (keeping e s.expected) → Leads id e (act.Kept (Expect s.expected) ∷ []) P
 expect_kept_leads id s e P h holds =
     leads_step id e (keeping e s.expected) (act.Kept (Expect s.expected)) [] P (record { certain = h.doubt; row = steps.kept_expect s.expected (sym h.numbers.expected) }) (λ held k. k) (leads_nowhere id (keeping e s.expected) P holds)
 
@@ -101,20 +97,20 @@ kept_leads id l notes r to (turn.kept h) e f =
     let next = live (with_kept l.state) l.ahead in
     expect_kept_leads id l.state e (Fits id next) f.on.settled (record { connection = f.connection; on = on_kept id l.state l.ahead f.connection e f.on; counted = f.counted })
 kept_leads id l notes r to (turn.expect_lost h) e f = expect_lost_leads id l.state e f.on.settled
-kept_leads id l notes r to (turn.expect_memory h) e f = leads_nowhere id e (IsSettled l.state) f.on.settled
+kept_leads id l notes r to (turn.expect_memory h) e f = leads_nowhere id e (IsCertain l.state) f.on.settled
 
 abbrev Settled : Live → EndState → Type 0
-Settled l e = IsSettled l.state e
+Settled l e = IsCertain l.state e
 
 -- and behind one
 kept_behind : (id : Identity) → Triple id state_of Settled KeptExpected Settled
 kept_behind id l notes r to (turn.same h) e f = leads_nowhere id e (Settled l) f
-kept_behind id l notes r to (turn.kept h) e f = expect_kept_leads id l.state e (IsSettled (with_kept l.state)) f (settled_kept l.state e f)
+kept_behind id l notes r to (turn.kept h) e f = expect_kept_leads id l.state e (IsCertain (with_kept l.state)) f (settled_kept l.state e f)
 kept_behind id l notes r to (turn.expect_lost h) e f = expect_lost_leads id l.state e f
-kept_behind id l notes r to (turn.expect_memory h) e f = leads_nowhere id e (IsSettled l.state) f
+kept_behind id l notes r to (turn.expect_memory h) e f = leads_nowhere id e (IsCertain l.state) f
 
 -- behind a part that the expected number is kept behind, nothing is in doubt
-settles_settled : (end : Ending) (s : State) (e : EndState) → settles_of (Err end) ≡ true → BehindEnd end s e → IsSettled s e
+settles_settled : (end : Ending) (s : State) (e : EndState) → settles_of (Err end) ≡ true → BehindEnd end s e → IsCertain s e
 settles_settled (ending.Closed why) s e t h = h
 settles_settled (ending.NotBuilt n) s e t h = h
 settles_settled ending.LinkFault s e t h = h
@@ -123,7 +119,7 @@ settles_settled ending.NumbersSpent s e t h = h
 settles_settled ending.OutOfMemory s e t h = h
 settles_settled ending.StoreFault s e t h = cc
 
-settled_settles : (end : Ending) (s : State) (e : EndState) → settles_of (Err end) ≡ true → IsSettled s e → BehindEnd end s e
+settled_settles : (end : Ending) (s : State) (e : EndState) → settles_of (Err end) ≡ true → IsCertain s e → BehindEnd end s e
 settled_settles (ending.Closed why) s e t h = h
 settled_settles (ending.NotBuilt n) s e t h = h
 settled_settles ending.LinkFault s e t h = h
@@ -132,7 +128,7 @@ settled_settles ending.NumbersSpent s e t h = h
 settled_settles ending.OutOfMemory s e t h = h
 settled_settles ending.StoreFault s e t h = cc
 
-met_settled : (id : Identity) (r : Result ⊤ Ending) (l : Live) (e : EndState) → settles_of r ≡ true → Behind (Fits id l) r l.state e → IsSettled l.state e
+met_settled : (id : Identity) (r : Result ⊤ Ending) (l : Live) (e : EndState) → settles_of r ≡ true → Behind (Fits id l) r l.state e → IsCertain l.state e
 met_settled id (Ok x) l e t h = h.on.settled
 met_settled id (Err end) l e t h = settles_settled end l.state e t h
 
@@ -158,7 +154,7 @@ turns_leads id (u ∷ us) l notes r to (goes {mid = mid} {first = first} {more =
     leads_on id e first more (Fits id mid) (Behind (Fits id to) r to.state) (certain_fits id mid) (turn_leads id l first (Ok tt) mid d e f) (λ m q. turns_leads id us mid more r to k m q)
 
 -- what is cut is certain
-cut_settled : (end : Ending) (s : State) (e : EndState) → is_cut_of end ≡ true → BehindEnd end s e → IsSettled s e
+cut_settled : (end : Ending) (s : State) (e : EndState) → is_cut_of end ≡ true → BehindEnd end s e → IsCertain s e
 cut_settled (ending.Closed why) s e t h = h
 cut_settled (ending.NotBuilt n) s e t h = h
 cut_settled ending.LinkFault s e t h = h
@@ -196,7 +192,7 @@ not_cut_after id ending.StoreFault to e t h = record {
 }
 
 -- the connection is cut
-cut_leads : (id : Identity) (end : Ending) (to : Live) (e : EndState) → is_cut_of end ≡ true → IsSettled to.state e → Leads id e (act.Cut ∷ []) (After id (run_end (Err end)) (down to))
+cut_leads : (id : Identity) (end : Ending) (to : Live) (e : EndState) → is_cut_of end ≡ true → IsCertain to.state e → Leads id e (act.Cut ∷ []) (After id (run_end (Err end)) (down to))
 cut_leads id end to e t h =
     let left : EndState = record e { connection = None } in
     let is_left : HasLeft (down to).state left = record { phase = refl; settled = record { doubt = h.doubt; numbers = record { expected = h.numbers.expected; stored = h.numbers.stored; out = h.numbers.out } }; closed = refl } in
@@ -210,7 +206,7 @@ Ran-lawful id n l notes r to (turn.cut {to = behind} {notes = first} {e = end} h
     (leads_weaker id e (acts_of first) (BehindEnd end behind.state) (Settled behind) (λ m q. cut_settled end behind.state m h q) (turns_leads id (replicate n tt) l first (Err end) behind d e f))
     (λ m q. cut_leads id end behind m h q)
 Ran-lawful id n l notes r to (turn.cut_memory {to = behind} {e = end} h d) e f =
-    leads_weaker id e (acts_of notes) (BehindEnd end behind.state) (IsSettled (down behind).state) (λ m q. settled_phase behind.state m (cut_settled end behind.state m h q)) (turns_leads id (replicate n tt) l notes (Err end) behind d e f)
+    leads_weaker id e (acts_of notes) (BehindEnd end behind.state) (IsCertain (down behind).state) (λ m q. settled_phase behind.state m (cut_settled end behind.state m h q)) (turns_leads id (replicate n tt) l notes (Err end) behind d e f)
 Ran-lawful id n l notes r to (turn.no_cut {to = behind} {e = end} h d) e f =
     leads_weaker id e (acts_of notes) (BehindEnd end behind.state) (After id (run_end (Err end)) (down behind)) (λ m q. not_cut_after id end behind m h q) (turns_leads id (replicate n tt) l notes (Err end) behind d e f)
 

@@ -1,9 +1,9 @@
 -- Each step of an answer is a run of a lawful end.
-use Rattle.std.proofs.Common.{◌≡◌, ◌≢◌, inl, inr, ℕ, suc, ◌+◌, ◌<◌, ◌≤◌, List, [], ◌∷◌, ◌++◌, take, false, Option, Some, None, Result, Ok, Err, refl, sym, ap, ◌∙◌, subst, arith}
+use Rattle.std.proofs.Common.{◌≡◌, inl, inr, ℕ, ◌+◌, ◌<◌, ◌≤◌, List, [], ◌∷◌, ◌++◌, take, false, Some, None, Result, Ok, Err, refl, sym, ◌∙◌, subst, arith}
 use Rattle.std.specs.Prelude.{⊤}
 use Rattle.fix_base.specs.Lists.{Among}
 use Rattle.fix_base.specs.declared.identity.Identity.{Identity}
-use Rattle.fix_base.specs.declared.entry.Record.TheVariants.{Push, Expect}
+use Rattle.fix_base.specs.declared.entry.Record.TheVariants.{Push}
 use Rattle.fix_base.specs.declared.act.Act.TheVariants as act
 use Rattle.fix_base.specs.Fields.{Field}
 use Rattle.fix_base.specs.Message as message
@@ -14,27 +14,27 @@ use Rattle.fix_base.specs.EndStep.{Connection, EndState, WasRead, Grew, MayHand}
 use Rattle.fix_base.specs.Wrote.{Wrote}
 use Rattle.fix_base.specs.Seen.{Note, Did, acts_of}
 use Rattle.fix_base.proofs.ListLemmas.{Among-cons_cases}
-use Rattle.fix_engine.specs.State.{State, Up, Down, Ending, Step, Say, Why, with_phase, with_last, with_expected, counted}
+use Rattle.fix_engine.specs.State.{State, Up, Down, Ending, Step, Say, Why, with_phase, with_last, with_expected}
 use Rattle.fix_engine.specs.declared.state.Ending.TheVariants as ending
 use Rattle.fix_engine.specs.declared.state.Step.TheVariants as do_step
-use Rattle.fix_engine.specs.Fold.{Each, none, ends, goes}
+use Rattle.fix_engine.specs.Fold.{none, ends, goes}
 use Rattle.fix_engine.specs.Answer as answer
 use Rattle.fix_engine.specs.Answer.{Performed, Carried, entry_of}
-use Rattle.fix_engine.specs.Turn.{Live, live}
+use Rattle.fix_engine.specs.Turn.{live}
 use Rattle.fix_engine.specs.Lawful as lawful
-use Rattle.fix_engine.specs.Lawful.{HasNumbers, IsSettled, IsOn, Fits, IsLost, IsInDoubt, Leads}
+use Rattle.fix_engine.specs.Lawful.{HasNumbers, IsCertain, IsOn, Fits, IsLost, IsInDoubt, Leads}
 use Rattle.fix_engine.proofs.LeadsLemmas.{leads_nowhere, leads_step, leads_lost, leads_move, leads_on}
 use Rattle.fix_engine.proofs.ReadLemmas.{has_same}
 use Rattle.fix_engine.proofs.OnLemmas.{pushed, writing, connected, settled_pushed, settled_connected, wrote_all, wrote_some, on_sent, on_state, passed, settled_passed, on_passed, giving, given, on_given, grew_given}
 
 -- behind a part that ends the whole
 abbrev pub BehindEnd : Ending → State → EndState → Type 0
-BehindEnd (ending.Closed why) s e = IsSettled s e
-BehindEnd (ending.NotBuilt n) s e = IsSettled s e
-BehindEnd ending.LinkFault s e = IsSettled s e
-BehindEnd ending.AppFault s e = IsSettled s e
-BehindEnd ending.NumbersSpent s e = IsSettled s e
-BehindEnd ending.OutOfMemory s e = IsSettled s e
+BehindEnd (ending.Closed why) s e = IsCertain s e
+BehindEnd (ending.NotBuilt n) s e = IsCertain s e
+BehindEnd ending.LinkFault s e = IsCertain s e
+BehindEnd ending.AppFault s e = IsCertain s e
+BehindEnd ending.NumbersSpent s e = IsCertain s e
+BehindEnd ending.OutOfMemory s e = IsCertain s e
 BehindEnd ending.StoreFault s e = IsInDoubt s e
 
 -- behind a part: where it goes on the end has Q
@@ -50,8 +50,8 @@ abbrev pub itself : State → State
 itself s = s
 
 -- where P holds nothing is in doubt
-abbrev pub IsCertain : {S : Type 0} → (S → EndState → Type 0) → Type 0
-IsCertain {S} P = (s : S) (e : EndState) → P s e → e.doubt ≡ None
+abbrev pub HasNoDoubt : {S : Type 0} → (S → EndState → Type 0) → Type 0
+HasNoDoubt {S} P = (s : S) (e : EndState) → P s e → e.doubt ≡ None
 
 -- the end is in step, and the administrative message of this number was read and is to be counted
 pub record AdminDue (id : Identity) (b : Ahead) (n : ℕ) (s : State) (e : EndState) : Type 0 where
@@ -81,13 +81,13 @@ pub record AppGiven (id : Identity) (b : Ahead) (n : ℕ) (body : List ℕ) (s :
 abbrev pub In : Identity → Ahead → State → EndState → Type 0
 In id b s e = Fits id (live s b) e
 
-pub certain_in : (id : Identity) (b : Ahead) → IsCertain (In id b)
+pub certain_in : (id : Identity) (b : Ahead) → HasNoDoubt (In id b)
 certain_in id b s e f = f.on.settled.doubt
 
-pub certain_due : (id : Identity) (b : Ahead) (n : ℕ) → IsCertain (AdminDue id b n)
+pub certain_due : (id : Identity) (b : Ahead) (n : ℕ) → HasNoDoubt (AdminDue id b n)
 certain_due id b n s e f = f.on.settled.doubt
 
-pub certain_given : (id : Identity) (b : Ahead) (n : ℕ) (body : List ℕ) → IsCertain (AppGiven id b n body)
+pub certain_given : (id : Identity) (b : Ahead) (n : ℕ) (body : List ℕ) → HasNoDoubt (AppGiven id b n body)
 certain_given id b n body s e f = f.on.settled.doubt
 
 -- ---- the steps
@@ -96,7 +96,7 @@ module _ (id : Identity) (frame : List ℕ) (b : Ahead) where
   pub nowhere : (P : State → EndState → Type 0) → Triple id itself P (λ s. Carried id frame s []) P
   nowhere P s notes r s' none e h = leads_nowhere id e (P s) h
 
-  pub first_of : (P Q R : State → EndState → Type 0) → IsCertain Q → (x : Step) (xs : List Step) → Triple id itself P (λ s. Performed id frame s x) Q → Triple id itself Q (λ s. Carried id frame s xs) R → Triple id itself P (λ s. Carried id frame s (x ∷ xs)) R
+  pub first_of : (P Q R : State → EndState → Type 0) → HasNoDoubt Q → (x : Step) (xs : List Step) → Triple id itself P (λ s. Performed id frame s x) Q → Triple id itself Q (λ s. Carried id frame s xs) R → Triple id itself P (λ s. Carried id frame s (x ∷ xs)) R
   first_of P Q R certain x xs one rest s notes r s' (ends {e = end} d) e h = one s notes (Err end) s' d e h
   first_of P Q R certain x xs one rest s notes r s' (goes {mid = mid} {first = first} {more = more} d k) e h =
       leads_on id e first more (Q mid) (Behind (R s') r s') (certain mid) (one s first (Ok tt) mid d e h) (λ m q. rest mid more r s' k m q)
@@ -107,12 +107,12 @@ module _ (id : Identity) (frame : List ℕ) (b : Ahead) where
   pub close_leads : (why : Why) (Q : State → EndState → Type 0) → Triple id itself (In id b) (λ s. Performed id frame s (do_step.Close why)) Q
   close_leads why Q s notes r s' (answer.close w) e f =
       let h = f.on.settled in
-      leads_nowhere id e (IsSettled (with_phase s Down)) (record { doubt = h.doubt; numbers = record { expected = h.numbers.expected; stored = h.numbers.stored; out = h.numbers.out } })
+      leads_nowhere id e (IsCertain (with_phase s Down)) (record { doubt = h.doubt; numbers = record { expected = h.numbers.expected; stored = h.numbers.stored; out = h.numbers.out } })
 
   pub give_up_leads : (n : ℕ) (Q : State → EndState → Type 0) → Triple id itself (In id b) (λ s. Performed id frame s (do_step.GiveUp n)) Q
   give_up_leads n Q s notes r s' (answer.give_up m) e f =
       let h = f.on.settled in
-      leads_nowhere id e (IsSettled (with_phase s Down)) (record { doubt = h.doubt; numbers = record { expected = h.numbers.expected; stored = h.numbers.stored; out = h.numbers.out } })
+      leads_nowhere id e (IsCertain (with_phase s Down)) (record { doubt = h.doubt; numbers = record { expected = h.numbers.expected; stored = h.numbers.stored; out = h.numbers.out } })
 
   pub go_up_leads : (n : ℕ) → Triple id itself (AdminDue id b n) (λ s. Performed id frame s do_step.GoUp) (AdminDue id b n)
   go_up_leads n s notes r s' answer.go_up e f =
@@ -161,12 +161,12 @@ module _ (id : Identity) (frame : List ℕ) (b : Ahead) where
       let may : MayHand e c n false body = may_hand n body s e f in
       let left : EndState = record e { connection = None } in
       let h = f.on.settled in
-      let l : Leads id e (act.HandLost n false body ∷ []) (IsSettled s) = leads_step id e left (act.HandLost n false body) [] (IsSettled s) (record { certain = h.doubt; row = steps.hand_lost c n false body may }) (λ held h. h) (leads_nowhere id left (IsSettled s) (record { doubt = h.doubt; numbers = record { expected = h.numbers.expected; stored = h.numbers.stored; out = h.numbers.out } })) in
-      subst (λ (gs : List Field). Leads id e (act.HandLost n false (body_of gs) ∷ []) (IsSettled s)) (sym same) l
-  hand_leads n fs has s notes r s' (answer.hand_memory k marked) e f = leads_nowhere id e (IsSettled s) f.on.settled
+      let l : Leads id e (act.HandLost n false body ∷ []) (IsCertain s) = leads_step id e left (act.HandLost n false body) [] (IsCertain s) (record { certain = h.doubt; row = steps.hand_lost c n false body may }) (λ held h. h) (leads_nowhere id left (IsCertain s) (record { doubt = h.doubt; numbers = record { expected = h.numbers.expected; stored = h.numbers.stored; out = h.numbers.out } })) in
+      subst (λ (gs : List Field). Leads id e (act.HandLost n false (body_of gs) ∷ []) (IsCertain s)) (sym same) l
+  hand_leads n fs has s notes r s' (answer.hand_memory k marked) e f = leads_nowhere id e (IsCertain s) f.on.settled
 
   -- a record is lost
-  pub push_lost : (s : State) (say : Say) (e : EndState) → IsSettled s e → Leads id e (act.KeepLost (Push (entry_of s say)) ∷ []) (IsInDoubt s)
+  pub push_lost : (s : State) (say : Say) (e : EndState) → IsCertain s e → Leads id e (act.KeepLost (Push (entry_of s say)) ∷ []) (IsInDoubt s)
   push_lost s say e h =
       let entry = entry_of s say in
       let left : EndState = record e { doubt = Some (Push entry); connection = None } in
@@ -186,17 +186,17 @@ module _ (id : Identity) (frame : List ℕ) (b : Ahead) where
   push_wrote s a c say e w P h wrote l = push_kept s a c say e (Did (act.Wrote w) ∷ []) P h (then_wrote s a c say e w P h wrote l)
 
   -- an entry is kept, and memory is refused
-  push_alone : (s : State) (a : Ahead) (c : Connection) (say : Say) (e : EndState) → IsOn id (live s a) c e → Leads id e (act.Kept (Push (entry_of s say)) ∷ []) (IsSettled (with_last s (s.last + 1)))
+  push_alone : (s : State) (a : Ahead) (c : Connection) (say : Say) (e : EndState) → IsOn id (live s a) c e → Leads id e (act.Kept (Push (entry_of s say)) ∷ []) (IsCertain (with_last s (s.last + 1)))
   push_alone s a c say e h =
-      push_kept s a c say e [] (IsSettled (with_last s (s.last + 1))) h (leads_nowhere id (pushed e (entry_of s say)) (IsSettled (with_last s (s.last + 1))) (settled_pushed s e (entry_of s say) h.settled))
+      push_kept s a c say e [] (IsCertain (with_last s (s.last + 1))) h (leads_nowhere id (pushed e (entry_of s say)) (IsCertain (with_last s (s.last + 1))) (settled_pushed s e (entry_of s say) h.settled))
 
-  settled_sent : (s : State) (a : Ahead) (c : Connection) (say : Say) (e : EndState) (w : List ℕ) → IsOn id (live s a) c e → IsSettled (with_last s (s.last + 1)) (connected (pushed e (entry_of s say)) (writing c w))
+  settled_sent : (s : State) (a : Ahead) (c : Connection) (say : Say) (e : EndState) (w : List ℕ) → IsOn id (live s a) c e → IsCertain (with_last s (s.last + 1)) (connected (pushed e (entry_of s say)) (writing c w))
   settled_sent s a c say e w h = settled_connected (with_last s (s.last + 1)) (pushed e (entry_of s say)) (writing c w) (settled_pushed s e (entry_of s say) h.settled)
 
   -- a message is answered by another
   pub answer_leads : (say : Say) (n : ℕ) → Triple id itself (AdminDue id b n) (λ s. Performed id frame s (do_step.Send say (Some n))) (AdminDue id b n)
-  answer_leads say n s notes r s' (answer.spent w m h) e f = leads_nowhere id e (IsSettled s) f.on.settled
-  answer_leads say n s notes r s' (answer.keep_memory w m h) e f = leads_nowhere id e (IsSettled s) f.on.settled
+  answer_leads say n s notes r s' (answer.spent w m h) e f = leads_nowhere id e (IsCertain s) f.on.settled
+  answer_leads say n s notes r s' (answer.keep_memory w m h) e f = leads_nowhere id e (IsCertain s) f.on.settled
   answer_leads say n s notes r s' (answer.keep_lost w m h) e f = push_lost s say e f.on.settled
   answer_leads say n s notes r s' (answer.sent w m text small said) e f =
       let c = f.connection in
@@ -214,15 +214,15 @@ module _ (id : Identity) (frame : List ℕ) (b : Ahead) where
       let at : n ≡ e.expected = f.due ∙ sym f.on.settled.numbers.expected in
       let end = with_expected (with_last s (s.last + 1)) (n + 1) in
       let read : WasRead (writing c (take many text)) (message.Admin n) = record { messages = f.read.messages; shows = f.read.shows; among = f.read.among } in
-      push_wrote s b c say e (take many text) (IsSettled end) f.on (wrote_some id s b c e say text many small said f.on)
-      (leads_move id to (passed to) [] (IsSettled end) (steps.past_admin (writing c (take many text)) (message.Admin n) refl read at) refl
-      (leads_nowhere id (passed to) (IsSettled end) (settled_passed (with_last s (s.last + 1)) to n f.due (settled_sent s b c say e (take many text) f.on))))
+      push_wrote s b c say e (take many text) (IsCertain end) f.on (wrote_some id s b c e say text many small said f.on)
+      (leads_move id to (passed to) [] (IsCertain end) (steps.past_admin (writing c (take many text)) (message.Admin n) refl read at) refl
+      (leads_nowhere id (passed to) (IsCertain end) (settled_passed (with_last s (s.last + 1)) to n f.due (settled_sent s b c say e (take many text) f.on))))
   answer_leads say n s notes r s' (answer.write_memory w m small) e f = push_alone s b f.connection say e f.on
 
   -- a message is sent
   pub send_leads : (say : Say) → Triple id itself (In id b) (λ s. Performed id frame s (do_step.Send say None)) (In id b)
-  send_leads say s notes r s' (answer.spent w m h) e f = leads_nowhere id e (IsSettled s) f.on.settled
-  send_leads say s notes r s' (answer.keep_memory w m h) e f = leads_nowhere id e (IsSettled s) f.on.settled
+  send_leads say s notes r s' (answer.spent w m h) e f = leads_nowhere id e (IsCertain s) f.on.settled
+  send_leads say s notes r s' (answer.keep_memory w m h) e f = leads_nowhere id e (IsCertain s) f.on.settled
   send_leads say s notes r s' (answer.keep_lost w m h) e f = push_lost s say e f.on.settled
   send_leads say s notes r s' (answer.sent w m text small said) e f =
       let c = f.connection in
@@ -231,6 +231,6 @@ module _ (id : Identity) (frame : List ℕ) (b : Ahead) where
   send_leads say s notes r s' (answer.write_lost w m text many small said) e f =
       let c = f.connection in
       let to = connected (pushed e (entry_of s say)) (writing c (take many text)) in
-      push_wrote s b c say e (take many text) (IsSettled (with_last s (s.last + 1))) f.on (wrote_some id s b c e say text many small said f.on)
-      (leads_nowhere id to (IsSettled (with_last s (s.last + 1))) (settled_sent s b c say e (take many text) f.on))
+      push_wrote s b c say e (take many text) (IsCertain (with_last s (s.last + 1))) f.on (wrote_some id s b c e say text many small said f.on)
+      (leads_nowhere id to (IsCertain (with_last s (s.last + 1))) (settled_sent s b c say e (take many text) f.on))
   send_leads say s notes r s' (answer.write_memory w m small) e f = push_alone s b f.connection say e f.on

@@ -19,7 +19,8 @@ pub mod EachFrame
 pub mod Settled
 pub mod Turns
 pub mod Prefix
-pub mod OneConnection
+pub mod RunActs
+pub mod WritingLemmas
 pub mod InStepLemmas
 pub mod LookBackLemmas
 pub mod Shown

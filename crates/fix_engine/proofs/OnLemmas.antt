@@ -1,25 +1,22 @@
 -- How an end stays in step with a session on its connection.
-use Rattle.std.proofs.Common.{◌≡◌, ◌≢◌, inl, inr, ℕ, suc, ◌+◌, ◌<◌, ◌≤◌, List, [], ◌∷◌, ◌++◌, length, length-append, take, drop, false, Some, None, refl, sym, ap, ◌∙◌, subst, append_assoc, lit<, arith}
-use Rattle.std.specs.List.{AllByRecursion}
-use Rattle.std.specs.Fmt.{decimal}
-use Rattle.std.proofs.lemmas.List.{append-nil, take-append-drop, drop-append-le}
-use Rattle.fix_base.specs.Lists.{Among, here, there, IsPrefixOf}
+use Rattle.std.proofs.Common.{◌≡◌, ◌≢◌, inl, inr, ℕ, ◌+◌, ◌<◌, List, [], ◌∷◌, ◌++◌, length-append, take, drop, false, Some, refl, sym, ap, ◌∙◌, subst, arith}
+use Rattle.std.proofs.lemmas.List.{take-append-drop, drop-append-le}
+use Rattle.fix_base.specs.Lists.{Among, here, IsPrefixOf}
 use Rattle.fix_base.specs.declared.identity.Identity.{Identity}
 use Rattle.fix_base.specs.declared.entry.Entry.{Entry}
 use Rattle.fix_base.specs.declared.entry.Entry.TheVariants.{Admin}
 use Rattle.fix_base.specs.declared.entry.Record.TheVariants.{Push, Expect}
 use Rattle.fix_base.specs.Stream.{Ahead}
-use Rattle.fix_base.specs.End.{End, folded, IsEntry}
-use Rattle.fix_base.specs.Payload.{IsEntryField}
+use Rattle.fix_base.specs.End.{folded, IsEntry}
 use Rattle.fix_base.specs.Wrote as wrote
 use Rattle.fix_base.specs.Wrote.{Carries, IsOriginal, Writes, Wrote, WroteWhole}
 use Rattle.fix_base.specs.EndStep.{Handling, Connection, EndState, Grew}
 use Rattle.fix_base.proofs.ListLemmas.{Among-append_right, prefix_refl, prefix_append, prefix_under}
 use Rattle.fix_base.proofs.WholeLemmas.{whole_grown, whole_more, whole_wrote, front_wrote}
-use Rattle.fix_engine.specs.State.{State, Down, Say, Logon, Logout, with_expected, with_last, with_kept, with_reading, with_phase}
+use Rattle.fix_engine.specs.State.{State, Down, Say, Logon, Logout, with_expected, with_last, with_kept}
 use Rattle.fix_engine.specs.Answer.{kind_of, fields_of, IsSaid, entry_of}
 use Rattle.fix_engine.specs.Turn.{Live, live, fed}
-use Rattle.fix_engine.specs.Lawful.{HasNumbers, IsSettled, IsReadUpTo, IsOn, Fits}
+use Rattle.fix_engine.specs.Lawful.{IsCertain, IsReadUpTo, IsOn}
 use Rattle.fix_engine.proofs.ReadLemmas.{read_more}
 
 -- ---- the original of what is said
@@ -54,14 +51,14 @@ writing c text = record c { written = c.written ++ text }
 abbrev pub connected : EndState → Connection → EndState
 connected e c = record e { connection = Some c }
 
-pub settled_pushed : (s : State) (e : EndState) (entry : Entry) → IsSettled s e → IsSettled (with_last s (s.last + 1)) (pushed e entry)
+pub settled_pushed : (s : State) (e : EndState) (entry : Entry) → IsCertain s e → IsCertain (with_last s (s.last + 1)) (pushed e entry)
 settled_pushed s e entry h = record {
   doubt = h.doubt;
   numbers = record { expected = h.numbers.expected; stored = h.numbers.stored; out = omega (arith, h.numbers.out, length-append e.end.out (entry ∷ [])) };
 }
 
 -- the connection makes no difference to the numbers
-pub settled_connected : (s : State) (e : EndState) (c : Connection) → IsSettled s e → IsSettled s (connected e c)
+pub settled_connected : (s : State) (e : EndState) (c : Connection) → IsCertain s e → IsCertain s (connected e c)
 settled_connected s e c h = record { doubt = h.doubt; numbers = record { expected = h.numbers.expected; stored = h.numbers.stored; out = h.numbers.out } }
 
 whole_pushed : (id : Identity) (l : Live) (c : Connection) (e : EndState) (entry : Entry) (h : IsOn id l c e) → WroteWhole id c.opened (pushed e entry).end h.last c.written
@@ -117,7 +114,7 @@ on_state id s s' a c e phase expected kept last h = record {
 abbrev pub passed : EndState → EndState
 passed e = record e { expected = e.expected + 1 }
 
-pub settled_passed : (s : State) (e : EndState) (n : ℕ) → n ≡ s.expected → IsSettled s e → IsSettled (with_expected s (n + 1)) (passed e)
+pub settled_passed : (s : State) (e : EndState) (n : ℕ) → n ≡ s.expected → IsCertain s e → IsCertain (with_expected s (n + 1)) (passed e)
 settled_passed s e n due h = record { doubt = h.doubt; numbers = record { expected = ap (λ k. k + 1) (h.numbers.expected ∙ sym due); stored = h.numbers.stored; out = h.numbers.out } }
 
 pub on_passed : (id : Identity) (s : State) (a : Ahead) (c : Connection) (e : EndState) (n : ℕ) → n ≡ s.expected → IsOn id (live s a) c e → IsOn id (live (with_expected s (n + 1)) a) c (passed e)
@@ -196,7 +193,7 @@ on_place id s a b c e read h = record {
 abbrev pub keeping : EndState → ℕ → EndState
 keeping e n = record e { end = folded e.end (Expect n) }
 
-pub settled_kept : (s : State) (e : EndState) → IsSettled s e → IsSettled (with_kept s) (keeping e s.expected)
+pub settled_kept : (s : State) (e : EndState) → IsCertain s e → IsCertain (with_kept s) (keeping e s.expected)
 settled_kept s e h = record { doubt = h.doubt; numbers = record { expected = h.numbers.expected; stored = refl; out = h.numbers.out } }
 
 pub on_kept : (id : Identity) (s : State) (a : Ahead) (c : Connection) (e : EndState) → IsOn id (live s a) c e → IsOn id (live (with_kept s) a) c (keeping e s.expected)

@@ -1,13 +1,13 @@
 -- A session is Down behind every end of a run but one: where all turns were made, it goes on.
-use Rattle.std.proofs.Common.{◌≡◌, ◌≢◌, ℕ, List, ◌++◌, Result, Ok, Err, refl}
+use Rattle.std.proofs.Common.{◌≢◌, ℕ, List, Result, Ok, Err, refl}
 use Rattle.std.specs.Prelude.{⊤}
 use Rattle.fix_base.specs.declared.identity.Identity.{Identity}
 use Rattle.fix_base.specs.Seen.{Note}
-use Rattle.fix_engine.specs.State.{State, Phase, Down, Up, Ending, Step}
+use Rattle.fix_engine.specs.State.{State, Phase, Down, Ending, Step}
 use Rattle.fix_engine.specs.declared.state.Ending.TheVariants as ending
 use Rattle.fix_engine.specs.Fold.{Each, none, ends, goes, AndThen, first_ends, both}
 use Rattle.fix_engine.specs.Answer.{Performed, nothing, count, go_up, close, give_up, taken, hand_lost, hand_memory, spent, keep_memory, keep_lost, sent, write_lost, write_memory}
-use Rattle.fix_engine.specs.Turn.{Live, Taken, no_more, ends as ends_at, goes as goes_on, Fed, fed_frames, fed_memory, Heard, bytes, idle, over, read_lost, read_memory, Clocked, now, now_memory, KeptExpected, same, kept, expect_lost, expect_memory, Turn, stops, keeps, keeps_not, Ran, all_turns, cut, cut_memory, no_cut}
+use Rattle.fix_engine.specs.Turn.{Live, Taken, no_more, ends as ends_at, goes as goes_on, fed_frames, fed_memory, Heard, bytes, idle, over, read_lost, read_memory, Clocked, now, now_memory, KeptExpected, same, kept, expect_lost, expect_memory, Turn, stops, keeps, keeps_not, Ran, all_turns, cut, cut_memory, no_cut}
 use Rattle.fix_engine.specs.Run.{run_end, IsDownUnlessSpent}
 
 -- where it goes on, an open connection stays open

@@ -3,7 +3,7 @@ use Rattle.std.proofs.Common.{◌≡◌, ℕ, codes, bytes_eq, List, [], ◌∷�
 use Rattle.fix_base.specs.Lists.{Among, here}
 use Rattle.fix_base.specs.Fields.{Field, FieldsAfter}
 use Rattle.fix_base.specs.Shape.{Parts}
-use Rattle.fix_base.specs.Stream.{Ahead, Item, Frame, TakesAll, frames}
+use Rattle.fix_base.specs.Stream.{Ahead, Frame, TakesAll, frames}
 use Rattle.fix_base.specs.Message as message
 use Rattle.fix_base.specs.Message.{Message}
 use Rattle.fix_base.specs.Says as says

@@ -1,18 +1,17 @@
 -- The messages that a session writes are lists of fields, and short.
-use Rattle.std.proofs.Common.{◌≡◌, ◌≢◌, ℕ, zero, suc, ◌+◌, ◌*◌, ◌<◌, ◌≤◌, ◌^◌, codes, List, [], ◌∷◌, ◌++◌, length, get_or, refl, sym, ap, subst, ◌∙◌, append_assoc, length-append, lit<, lit≤, arith}
+use Rattle.std.proofs.Common.{◌≡◌, ◌≢◌, ℕ, zero, suc, ◌+◌, ◌<◌, ◌≤◌, ◌^◌, List, [], ◌∷◌, ◌++◌, length, refl, sym, ap, ◌∙◌, append_assoc, length-append, lit<, lit≤, arith}
 use Rattle.std.specs.List.{AllByRecursion}
 use Rattle.std.specs.Fmt.{decimal}
 use Rattle.std.proofs.lemmas.Fmt.{digits_decimal, length-decimal-le}
-use Rattle.std.proofs.lemmas.List.{append-nil}
 use Rattle.fix_base.specs.declared.identity.Identity.{Identity}
 use Rattle.fix_base.specs.Session.{IsValidIdentity}
 use Rattle.fix_base.specs.Frame.{HasNoSoh}
-use Rattle.fix_base.specs.Fields.{Field, FieldsAfter}
+use Rattle.fix_base.specs.Fields.{Field}
 use Rattle.fix_base.specs.Sealed.{sealed}
 use Rattle.fix_base.specs.Says.{field_text, fields_text}
 use Rattle.fix_base.specs.Payload.{field}
 use Rattle.fix_base.specs.Times.{IsTimeTextOf, two_digits, four_digits, fraction_text, moment_text}
-use Rattle.fix_base.specs.Wrote.{original_fields, IsSealed}
+use Rattle.fix_base.specs.Wrote.{original_fields}
 use Rattle.fix_base.proofs.Digits.{numerals, digits_no_soh}
 use Rattle.fix_base.proofs.PlainFields.{IsPlainField, plain_fields}
 use Rattle.fix_base.proofs.ShortFields.{comp_id_clear, comp_id_short, IsShortField, short_fields}

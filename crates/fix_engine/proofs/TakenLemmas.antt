@@ -1,11 +1,10 @@
 -- The frames that are taken from the bytes, one after another.
-use Rattle.std.proofs.Common.{◌≡◌, ℕ, ◌<◌, ◌≤◌, List, [], ◌∷◌, ◌++◌, length, Result, Ok, Err, refl, sym, subst, ap, arith}
-use Rattle.std.specs.Prelude.{⊤}
+use Rattle.std.proofs.Common.{ℕ, ◌<◌, ◌≤◌, List, [], ◌∷◌, length, Ok, Err, subst, ap, arith}
 use Rattle.std.proofs.lemmas.List.{length-append}
 use Rattle.fix_base.specs.declared.identity.Identity.{Identity}
 use Rattle.fix_base.specs.Shape.{IsFrame}
 use Rattle.fix_base.specs.Stream.{Ahead, Item, TakesAll, text_of}
-use Rattle.fix_base.specs.Seen.{Note, Seen, Moves, Goes}
+use Rattle.fix_base.specs.Seen.{Seen, Goes}
 use Rattle.fix_base.proofs.SeenLemmas.{Moves-nil}
 use Rattle.fix_frame.specs.Given.{GivesFrame, GivesNone}
 use Rattle.fix_engine.specs.State.{State, Ending}

@@ -1,5 +1,5 @@
 -- The answer of a session to an inbound message, and what each step of it comes to.
-use Rattle.std.specs.Prelude.{◌≡◌, ◌<◌, ◌≤◌, ◌+◌, ◌^◌, ◌∷◌, ◌++◌, ◌&&◌, ◌||◌, ◌==◌, not, ℕ, List, [], length, take, Bool, true, false, if◌then◌else◌, bytes_eq, codes, Option, Some, None, is_none, Result, Ok, Err, ⊤, ℤ, pos, ◌+ℤ◌, int_le}
+use Rattle.std.specs.Prelude.{◌<◌, ◌≤◌, ◌+◌, ◌^◌, ◌∷◌, ◌&&◌, ◌||◌, ◌==◌, not, ℕ, List, [], take, Bool, false, if◌then◌else◌, bytes_eq, codes, Option, Some, None, is_none, Result, Ok, Err, ⊤, ℤ, pos, ◌+ℤ◌, int_le}
 use Rattle.std.specs.Fmt.{decimal}
 use Rattle.fix_base.specs.declared.identity.Identity.{Identity}
 use Rattle.fix_base.specs.Session.{begin_string_of}

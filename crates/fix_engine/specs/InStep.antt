@@ -1,8 +1,10 @@
 -- A session is in step with what is outside of it, from its first call on, and keeps up with its counterparty.
-use Rattle.std.specs.Prelude.{◌≡◌, ℕ, List, ◌∷◌, ◌++◌, IfSome}
+use Rattle.std.specs.Prelude.{◌≡◌, ℕ, List, [], ◌∷◌, ◌++◌, IfSome}
 use Rattle.fix_base.specs.Lists.{IsPrefixOf}
 use Rattle.fix_base.specs.declared.identity.Identity.{Identity}
 use Rattle.fix_base.specs.Session.{mirrored}
+use Rattle.fix_base.specs.declared.entry.Record.{Record}
+use Rattle.fix_base.specs.declared.entry.Record.TheVariants.{Push, Expect, Reset}
 use Rattle.fix_base.specs.declared.act.Act.{Act}
 use Rattle.fix_base.specs.declared.act.Act.TheVariants as act
 use Rattle.fix_base.specs.End.{End}
@@ -10,18 +12,18 @@ use Rattle.fix_base.specs.Payload.{IsPersistent}
 use Rattle.fix_base.specs.Wrote.{Wrote}
 use Rattle.fix_base.specs.EndStep.{EndState, EndStep, EndRun}
 use Rattle.fix_base.specs.Agrees.{Agrees}
-use Rattle.fix_base.specs.Reader.{bytes_read, AreOfOneConnection, ReaderKeepsUp}
+use Rattle.fix_base.specs.Reader.{bytes_read, ReaderKeepsUp}
 use Rattle.fix_base.specs.Seen.{Seen}
 use Rattle.fix_engine.specs.State.{Down}
 use Rattle.fix_engine.specs.Turn.{Live}
 use Rattle.fix_engine.specs.declared.stop.RunEnd.{RunEnd}
 use Rattle.fix_engine.specs.Run.{Seat}
-use Rattle.fix_engine.specs.Lawful.{IsSettled, Fits, After}
+use Rattle.fix_engine.specs.Lawful.{IsCertain, Fits, After}
 
 -- the end is in step with a session: on a connection, or between two of them
 pub data IsBeside (id : Identity) (l : Live) (e : EndState) : Type 0 where
   connected : Fits id l e → IsBeside id l e
-  down : l.state.phase ≡ Down → IsSettled l.state e → IsBeside id l e
+  down : l.state.phase ≡ Down → IsCertain l.state e → IsBeside id l e
 
 -- where the tape is told it is these acts
 abbrev pub IsTape : Seen → List Act → Type 0
@@ -42,12 +44,37 @@ pub record IsInStep (start : EndState) (before : List Act) (w : Seen) (seat : Se
   pub tape : IsTape w (before ++ acts)
   pub stored : IsStored w to.end
 
+-- no record of a reset
+abbrev pub IsNoReset : Record → Type 0
+IsNoReset (Push e) = Unit {0}
+IsNoReset (Expect n) = Unit {0}
+IsNoReset (Reset t) = ⊥
+
+-- an act of a run: no connection is opened, no store is reset, and the process goes on
+abbrev pub IsOfRun : Act → Type 0
+IsOfRun act.Opened = ⊥
+IsOfRun (act.Now t) = Unit {0}
+IsOfRun (act.Read b) = Unit {0}
+IsOfRun act.Idle = Unit {0}
+IsOfRun act.Ended = Unit {0}
+IsOfRun (act.Wrote b) = Unit {0}
+IsOfRun (act.Kept r) = IsNoReset r
+IsOfRun (act.KeepLost r) = IsNoReset r
+IsOfRun (act.Handed n marked body) = Unit {0}
+IsOfRun (act.HandLost n marked body) = Unit {0}
+IsOfRun act.Cut = Unit {0}
+IsOfRun act.Stop = ⊥
+
+abbrev pub AreOfRun : List Act → Type 0
+AreOfRun [] = Unit {0}
+AreOfRun (x ∷ acts) = IsOfRun x × AreOfRun acts
+
 -- the same from the opening of the connection on, which is open still
 pub record IsConnected (start : EndState) (before : List Act) (w : Seen) (seat : Seat) : Type 0 where
   pub opened : EndState
   pub opens : EndStep seat.identity start act.Opened opened
   pub acts : List Act
-  pub one : AreOfOneConnection acts
+  pub ran : AreOfRun acts
   pub to : EndState
   pub run : EndRun seat.identity opened acts to
   pub fits : Fits seat.identity seat.live to
@@ -64,11 +91,28 @@ pub record ReadsFrom (id : Identity) (start : EndState) (acts : List Act) (f0 f1
   pub stored : Agrees start.end.stored start.handled f0.out
   pub running : Agrees start.expected start.handled f0.out
 
--- these acts on a connection led to an end behind this answer that keeps up with its counterparty: what was handed
--- over, each number once, are the first messages that the counterparty stored, and each message that the counterparty
--- had before the connection came marked
-pub record KeepsUpBehind (id : Identity) (answer : RunEnd) (live : Live) (opened : EndState) (acts : List Act) (f0 f1 : End) : Type 0 where
+-- all that these acts wrote
+abbrev pub bytes_written : List Act → List ℕ
+bytes_written [] = []
+bytes_written (act.Wrote b ∷ acts) = b ++ bytes_written acts
+bytes_written (act.Read b ∷ acts) = bytes_written acts
+bytes_written (act.Opened ∷ acts) = bytes_written acts
+bytes_written (act.Now t ∷ acts) = bytes_written acts
+bytes_written (act.Idle ∷ acts) = bytes_written acts
+bytes_written (act.Ended ∷ acts) = bytes_written acts
+bytes_written (act.Kept r ∷ acts) = bytes_written acts
+bytes_written (act.KeepLost r ∷ acts) = bytes_written acts
+bytes_written (act.Handed n marked body ∷ acts) = bytes_written acts
+bytes_written (act.HandLost n marked body ∷ acts) = bytes_written acts
+bytes_written (act.Cut ∷ acts) = bytes_written acts
+bytes_written (act.Stop ∷ acts) = bytes_written acts
+
+-- these acts on a connection led to an end behind this answer. What they wrote may be written between the opening and
+-- now, and the end keeps up with its counterparty: what was handed over, each number once, are the first messages that
+-- the counterparty stored, and each message that the counterparty had before the connection came marked
+pub record HasServed (id : Identity) (answer : RunEnd) (live : Live) (start opened : EndState) (acts : List Act) : Type 0 where
   pub to : EndState
   pub run : EndRun id opened acts to
   pub behind : After id answer live to
-  pub keeps_up : ReaderKeepsUp f0 f1 acts to
+  pub wrote : Wrote id start.end to.end (bytes_written acts)
+  pub keeps_up : (f0 f1 : End) → ReadsFrom id start acts f0 f1 → ReaderKeepsUp f0 f1 acts to

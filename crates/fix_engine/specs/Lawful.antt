@@ -28,7 +28,7 @@ pub record HasNumbers (s : State) (e : EndState) : Type 0 where
   pub out : length e.end.out ≡ s.last
 
 -- the same, and no record is in doubt
-pub record IsSettled (s : State) (e : EndState) : Type 0 where
+pub record IsCertain (s : State) (e : EndState) : Type 0 where
   pub doubt : e.doubt ≡ None
   pub numbers : HasNumbers s e
 
@@ -43,7 +43,7 @@ pub record IsReadUpTo (bytes : List ℕ) (place : Ahead) : Type 0 where
 -- at, and what was written on it is whole messages, the last original of which is that of an entry
 pub record IsOn (id : Identity) (l : Live) (c : Connection) (e : EndState) : Type 0 where
   pub phase : l.state.phase ≢ Down
-  pub settled : IsSettled l.state e
+  pub settled : IsCertain l.state e
   pub is_open : e.connection ≡ Some c
   pub read : IsReadUpTo c.read l.ahead
   pub last : ℕ
@@ -60,7 +60,7 @@ pub record Fits (id : Identity) (l : Live) (e : EndState) : Type 0 where
 -- the end is in step with a session that left its connection
 pub record HasLeft (s : State) (e : EndState) : Type 0 where
   pub phase : s.phase ≡ Down
-  pub settled : IsSettled s e
+  pub settled : IsCertain s e
   pub closed : e.connection ≡ None
 
 -- the record that a session lost: an entry, or the expected number
@@ -93,7 +93,7 @@ After id run.LinkFault to e = HasLeft to.state e
 After id run.AppFault to e = HasLeft to.state e
 After id run.NumbersSpent to e = HasLeft to.state e
 After id run.StoreFault to e = IsInDoubt to.state e
-After id run.OutOfMemory to e = IsSettled to.state e
+After id run.OutOfMemory to e = IsCertain to.state e
 After id (run.Stopped cause) to e = ⊥
 
 -- whatever end is in step with a session before its turns, the acts of these are a run of it
@@ -103,9 +103,9 @@ IsLawful id l answer to notes = (e : EndState) → Fits id l e → Leads id e (a
 -- the end behind the opening of a connection
 abbrev pub AfterBegin : {T : Type 0} → Identity → Result T BeginFault → Live → EndState → Type 0
 AfterBegin id (Ok x) to e = Fits id to e
-AfterBegin id (Err begins.OutOfMemory) to e = IsSettled to.state e
+AfterBegin id (Err begins.OutOfMemory) to e = IsCertain to.state e
 AfterBegin id (Err (begins.Stopped cause)) to e = ⊥
 
 -- whatever end has a session's numbers, and no doubt, the acts that open its connection are a run of it
 abbrev pub IsLawfulBegin : {T : Type 0} → Seat → Result T BeginFault → Seat → List Note → Type 0
-IsLawfulBegin old answer new notes = (e : EndState) → IsSettled old.live.state e → Leads old.identity e (acts_of notes) (AfterBegin old.identity answer new.live)
+IsLawfulBegin old answer new notes = (e : EndState) → IsCertain old.live.state e → Leads old.identity e (acts_of notes) (AfterBegin old.identity answer new.live)

@@ -1,11 +1,11 @@
 -- What the calls of a session answer, and when.
-use Rattle.std.specs.Prelude.{◌≡◌, ◌≢◌, ℕ, List, [], ◌∷◌, Bool, true, Option, Some, None, Result, Ok, Err, ⊤, min}
+use Rattle.std.specs.Prelude.{◌≡◌, ◌≢◌, ℕ, List, [], ◌∷◌, true, Option, Some, None, Result, Ok, Err, ⊤, min}
 use Rattle.fix_base.specs.declared.identity.Identity.{Identity}
 use Rattle.fix_base.specs.Payload.{LAST_TIME}
 use Rattle.fix_base.specs.Stream.{Ahead}
 use Rattle.fix_base.specs.declared.act.Act.TheVariants as act
 use Rattle.fix_base.specs.Seen.{Faults, Note, Did, Rises}
-use Rattle.fix_engine.specs.State.{State, Phase, Down, AwaitLogon, Ending, first_state}
+use Rattle.fix_engine.specs.State.{Phase, Down, AwaitLogon, Ending}
 use Rattle.fix_engine.specs.declared.state.Ending.TheVariants as ending
 use Rattle.fix_engine.specs.declared.stop.RunEnd.{RunEnd}
 use Rattle.fix_engine.specs.declared.stop.RunEnd.TheVariants as run

@@ -1,5 +1,5 @@
 -- The state of a session, and how each step changes it.
-use Rattle.std.specs.Prelude.{◌≡◌, ℕ, ◌+◌, ◌≤◌, min, Option, Some, None}
+use Rattle.std.specs.Prelude.{ℕ, ◌+◌, ◌≤◌, min, Option, Some, None}
 use Rattle.fix_base.specs.Payload.{LAST_TIME}
 pub use Rattle.fix_engine.specs.declared.state.Phase.{Phase}
 pub use Rattle.fix_engine.specs.declared.state.Phase.TheVariants.{Down, AwaitLogon, Up}

@@ -1,13 +1,13 @@
 -- The turns of a session: one read with the frames that it completes, one look at the clock, and the
 -- expected number kept.
-use Rattle.std.specs.Prelude.{◌≡◌, ◌≢◌, ◌<◌, ◌≤◌, ◌∷◌, ◌++◌, ℕ, List, [], length, Bool, true, false, Result, Ok, Err, ⊤, replicate, Option, Some, None}
+use Rattle.std.specs.Prelude.{◌≡◌, ◌≢◌, ◌<◌, ◌≤◌, ◌∷◌, ◌++◌, ℕ, List, [], length, Bool, true, false, Result, Ok, Err, ⊤, replicate}
 use Rattle.fix_base.specs.declared.identity.Identity.{Identity}
-use Rattle.fix_base.specs.Stream.{Ahead, HasNoItem}
+use Rattle.fix_base.specs.Stream.{Ahead}
 use Rattle.fix_base.specs.declared.entry.Record.TheVariants.{Expect}
 use Rattle.fix_base.specs.declared.act.Act.TheVariants as act
 use Rattle.fix_base.specs.Seen.{Note, Did, Failed, StorePart, LinkPart}
 use Rattle.fix_frame.specs.Given.{GivesFrame, GivesNone}
-use Rattle.fix_engine.specs.State.{State, Down, Why, PeerEnd, Ending, with_phase, with_kept, with_reading}
+use Rattle.fix_engine.specs.State.{State, Down, PeerEnd, Ending, with_phase, with_kept, with_reading}
 use Rattle.fix_engine.specs.declared.state.Ending.TheVariants as ending
 use Rattle.fix_engine.specs.Fold.{Each, AndThen}
 use Rattle.fix_engine.specs.Answer.{Handled}

@@ -4,6 +4,7 @@
 
 mod handling;
 mod inbound;
+mod laws;
 mod machine;
 mod memory_store;
 mod outbound;
@@ -17,6 +18,7 @@ mod stop;
 mod turn;
 mod writing;
 
+pub use laws::a_new_session_is_in_step;
 pub use outside::{KeepFault, Outside};
 pub use plain::Plain;
 pub use session::Session;

@@ -1,10 +1,12 @@
-ghost use Rattle.std.specs.Prelude.{◌≡◌, ◌≢◌, ℕ, List, [], IfSome, IfNone, IfOk, OnOk, OnErr, Some, None, Err};
+ghost use Rattle.std.specs.Prelude.{◌≡◌, ◌≢◌, ◌∷◌, ◌++◌, ℕ, List, [], IfSome, IfNone, IfOk, OnOk, OnErr, Some, None, Err};
 ghost use Rattle.fix_base.specs.Session.{IsValidIdentity};
+ghost use Rattle.fix_base.specs.EndStep.{EndState};
 ghost use Rattle.fix_base.specs.Seen.{acts_of, NoneRose, Goes};
-ghost use Rattle.fix_base.specs.declared.act.Act.{Act};
 ghost use Rattle.fix_engine.specs.declared.state.State.{State};
 ghost use Rattle.fix_engine.specs.State.{IsInRange, first_state};
 ghost use Rattle.fix_engine.specs.Turn.{live};
+ghost use Rattle.fix_engine.specs.Lawful.{IsLawful, IsLawfulBegin};
+ghost use Rattle.fix_engine.specs.InStep.{IsInStep, IsConnected, HasServed};
 ghost use Rattle.fix_engine.specs.Run.{no_bytes, run_end, RanTo, stop_cause, RunHasCause, IsDownUnlessSpent, Opens, BeginsTo};
 ghost use Rattle.fix_engine.specs.Turns.{HasTurns, IsSettled};
 ghost use Rattle.fix_engine.specs.Stated.{IsAsStated};
@@ -13,7 +15,7 @@ ghost use Rattle.fix_engine.specs.LookBack.{StandsAt, LooksBack};
 use crate::party::Party;
 use crate::turn::{ROOM, run_and_cut, take_reading};
 use crate::{BeginFault, Ending, Outside, Phase, RunEnd, State, StopCause};
-use fix_base::{Identity, OutOfMemory};
+use fix_base::{Act, Identity, OutOfMemory};
 use fix_frame::Reader;
 use std::alloc::Global;
 use std::marker::Model;
@@ -123,6 +125,12 @@ impl Session {
         // On a session that goes on.
         ensures begins { IfNone self.old.stopped (Goes (O.seen o.old) (O.seen o.new) (BeginsTo self.old result self.new)) }
         ensures from_here { IfNone self.old.stopped (OnOk result (StandsAt self.new.live.state [] [] self.new.live)) }
+
+        // It is a run of a lawful end, and where the session isn't stopped it is in step with what is
+        // outside of it, and connected.
+        ensures lawful { IfNone self.old.stopped (Goes (O.seen o.old) (O.seen o.new) (IsLawfulBegin self.old result self.new)) }
+        ensures in_step { IfNone self.new.stopped ((start : EndState) (before : List Act) → IsInStep start before (O.seen o.old) self.old → IsInStep start before (O.seen o.new) self.new) }
+        ensures connected { IfNone self.new.stopped ((start : EndState) (before : List Act) (h : IsInStep start before (O.seen o.old) self.old) → (time : ℕ) × IsConnected h.to (before ++ h.acts ++ Act.Now time ∷ []) (O.seen o.new) self.new) }
     {
         if let Some(cause) = self.stopped {
             return Err(BeginFault::Stopped(cause));
@@ -174,6 +182,18 @@ impl Session {
         // How many turns it made, and what is kept behind them.
         ensures turns { IfNone self.old.stopped (Goes (O.seen o.old) (O.seen o.new) (λ notes. HasTurns turns result (acts_of notes))) }
         ensures settled { IfNone self.old.stopped ((turns ≡ 0 → self.old.live.state.kept ≡ self.old.live.state.expected) → IsSettled result self.new.live.state) }
+
+        // It is a run of a lawful end, and a session that isn't stopped stays in step with what is outside
+        // of it, and connected where all turns were made.
+        ensures lawful { IfNone self.old.stopped (Goes (O.seen o.old) (O.seen o.new) (IsLawful self.old.identity self.old.live result self.new.live)) }
+        ensures in_step { IfNone self.new.stopped ((start : EndState) (before : List Act) → IsInStep start before (O.seen o.old) self.old → IsInStep start before (O.seen o.new) self.new) }
+        ensures connected { result ≡ RunEnd.TurnsSpent → (start : EndState) (before : List Act) → IsConnected start before (O.seen o.old) self.old → IsConnected start before (O.seen o.new) self.new }
+
+        // What it wrote on the connection may be written; and over what a counterparty wrote that keeps its
+        // messages, the session keeps up with it, whatever this answers: what it handed over, each number
+        // once, are the first messages that the counterparty stored, none is left out, and each that the
+        // counterparty stored before the connection comes marked.
+        ensures headline { IfNone self.old.stopped ((start : EndState) (before : List Act) (h : IsConnected start before (O.seen o.old) self.old) → Goes (O.seen o.old) (O.seen o.new) (λ notes. HasServed self.old.identity result self.new.live start h.opened (h.acts ++ acts_of notes))) }
     {
         if let Some(cause) = self.stopped {
             return RunEnd::Stopped(cause);

@@ -1,4 +1,4 @@
-use Rattle.std.proofs.Common.{Some, sym, ap, ◌∙◌}
+use Rattle.std.proofs.Common.{sym}
 use Rattle.fix_engine.proofs.InboundLemmas.{int_at}
 use Rattle.fix_engine.proofs.inbound.number_at.Goals as goal
 

@@ -1,6 +1,9 @@
 use Rattle.fix_base.proofs.SeenLemmas.{Moves-nil}
+use Rattle.std.specs.Prelude.{None}
+use Rattle.fix_engine.specs.Turn.{live}
 use Rattle.fix_engine.specs.Run.{no_memory}
 use Rattle.fix_engine.proofs.BeginLemmas.{begins_ok, begins_err}
+use Rattle.fix_engine.proofs.InStepLemmas.{opened_lawful, opened_in_step, opened_connected, not_opened_lawful, refused_lawful}
 use Rattle.fix_engine.proofs.session.Session.begin.Goals as goal
 
 pub returns-in-Err-clause-begins : goal.returns-in-Err-clause-begins
@@ -15,3 +18,21 @@ pub returns-in-Err-open_connection-clause-begins : goal.returns-in-Err-open_conn
 returns-in-Err-open_connection-clause-begins g c =
     let h = c.in-Err-open_connection.ensures in
     rw (← c.self.view_is, c.in_default.is) (h.0, h.1, begins_err _ _ _ h.2)
+
+pub returns-in-Err-clause-lawful : goal.returns-in-Err-clause-lawful
+returns-in-Err-clause-lawful g c = rw (← c.self.view_is, c.in_default.is) (refused_lawful (record { identity = c.self.inside.party.identity; live = live c.self.inside.state c.self.inside.reader; stopped = None }) _)
+
+pub returns-in-Ok-open_connection-clause-lawful : goal.returns-in-Ok-open_connection-clause-lawful
+returns-in-Ok-open_connection-clause-lawful g c =
+    rw (← c.self.view_is, c.in_default.is, c.take_reading.ensures.taken, c.in-Ok.ensures) (opened_lawful (record { identity = c.self.inside.party.identity; live = live c.self.inside.state c.self.inside.reader; stopped = None }) _ _ _ c.in-Ok-open_connection.ensures)
+
+pub returns-in-Err-open_connection-clause-lawful : goal.returns-in-Err-open_connection-clause-lawful
+returns-in-Err-open_connection-clause-lawful g c = rw (← c.self.view_is, c.in_default.is) (not_opened_lawful (record { identity = c.self.inside.party.identity; live = live c.self.inside.state c.self.inside.reader; stopped = None }) _ _ _ c.in-Err-open_connection.ensures)
+
+pub returns-in-Ok-open_connection-clause-in_step : goal.returns-in-Ok-open_connection-clause-in_step
+returns-in-Ok-open_connection-clause-in_step g c =
+    rw (← c.self.view_is, c.in_default.is, c.take_reading.ensures.taken, c.in-Ok.ensures) (opened_in_step (record { identity = c.self.inside.party.identity; live = live c.self.inside.state c.self.inside.reader; stopped = None }) _ _ _ c.in-Ok-open_connection.ensures)
+
+pub returns-in-Ok-open_connection-clause-connected : goal.returns-in-Ok-open_connection-clause-connected
+returns-in-Ok-open_connection-clause-connected g c =
+    rw (← c.self.view_is, c.in_default.is, c.take_reading.ensures.taken, c.in-Ok.ensures) (opened_connected (record { identity = c.self.inside.party.identity; live = live c.self.inside.state c.self.inside.reader; stopped = None }) _ _ _ c.in-Ok-open_connection.ensures)

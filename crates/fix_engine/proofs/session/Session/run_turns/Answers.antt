@@ -4,6 +4,8 @@ use Rattle.fix_engine.proofs.Settled.{Ran-settled}
 use Rattle.fix_engine.proofs.Turns.{Ran-has_turns}
 use Rattle.fix_engine.proofs.Prefix.{as_stated}
 use Rattle.fix_engine.proofs.Recounting.{looks_back}
+use Rattle.fix_engine.proofs.LawfulRuns.{run_lawful}
+use Rattle.fix_engine.proofs.InStepLemmas.{run_in_step, run_connected, run_serves}
 use Rattle.fix_engine.proofs.session.Session.run_turns.Goals as goal
 
 pub returns-clause-cause : goal.returns-clause-cause
@@ -31,3 +33,17 @@ returns-clause-as_stated g c =
 pub returns-clause-looks_back : goal.returns-clause-looks_back
 returns-clause-looks_back g c =
     rw (← c.self.view_is, c.in_default.is, c.answer_of-answer.ensures) (λ start answered acts stands. looks_back _ _ _ _ _ _ _ c.run_and_cut-ran.ensures.notes start answered acts stands)
+
+pub returns-clause-lawful : goal.returns-clause-lawful
+returns-clause-lawful g c = rw (← c.self.view_is, c.in_default.is, c.answer_of-answer.ensures) (run_lawful _ _ _ _ _ _ _ c.run_and_cut-ran.ensures.notes)
+
+pub returns-clause-in_step : goal.returns-clause-in_step
+returns-clause-in_step g c =
+    let h = c.run_and_cut-ran.ensures.notes in
+    rw (← c.self.view_is, c.in_default.is, c.stop_of-self-inside.ensures, c.answer_of-answer.ensures) (run_in_step _ _ _ _ _ _ (rw (← c.self.view_is, c.in_default.is) at c.requires) h)
+
+pub returns-clause-connected : goal.returns-clause-connected
+returns-clause-connected g c = rw (← c.self.view_is, c.answer_of-answer.ensures) (run_connected _ _ _ _ _ _ _ c.run_and_cut-ran.ensures.notes)
+
+pub returns-clause-headline : goal.returns-clause-headline
+returns-clause-headline g c = rw (← c.self.view_is, c.in_default.is, c.answer_of-answer.ensures) (run_serves _ _ _ _ _ _ c.run_and_cut-ran.ensures.notes)

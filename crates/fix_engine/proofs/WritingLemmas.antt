@@ -1,0 +1,126 @@
+-- What a run of an end writes on its connection may be written.
+use Rattle.std.proofs.Common.{◌≡◌, ℕ, List, [], ◌∷◌, ◌++◌, length, Some, None, refl, sym, ap, ◌∙◌, subst, append_assoc, arith}
+use Rattle.std.proofs.lemmas.List.{append-nil}
+use Rattle.fix_base.specs.Lists.{IsPrefixOf}
+use Rattle.fix_base.specs.declared.identity.Identity.{Identity}
+use Rattle.fix_base.specs.declared.entry.Entry.{Entry}
+use Rattle.fix_base.specs.declared.entry.Record.{Record}
+use Rattle.fix_base.specs.declared.entry.Record.TheVariants.{Push, Expect, Reset}
+use Rattle.fix_base.specs.declared.act.Act.{Act}
+use Rattle.fix_base.specs.declared.act.Act.TheVariants as act
+use Rattle.fix_base.specs.End.{End, folded}
+use Rattle.fix_base.specs.Wrote as wrote
+use Rattle.fix_base.specs.Wrote.{Writes, Wrote}
+use Rattle.fix_base.specs.EndStep as steps
+use Rattle.fix_base.specs.EndStep.{Connection, EndState, Row, EndStep, Move, EndRun}
+use Rattle.fix_base.proofs.ListLemmas.{some_same, prefix_refl, prefix_append, prefix_trans, length-prefix}
+use Rattle.fix_base.proofs.WroteLemmas.{IsEntry-more, AdminsBetween-more}
+use Rattle.fix_base.proofs.WholeLemmas.{whole_start, whole_wrote}
+use Rattle.fix_engine.specs.InStep.{IsNoReset, IsOfRun, AreOfRun, bytes_written}
+
+writes_more : {id : Identity} {out more : List Entry} {from to : ℕ} {texts : List (List ℕ)} → IsPrefixOf out more → Writes id out from texts to → Writes id more from texts to
+writes_more p wrote.done = wrote.done
+writes_more p (wrote.original n e le above entry is others) = wrote.original n e le above (IsEntry-more p entry) is (writes_more p others)
+writes_more p (wrote.again n time by body t le entry is others) = wrote.again n time by body t le (IsEntry-more p entry) is (writes_more p others)
+writes_more p (wrote.gap_fill n m t le some inside admins is others) =
+    let grew = length-prefix p in
+    wrote.gap_fill n m t le some (omega (arith, grew)) (AdminsBetween-more p admins) is (writes_more p others)
+
+-- with more entries
+wrote_more : (id : Identity) (old new more : End) (w : List ℕ) → IsPrefixOf new.out more.out → Wrote id old new w → Wrote id old more w
+wrote_more id old new more w p h = record { grew = prefix_trans h.grew p; texts = h.texts; last = h.last; writes = writes_more p h.writes; front = h.front }
+
+-- a record that is no reset only adds to the entries
+no_reset_grows : (e : End) (r : Record) → IsNoReset r → IsPrefixOf e.out (folded e r).out
+no_reset_grows e (Push entry) h = prefix_append e.out (entry ∷ [])
+no_reset_grows e (Expect n) h = prefix_refl e.out
+no_reset_grows e (Reset t) h = absurd h
+
+-- since the connection was opened at `old` the end has written these bytes, and no reset is in doubt
+record HasWritten (id : Identity) (old : End) (w : List ℕ) (s : EndState) : Type 0 where
+  so_far : Wrote id old s.end w
+  opened : (c : Connection) → s.connection ≡ Some c → c.opened ≡ old
+  written : (c : Connection) → s.connection ≡ Some c → c.written ≡ w
+  doubt : (r : Record) → s.doubt ≡ Some r → IsNoReset r
+
+-- a connection that goes on as this one
+same_opened : (old : End) (c k : Connection) → c.opened ≡ old → k.opened ≡ c.opened → (d : Connection) → Some k ≡ Some d → d.opened ≡ old
+same_opened old c k is same d e = subst (λ (x : Connection). x.opened ≡ old) (some_same k d e) (same ∙ is)
+
+same_written : (w : List ℕ) (c k : Connection) → c.written ≡ w → k.written ≡ c.written → (d : Connection) → Some k ≡ Some d → d.written ≡ w
+same_written w c k is same d e = subst (λ (x : Connection). x.written ≡ w) (some_same k d e) (same ∙ is)
+
+-- the bytes behind one act
+abbrev after_act : List ℕ → Act → List ℕ
+after_act w x = w ++ bytes_written (x ∷ [])
+
+-- where the act writes nothing
+as_before : (id : Identity) (old : End) (w : List ℕ) (s : EndState) → HasWritten id old w s → HasWritten id old (w ++ []) s
+as_before id old w s h = subst (λ v. HasWritten id old v s) (sym (append-nil w)) h
+
+row_writes : {id : Identity} (old : End) (w : List ℕ) (s s' : EndState) (x : Act) → IsOfRun x → s.doubt ≡ None → Row id s x s' → HasWritten id old w s → HasWritten id old (after_act w x) s'
+row_writes old w s s' x ran none steps.opened h = absurd ran
+row_writes {id = id} old w s s' x ran none (steps.now t) h = as_before id old w s h
+row_writes {id = id} old w s s' x ran none (steps.idle c o) h = as_before id old w s h
+row_writes {id = id} old w s s' x ran none (steps.ended c o) h = as_before id old w s h
+row_writes {id = id} old w s s' x ran none (steps.read b c o) h = as_before id old w s' (record { so_far = h.so_far; opened = same_opened old c _ (h.opened c o) refl; written = same_written w c _ (h.written c o) refl; doubt = h.doubt })
+row_writes {id = id} old w s s' x ran none (steps.wrote b c o lawful) h =
+    let bytes : c.written ++ b ≡ w ++ (b ++ []) = ap (λ v. v ++ b) (h.written c o) ∙ ap (λ v. w ++ v) (sym (append-nil b)) in
+    record {
+      so_far = subst (λ v. Wrote id old s.end v) bytes (subst (λ f. Wrote id f s.end (c.written ++ b)) (h.opened c o) lawful);
+      opened = same_opened old c _ (h.opened c o) refl;
+      written = λ d e. subst (λ (k : Connection). k.written ≡ w ++ (b ++ [])) (some_same _ d e) bytes;
+      doubt = h.doubt;
+    }
+row_writes {id = id} old w s s' x ran none (steps.kept_push e) h = as_before id old w s' (record { so_far = wrote_more id old s.end s'.end w (prefix_append s.end.out (e ∷ [])) h.so_far; opened = h.opened; written = h.written; doubt = h.doubt })
+row_writes {id = id} old w s s' x ran none (steps.kept_reject e g j) h = as_before id old w s' (record { so_far = wrote_more id old s.end s'.end w (prefix_append s.end.out (e ∷ [])) h.so_far; opened = h.opened; written = h.written; doubt = h.doubt })
+row_writes {id = id} old w s s' x ran none (steps.kept_expect n k) h = as_before id old w s' (record { so_far = wrote_more id old s.end s'.end w (prefix_refl s.end.out) h.so_far; opened = h.opened; written = h.written; doubt = h.doubt })
+row_writes old w s s' x ran none (steps.kept_reset t) h = absurd ran
+row_writes {id = id} old w s s' x ran none (steps.handed c n marked body may) h = as_before id old w s' (record { so_far = h.so_far; opened = same_opened old c _ (h.opened c may.is_open) refl; written = same_written w c _ (h.written c may.is_open) refl; doubt = h.doubt })
+row_writes {id = id} old w s s' x ran none (steps.hand_lost c n marked body may) h = as_before id old w s' (record { so_far = h.so_far; opened = λ d e. cc; written = λ d e. cc; doubt = h.doubt })
+row_writes {id = id} old w s s' x ran none (steps.lost_push e) h = as_before id old w s' (record { so_far = h.so_far; opened = λ d k. cc; written = λ d k. cc; doubt = λ r k. subst IsNoReset (some_same _ r k) ran })
+row_writes {id = id} old w s s' x ran none (steps.lost_expect n k) h = as_before id old w s' (record { so_far = h.so_far; opened = λ d e. cc; written = λ d e. cc; doubt = λ r e. subst IsNoReset (some_same _ r e) ran })
+row_writes old w s s' x ran none (steps.lost_reset t) h = absurd ran
+row_writes {id = id} old w s s' x ran none steps.cut h = as_before id old w s' (record { so_far = h.so_far; opened = λ d e. cc; written = λ d e. cc; doubt = h.doubt })
+row_writes old w s s' x ran none steps.stopped h = absurd ran
+
+move_writes : (id : Identity) (old : End) (w : List ℕ) (s s' : EndState) → Move s s' → HasWritten id old w s → HasWritten id old w s'
+move_writes id old w s s' (steps.settles_without q e) h = record { so_far = h.so_far; opened = h.opened; written = h.written; doubt = λ r k. cc }
+move_writes id old w s s' (steps.settles_with q e) h = record { so_far = wrote_more id old s.end s'.end w (no_reset_grows s.end q (h.doubt q e)) h.so_far; opened = h.opened; written = h.written; doubt = λ r k. cc }
+move_writes id old w s s' (steps.past_admin c x o read at) h = record { so_far = h.so_far; opened = h.opened; written = h.written; doubt = h.doubt }
+move_writes id old w s s' (steps.past_app c n marked body o read at grew) h = record { so_far = h.so_far; opened = h.opened; written = h.written; doubt = h.doubt }
+move_writes id old w s s' (steps.past_gap c n m o read at lt) h = record { so_far = h.so_far; opened = h.opened; written = h.written; doubt = h.doubt }
+move_writes id old w s s' (steps.reset_to c n m o read le) h = record { so_far = h.so_far; opened = h.opened; written = h.written; doubt = h.doubt }
+
+written-cons : (x : Act) (acts : List Act) → bytes_written (x ∷ acts) ≡ bytes_written (x ∷ []) ++ bytes_written acts
+written-cons (act.Wrote b) acts = ap (λ v. v ++ bytes_written acts) (sym (append-nil b))
+written-cons (act.Read b) acts = refl
+written-cons act.Opened acts = refl
+written-cons (act.Now t) acts = refl
+written-cons act.Idle acts = refl
+written-cons act.Ended acts = refl
+written-cons (act.Kept r) acts = refl
+written-cons (act.KeepLost r) acts = refl
+written-cons (act.Handed n marked body) acts = refl
+written-cons (act.HandLost n marked body) acts = refl
+written-cons act.Cut acts = refl
+written-cons act.Stop acts = refl
+
+run_writes : {id : Identity} (old : End) (w : List ℕ) {s s' : EndState} {acts : List Act} → EndRun id s acts s' → AreOfRun acts → HasWritten id old w s → HasWritten id old (w ++ bytes_written acts) s'
+run_writes {id = id} old w {s = s} steps.stop ran h = as_before id old w s h
+run_writes {id = id} old w {s = s} {s' = s'} (steps.move {mid = mid} m d) ran h = run_writes old w d ran (move_writes id old w s mid m h)
+run_writes {id = id} old w {s = s} {s' = s'} (steps.step {mid = mid} {a = x} {acts = acts} one d) ran h =
+    let later = run_writes old (after_act w x) d ran.1 (row_writes old w s mid x ran.0 one.certain one.row h) in
+    subst (λ v. HasWritten id old v s') (append_assoc w (bytes_written (x ∷ [])) (bytes_written acts) ∙ ap (λ v. w ++ v) (sym (written-cons x acts))) later
+
+just_opened : {id : Identity} (s s' : EndState) → s.doubt ≡ None → Row id s act.Opened s' → HasWritten id s.end [] s'
+just_opened {id = id} s s' none steps.opened = record {
+  so_far = whole_wrote id s.end s.end (length s.end.out) [] (whole_start id s.end);
+  opened = λ d e. ap (λ (k : Connection). k.opened) (sym (some_same _ d e));
+  written = λ d e. ap (λ (k : Connection). k.written) (sym (some_same _ d e));
+  doubt = λ r e. cc;
+}
+
+-- what is written from the opening on
+pub run_wrote : (id : Identity) (start opened to : EndState) (acts : List Act) → EndStep id start act.Opened opened → EndRun id opened acts to → AreOfRun acts → Wrote id start.end to.end (bytes_written acts)
+run_wrote id start opened to acts step d ran = (run_writes start.end [] d ran (just_opened start opened step.certain step.row)).so_far
