@@ -6,7 +6,7 @@ ghost use Rattle.fix_engine.specs.declared.state.State.{State};
 ghost use Rattle.fix_engine.specs.State.{IsInRange, first_state};
 ghost use Rattle.fix_engine.specs.Turn.{live};
 ghost use Rattle.fix_engine.specs.Run.{no_bytes, run_end, RanTo, stop_cause, RunHasCause, IsDownUnlessSpent, Opens, BeginsTo};
-ghost use Rattle.fix_engine.specs.Turns.{HasTurns, IsSettled};
+ghost use Rattle.fix_engine.specs.Turns.{HasTurns, IsSettled, ShowsPeerEnd};
 ghost use Rattle.fix_engine.specs.Stated.{IsAsStated};
 ghost use Rattle.fix_engine.specs.LookBack.{StandsAt, LooksBack};
 
@@ -174,6 +174,7 @@ impl Session {
         // How many turns it made, and what is kept behind them.
         ensures turns { IfNone self.old.stopped (Goes (O.seen o.old) (O.seen o.new) (λ notes. HasTurns turns result (acts_of notes))) }
         ensures settled { IfNone self.old.stopped ((turns ≡ 0 → self.old.live.state.kept ≡ self.old.live.state.expected) → IsSettled result self.new.live.state) }
+        ensures peer_end { IfNone self.old.stopped (Goes (O.seen o.old) (O.seen o.new) (λ notes. ShowsPeerEnd result (acts_of notes))) }
     {
         if let Some(cause) = self.stopped {
             return RunEnd::Stopped(cause);

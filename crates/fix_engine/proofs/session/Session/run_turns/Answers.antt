@@ -4,6 +4,7 @@ use Rattle.fix_engine.proofs.Settled.{Ran-settled}
 use Rattle.fix_engine.proofs.Turns.{Ran-has_turns}
 use Rattle.fix_engine.proofs.Prefix.{as_stated}
 use Rattle.fix_engine.proofs.Recounting.{looks_back}
+use Rattle.fix_engine.proofs.PeerEnds.{shows_peer_end}
 use Rattle.fix_engine.proofs.session.Session.run_turns.Goals as goal
 
 pub returns-clause-cause : goal.returns-clause-cause
@@ -31,3 +32,7 @@ returns-clause-as_stated g c =
 pub returns-clause-looks_back : goal.returns-clause-looks_back
 returns-clause-looks_back g c =
     rw (← c.self.view_is, c.in_default.is, c.answer_of-answer.ensures) (λ start answered acts stands. looks_back _ _ _ _ _ _ _ c.run_and_cut-ran.ensures.notes start answered acts stands)
+
+pub returns-clause-peer_end : goal.returns-clause-peer_end
+returns-clause-peer_end g c =
+    rw (← c.self.view_is, c.in_default.is, c.answer_of-answer.ensures) (shows_peer_end _ _ _ _ _ _ _ c.run_and_cut-ran.ensures.notes)
