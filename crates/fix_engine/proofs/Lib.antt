@@ -25,3 +25,4 @@ pub mod InStepLemmas
 pub mod LookBackLemmas
 pub mod Shown
 pub mod Recounting
+pub mod PeerEnds

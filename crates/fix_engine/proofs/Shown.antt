@@ -7,21 +7,22 @@ use Rattle.fix_base.specs.declared.act.Act.TheVariants as act
 use Rattle.fix_base.specs.Lists.{Among, here, there}
 use Rattle.fix_base.specs.Seen.{Note, acts_of}
 use Rattle.fix_base.proofs.SeenLemmas.{acts_of-append}
-use Rattle.fix_engine.specs.State.{State, Ending, Say, PeerEnd, LoggedOut, Refused, NotLogon}
+use Rattle.fix_engine.specs.State.{State, Phase, Down, AwaitLogon, Up, Ending, Say, PeerEnd, LoggedOut, Refused, NotLogon}
 use Rattle.fix_engine.specs.declared.state.Step.TheVariants as step
 use Rattle.fix_engine.specs.declared.stop.RunEnd.{RunEnd}
 use Rattle.fix_engine.specs.declared.stop.RunEnd.TheVariants as run
 use Rattle.fix_engine.specs.Fold.{Each, ends, goes}
 use Rattle.fix_engine.specs.Inbound.{Inbound, IsInbound}
-use Rattle.fix_engine.specs.Answer.{Performed, close, give_up, hand_lost, hand_memory, spent, keep_memory, keep_lost, write_lost, write_memory, Handled, logon_answer, logon_steps, logout_answer, app_answer, not_built, refused, first_answer, up_answer, names, is_in_order, is_app_type, number_or_0}
+use Rattle.fix_engine.specs.Answer.{Performed, close, give_up, hand_lost, hand_memory, spent, keep_memory, keep_lost, write_lost, write_memory, Handled, answer_in, logon_answer, logon_steps, logout_answer, app_answer, not_built, refused, first_answer, up_answer, names, is_in_order, is_app_type, number_or_0}
 use Rattle.fix_engine.specs.Run.{run_end}
 use Rattle.fix_engine.specs.LookBack.{state_at, IsLast, IsLogout, IsNoLogon, IsOfNumber, IsShown}
 
-among_before : {A : Type 0} (x : A) (xs ys : List A) → Among x xs → Among x (xs ++ ys)
+-- what stands in a list stands in a longer one
+pub among_before : {A : Type 0} (x : A) (xs ys : List A) → Among x xs → Among x (xs ++ ys)
 among_before x xs ys here = here
 among_before x xs ys (there {xs = more} a) = there (among_before x more ys a)
 
-among_behind : {A : Type 0} (x : A) (xs ys : List A) → Among x ys → Among x (xs ++ ys)
+pub among_behind : {A : Type 0} (x : A) (xs ys : List A) → Among x ys → Among x (xs ++ ys)
 among_behind x [] ys a = a
 among_behind x (y ∷ xs) ys a = there (among_behind x xs ys a)
 
@@ -135,3 +136,21 @@ module _ (id : Identity) (frame : List ℕ) (i : Inbound) (p : IsInbound frame i
 pub frame_shown : (id : Identity) (start : State) (answered : List (List ℕ)) (before acts : List Act) (frame : List ℕ) (notes : List Note) (e : Ending) (s' : State) → Handled id (state_at start answered before) frame notes (Err e) s' → IsShown (run_end (Err e)) (answered ++ frame ∷ []) acts
 frame_shown id start [] before acts frame notes e s' h = first_shown id frame h.inbound h.presents (state_at start [] before) s' acts notes e h.carried
 frame_shown id start (a ∷ answered) before acts frame notes e s' h = up_shown id frame h.inbound h.presents (a ∷ answered) (state_at start (a ∷ answered) before) s' acts notes e h.carried
+
+-- ---- no frame is the end of the connection
+
+-- neither in this phase nor in another
+no_peer_end : (id : Identity) (frame : List ℕ) (phase : Phase) (s s' : State) (i : Inbound) (notes : List Note) (e : Ending) → IsInbound frame i → Each (Performed id frame) s (answer_in phase id s i) notes (Err e) s' → IsShown (run_end (Err e)) (frame ∷ []) []
+no_peer_end id frame AwaitLogon s s' i notes e p d = first_shown id frame i p s s' [] notes e d
+no_peer_end id frame Up s s' i notes e p d = up_shown id frame i p [] s s' [] notes e d
+no_peer_end id frame Down s s' i notes e p (ends d) = elim d [ ]
+no_peer_end id frame Down s s' i notes e p (goes a (ends d)) = elim d [ ]
+no_peer_end id frame Down s s' i notes e p (goes a (goes b (ends d))) = elim d [ ]
+no_peer_end id frame Down s s' i notes e p (goes a (goes b (goes c (ends d)))) = elim d [ ]
+no_peer_end id frame Down s s' i notes e p (goes a (goes b (goes c (goes f d)))) = elim d [ ]
+
+nothing_among : Among act.Ended [] → ⊥
+nothing_among a = elim a [ ]
+
+pub frame_not_over : (id : Identity) (frame : List ℕ) (s s' : State) (notes : List Note) (e : Ending) → Handled id s frame notes (Err e) s' → run_end (Err e) ≡ run.Closed PeerEnd → ⊥
+frame_not_over id frame s s' notes e h over = nothing_among (subst (λ r. IsShown r (frame ∷ []) []) over (no_peer_end id frame s.phase s s' h.inbound notes e h.presents h.carried))

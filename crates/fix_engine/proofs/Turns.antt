@@ -16,7 +16,7 @@ use Rattle.fix_engine.specs.Turn.{Live, Taken, no_more, ends as ends_at, goes as
 use Rattle.fix_engine.specs.Run.{run_end}
 use Rattle.fix_engine.specs.Turns.{reads_in, looks_in, IsMadeOf, HasTurns}
 
-reads_in-append : (xs ys : List Act) → reads_in (xs ++ ys) ≡ reads_in xs + reads_in ys
+pub reads_in-append : (xs ys : List Act) → reads_in (xs ++ ys) ≡ reads_in xs + reads_in ys
 reads_in-append [] ys = omega arith
 reads_in-append (act.Read b ∷ xs) ys = omega (arith, reads_in-append xs ys)
 reads_in-append (act.Idle ∷ xs) ys = omega (arith, reads_in-append xs ys)
@@ -47,9 +47,9 @@ looks_in-append (act.Cut ∷ xs) ys = looks_in-append xs ys
 looks_in-append (act.Stop ∷ xs) ys = looks_in-append xs ys
 
 -- so often the notes read, and look at the clock
-record Tallies (notes : List Note) (read looked : ℕ) : Type 0 where
-  reads : reads_in (acts_of notes) ≡ read
-  looks : looks_in (acts_of notes) ≡ looked
+pub record Tallies (notes : List Note) (read looked : ℕ) : Type 0 where
+  pub reads : reads_in (acts_of notes) ≡ read
+  pub looks : looks_in (acts_of notes) ≡ looked
 
 tallies-append : (xs ys : List Note) (a b c d : ℕ) → Tallies xs a b → Tallies ys c d → Tallies (xs ++ ys) (a + c) (b + d)
 tallies-append xs ys a b c d t u = record {
@@ -58,7 +58,7 @@ tallies-append xs ys a b c d t u = record {
 }
 
 -- no read and no look
-abbrev Answers : List Note → Type 0
+abbrev pub Answers : List Note → Type 0
 Answers notes = Tallies notes 0 0
 
 Performed-answers : (id : Identity) (frame : List ℕ) (s : State) (x : Step) (notes : List Note) (r : Result ⊤ Ending) (s' : State) → Performed id frame s x notes r s' → Answers notes
@@ -87,7 +87,7 @@ Taken-answers id l notes r to (no_more gives) = record { reads = refl; looks = r
 Taken-answers id l notes r to (ends_at frame gives h) = Carried-answers id frame _ _ _ _ _ h.carried
 Taken-answers id l notes r to (goes_on {first = a} {more = b} frame gives h more) = tallies-append a b 0 0 0 0 (Carried-answers id frame _ _ a _ _ h.carried) (Taken-answers id _ b r to more)
 
-Fed-answers : (id : Identity) (b : List ℕ) (l : Live) (notes : List Note) (r : Result ⊤ Ending) (to : Live) → Fed id b l notes r to → Answers notes
+pub Fed-answers : (id : Identity) (b : List ℕ) (l : Live) (notes : List Note) (r : Result ⊤ Ending) (to : Live) → Fed id b l notes r to → Answers notes
 Fed-answers id b l notes r to (fed_frames d) = Taken-answers id _ notes r to d
 Fed-answers id b l notes r to fed_memory = record { reads = refl; looks = refl }
 
@@ -153,7 +153,7 @@ Met-makes : (id : Identity) (l : Live) (notes : List Note) (r : Result ⊤ Endin
 Met-makes id l notes r to (first_ends {e = e} d) = Heard-ends id l notes e to d
 Met-makes id l notes r to (both {mid = mid} {first = a} {more = b} d k) = looked mid a b r to (Heard-reads id l a mid d) k
 
-KeptExpected-answers : (l : Live) (notes : List Note) (r : Result ⊤ Ending) (to : Live) → KeptExpected l notes r to → Answers notes
+pub KeptExpected-answers : (l : Live) (notes : List Note) (r : Result ⊤ Ending) (to : Live) → KeptExpected l notes r to → Answers notes
 KeptExpected-answers l notes r to (same h) = record { reads = refl; looks = refl }
 KeptExpected-answers l notes r to (kept h) = record { reads = refl; looks = refl }
 KeptExpected-answers l notes r to (expect_lost h) = record { reads = refl; looks = refl }

@@ -1,8 +1,10 @@
--- What a run says of its turns: how many it made, and that the expected number is kept behind them.
+-- What a run says of its turns: how many it made, that the expected number is kept behind them, and where the
+-- other side ended the connection.
 use Rattle.std.specs.Prelude.{◌≡◌, ◌<◌, ◌≤◌, ◌+◌, ◌∷◌, ℕ, suc, List, [], ⊤}
 use Rattle.fix_base.specs.declared.act.Act.TheVariants as act
 use Rattle.fix_base.specs.declared.act.Act.{Act}
-use Rattle.fix_engine.specs.State.{State}
+use Rattle.fix_base.specs.Lists.{Among}
+use Rattle.fix_engine.specs.State.{State, PeerEnd, LoggedOut, Refused}
 use Rattle.fix_engine.specs.declared.stop.RunEnd.{RunEnd}
 use Rattle.fix_engine.specs.declared.stop.RunEnd.TheVariants as run
 
@@ -70,3 +72,23 @@ IsSettled run.StoreFault s = ⊤
 IsSettled run.NumbersSpent s = ⊤
 IsSettled run.OutOfMemory s = ⊤
 IsSettled (run.Stopped cause) s = ⊤
+
+-- answers that the end of the connection by the other side may come to: that it was closed so, unless the store
+-- failed or memory was refused behind it
+abbrev pub IsOver : RunEnd → Type 0
+IsOver (run.Closed PeerEnd) = ⊤
+IsOver (run.Closed (LoggedOut number)) = ⊥
+IsOver (run.Closed (Refused number refusal)) = ⊥
+IsOver run.StoreFault = ⊤
+IsOver run.OutOfMemory = ⊤
+IsOver run.TurnsSpent = ⊥
+IsOver (run.NotBuilt number) = ⊥
+IsOver run.LinkFault = ⊥
+IsOver run.AppFault = ⊥
+IsOver run.NumbersSpent = ⊥
+IsOver (run.Stopped cause) = ⊥
+
+-- a run answers that the other side ended the connection just where it read so
+pub record ShowsPeerEnd (answer : RunEnd) (acts : List Act) : Type 0 where
+  pub read : answer ≡ run.Closed PeerEnd → Among act.Ended acts
+  pub only : Among act.Ended acts → IsOver answer

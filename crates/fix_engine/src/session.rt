@@ -8,7 +8,7 @@ ghost use Rattle.fix_engine.specs.Turn.{live};
 ghost use Rattle.fix_engine.specs.Lawful.{IsLawful, IsLawfulBegin};
 ghost use Rattle.fix_engine.specs.InStep.{IsInStep, IsConnected, HasServed};
 ghost use Rattle.fix_engine.specs.Run.{no_bytes, run_end, RanTo, stop_cause, RunHasCause, IsDownUnlessSpent, Opens, BeginsTo};
-ghost use Rattle.fix_engine.specs.Turns.{HasTurns, IsSettled};
+ghost use Rattle.fix_engine.specs.Turns.{HasTurns, IsSettled, ShowsPeerEnd};
 ghost use Rattle.fix_engine.specs.Stated.{IsAsStated};
 ghost use Rattle.fix_engine.specs.LookBack.{StandsAt, LooksBack};
 
@@ -179,9 +179,11 @@ impl Session {
         // By looking back over the frames that were answered on the connection, and over its acts.
         ensures looks_back { IfNone self.old.stopped ((start : State) (answered : List (List ℕ)) (acts : List Act) → StandsAt start answered acts self.old.live → Goes (O.seen o.old) (O.seen o.new) (LooksBack self.old.identity start answered acts result self.new.live)) }
 
-        // How many turns it made, and what is kept behind them.
+        // How many turns it made, what is kept behind them, and that it answers the other side's end of the
+        // connection just where it read so.
         ensures turns { IfNone self.old.stopped (Goes (O.seen o.old) (O.seen o.new) (λ notes. HasTurns turns result (acts_of notes))) }
         ensures settled { IfNone self.old.stopped ((turns ≡ 0 → self.old.live.state.kept ≡ self.old.live.state.expected) → IsSettled result self.new.live.state) }
+        ensures peer_end { IfNone self.old.stopped (Goes (O.seen o.old) (O.seen o.new) (λ notes. ShowsPeerEnd result (acts_of notes))) }
 
         // It is a run of a lawful end, and a session that isn't stopped stays in step with what is outside
         // of it, and connected where all turns were made.

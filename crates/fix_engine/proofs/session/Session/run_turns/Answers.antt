@@ -6,6 +6,7 @@ use Rattle.fix_engine.proofs.Prefix.{as_stated}
 use Rattle.fix_engine.proofs.Recounting.{looks_back}
 use Rattle.fix_engine.proofs.LawfulRuns.{run_lawful}
 use Rattle.fix_engine.proofs.InStepLemmas.{run_in_step, run_connected, run_serves}
+use Rattle.fix_engine.proofs.PeerEnds.{shows_peer_end}
 use Rattle.fix_engine.proofs.session.Session.run_turns.Goals as goal
 
 pub returns-clause-cause : goal.returns-clause-cause
@@ -47,3 +48,6 @@ returns-clause-connected g c = rw (← c.self.view_is, c.answer_of-answer.ensure
 
 pub returns-clause-headline : goal.returns-clause-headline
 returns-clause-headline g c = rw (← c.self.view_is, c.in_default.is, c.answer_of-answer.ensures) (run_serves _ _ _ _ _ _ c.run_and_cut-ran.ensures.notes)
+pub returns-clause-peer_end : goal.returns-clause-peer_end
+returns-clause-peer_end g c =
+    rw (← c.self.view_is, c.in_default.is, c.answer_of-answer.ensures) (shows_peer_end _ _ _ _ _ _ _ c.run_and_cut-ran.ensures.notes)

@@ -1,0 +1,115 @@
+-- A run answers that the other side ended the connection just where it read so.
+use Rattle.std.proofs.Common.{◌≡◌, ◌⊎◌, inl, inr, ℕ, ◌<◌, List, [], ◌∷◌, ◌++◌, Result, Ok, Err, refl, sym, subst, arith, replicate}
+use Rattle.std.specs.Prelude.{⊤}
+use Rattle.fix_base.specs.declared.identity.Identity.{Identity}
+use Rattle.fix_base.specs.declared.act.Act.{Act}
+use Rattle.fix_base.specs.declared.act.Act.TheVariants as act
+use Rattle.fix_base.specs.Lists.{Among, here, there}
+use Rattle.fix_base.specs.Seen.{Note, Did, Failed, LinkPart, Seen, Goes, acts_of}
+use Rattle.fix_base.proofs.SeenLemmas.{acts_of-append}
+use Rattle.fix_engine.specs.State.{Ending, PeerEnd}
+use Rattle.fix_engine.specs.declared.state.Ending.TheVariants as ending
+use Rattle.fix_engine.specs.declared.stop.RunEnd.TheVariants as run
+use Rattle.fix_engine.specs.Fold as fold
+use Rattle.fix_engine.specs.Fold.{Each, AndThen, first_ends, both}
+use Rattle.fix_engine.specs.Turn as turn
+use Rattle.fix_engine.specs.Turn.{Live, Taken, Fed, Heard, Clocked, KeptExpected, Turn, OneTurn, Ran}
+use Rattle.fix_engine.specs.Run.{run_end}
+use Rattle.fix_engine.specs.Turns.{reads_in, ShowsPeerEnd}
+use Rattle.fix_engine.proofs.Turns.{reads_in-append, Answers, Fed-answers, KeptExpected-answers}
+use Rattle.fix_engine.proofs.Shown.{among_before, among_behind, frame_not_over}
+
+among_reads : (acts : List Act) → Among act.Ended acts → 0 < reads_in acts
+among_reads acts here = omega arith
+among_reads acts (there {y = y} {xs = xs} a) = omega (arith, among_reads xs a, reads_in-append (y ∷ []) xs)
+
+-- notes without a read have no end of the connection
+no_end : (notes : List Note) → Answers notes → Among act.Ended (acts_of notes) → ⊥
+no_end notes t a = omega (arith, among_reads (acts_of notes) a, t.reads)
+
+among_either : {A : Type 0} (x : A) (xs ys : List A) → Among x (xs ++ ys) → Among x xs ⊎ Among x ys
+among_either x [] ys a = inr a
+among_either x (y ∷ xs) ys here = inl here
+among_either x (y ∷ xs) ys (there a) = elim (among_either x xs ys a) [ inl l ↦ inl (there l) | inr r ↦ inr r ]
+
+either_notes : (xs ys : List Note) → Among act.Ended (acts_of (xs ++ ys)) → Among act.Ended (acts_of xs) ⊎ Among act.Ended (acts_of ys)
+either_notes xs ys a = among_either act.Ended (acts_of xs) (acts_of ys) (subst (Among act.Ended) (acts_of-append xs ys) a)
+
+abbrev Shows : Result ⊤ Ending → List Note → Type 0
+Shows r notes = ShowsPeerEnd (run_end r) (acts_of notes)
+
+-- notes without a read change nothing
+shows_too : (r : Result ⊤ Ending) (xs ys : List Note) → Shows r xs → Answers ys → Shows r (xs ++ ys)
+shows_too r xs ys s t = record {
+  read = λ h. subst (Among act.Ended) (sym (acts_of-append xs ys)) (among_before act.Ended (acts_of xs) (acts_of ys) (s.read h));
+  only = λ a. elim (either_notes xs ys a) [ inl l ↦ s.only l | inr m ↦ absurd (no_end ys t m) ];
+}
+
+-- what went on has no end, and another part follows
+shows_then : (r : Result ⊤ Ending) (xs ys : List Note) → Shows (Ok tt) xs → Shows r ys → Shows r (xs ++ ys)
+shows_then r xs ys s t = record {
+  read = λ h. subst (Among act.Ended) (sym (acts_of-append xs ys)) (among_behind act.Ended (acts_of xs) (acts_of ys) (t.read h));
+  only = λ a. elim (either_notes xs ys a) [ inl l ↦ absurd (s.only l) | inr m ↦ t.only m ];
+}
+
+-- nothing was read of an end, and none is answered
+shows_none : (r : Result ⊤ Ending) (notes : List Note) → (run_end r ≡ run.Closed PeerEnd → ⊥) → (Among act.Ended (acts_of notes) → ⊥) → Shows r notes
+shows_none r notes h never = record { read = λ e. absurd (h e); only = λ a. absurd (never a) }
+
+Taken-not_over : (id : Identity) (l : Live) (notes : List Note) (r : Result ⊤ Ending) (to : Live) → Taken id l notes r to → run_end r ≡ run.Closed PeerEnd → ⊥
+Taken-not_over id l notes r to (turn.no_more gives) h = cc
+Taken-not_over id l notes r to (turn.ends {s = s} {s' = s'} {e = e} frame gives d) h = frame_not_over id frame s s' notes e d h
+Taken-not_over id l notes r to (turn.goes {mid = mid} {b = b} {more = more} frame gives d k) h = Taken-not_over id (turn.live mid b) more r to k h
+
+Fed-not_over : (id : Identity) (b : List ℕ) (l : Live) (notes : List Note) (r : Result ⊤ Ending) (to : Live) → Fed id b l notes r to → run_end r ≡ run.Closed PeerEnd → ⊥
+Fed-not_over id b l notes r to (turn.fed_frames d) h = Taken-not_over id _ notes r to d h
+Fed-not_over id b l notes r to turn.fed_memory h = cc
+
+behind_read : (b : List ℕ) (notes : List Note) → Answers notes → Among act.Ended (act.Read b ∷ acts_of notes) → ⊥
+behind_read b notes t (there a) = no_end notes t a
+
+none_of_one : (x : Act) → Among act.Ended (x ∷ []) → (x ≡ act.Ended → ⊥) → ⊥
+none_of_one x here other = other refl
+none_of_one x (there a) other = elim a [ ]
+
+none_of_none : Among act.Ended [] → ⊥
+none_of_none a = elim a [ ]
+
+Heard-shows : (id : Identity) (l : Live) (notes : List Note) (r : Result ⊤ Ending) (to : Live) → Heard id l notes r to → Shows r notes
+Heard-shows id l notes r to (turn.bytes {more = more} b some fits d) = shows_none r (Did (act.Read b) ∷ more) (Fed-not_over id b l more r to d) (behind_read b more (Fed-answers id b l more r to d))
+Heard-shows id l notes r to turn.idle = shows_none (Ok tt) (Did act.Idle ∷ []) (λ h. cc) (λ a. none_of_one act.Idle a (λ e. cc))
+Heard-shows id l notes r to turn.over = record { read = λ h. here; only = λ a. tt }
+Heard-shows id l notes r to turn.read_lost = shows_none (Err ending.LinkFault) (Failed LinkPart ∷ []) (λ h. cc) none_of_none
+Heard-shows id l notes r to turn.read_memory = shows_none (Err ending.OutOfMemory) [] (λ h. cc) none_of_none
+
+Clocked-shows : (l : Live) (notes : List Note) (r : Result ⊤ Ending) (to : Live) → Clocked l notes r to → Shows r notes
+Clocked-shows l notes r to (turn.now t) = shows_none (Ok tt) (Did (act.Now t) ∷ []) (λ h. cc) (λ a. none_of_one (act.Now t) a (λ e. cc))
+Clocked-shows l notes r to turn.now_memory = shows_none (Err ending.OutOfMemory) [] (λ h. cc) none_of_none
+
+Met-shows : (id : Identity) (l : Live) (notes : List Note) (r : Result ⊤ Ending) (to : Live) → AndThen (Heard id) Clocked l notes r to → Shows r notes
+Met-shows id l notes r to (first_ends {e = e} d) = Heard-shows id l notes (Err e) to d
+Met-shows id l notes r to (both {mid = mid} {first = first} {more = more} d k) = shows_then r first more (Heard-shows id l first (Ok tt) mid d) (Clocked-shows mid more r to k)
+
+unkept : (l to : Live) (notes all : List Note) (e : Ending) → KeptExpected l notes (Err e) to → Shows (Err e) all
+unkept l to notes all e (turn.expect_lost h) = record { read = λ h. absurd cc; only = λ a. tt }
+unkept l to notes all e (turn.expect_memory h) = record { read = λ h. absurd cc; only = λ a. tt }
+
+Turn-shows : (id : Identity) (l : Live) (notes : List Note) (r : Result ⊤ Ending) (to : Live) → Turn id l notes r to → Shows r notes
+Turn-shows id l notes r to (turn.stops h d) = Met-shows id l notes r to d
+Turn-shows id l notes r to (turn.keeps {mid = mid} {first = first} {more = more} h d k) = shows_too r first more (Met-shows id l first r mid d) (KeptExpected-answers mid more (Ok tt) to k)
+Turn-shows id l notes r to (turn.keeps_not {mid = mid} {first = first} {more = more} {e = e} h d k) = unkept mid to more (first ++ more) e k
+
+Turns-show : (id : Identity) (us : List ⊤) (l : Live) (notes : List Note) (r : Result ⊤ Ending) (to : Live) → Each (OneTurn id) l us notes r to → Shows r notes
+Turns-show id [] l notes r to fold.none = shows_none (Ok tt) [] (λ h. cc) none_of_none
+Turns-show id (u ∷ us) l notes r to (fold.ends {e = e} d) = Turn-shows id l notes (Err e) to d
+Turns-show id (u ∷ us) l notes r to (fold.goes {mid = mid} {first = first} {more = more} d k) = shows_then r first more (Turn-shows id l first (Ok tt) mid d) (Turns-show id us mid more r to k)
+
+Ran-shows : (id : Identity) (n : ℕ) (l : Live) (notes : List Note) (r : Result ⊤ Ending) (to : Live) → Ran id n l notes r to → Shows r notes
+Ran-shows id n l notes r to (turn.all_turns d) = Turns-show id (replicate n tt) l notes (Ok tt) to d
+Ran-shows id n l notes r to (turn.cut {to = at} {notes = xs} {e = e} h d) = shows_too (Err e) xs (Did act.Cut ∷ []) (Turns-show id (replicate n tt) l xs (Err e) at d) (record { reads = refl; looks = refl })
+Ran-shows id n l notes r to (turn.cut_memory h d) = record { read = λ h. absurd cc; only = λ a. tt }
+Ran-shows id n l notes r to (turn.no_cut {to = at} {e = e} h d) = Turns-show id (replicate n tt) l notes (Err e) at d
+
+-- a run answers the other side's end just where it read it
+pub shows_peer_end : (id : Identity) (n : ℕ) (l : Live) (r : Result ⊤ Ending) (to : Live) (old new : Seen) → Goes old new (λ notes. Ran id n l notes r to) → Goes old new (λ notes. ShowsPeerEnd (run_end r) (acts_of notes))
+shows_peer_end id n l r to old new g = (g.0, g.1, Ran-shows id n l g.0 r to g.2)
