@@ -1,5 +1,5 @@
 -- A connection that was opened and the run on it, whatever the outside tells of them.
-use Rattle.std.proofs.Common.{ℕ, List, ap, refl, subst, sym}
+use Rattle.std.proofs.Common.{ℕ, List, subst, sym}
 use Rattle.fix_base.specs.declared.identity.Identity.{Identity}
 use Rattle.fix_base.specs.declared.act.Act.TheVariants as act
 use Rattle.fix_base.specs.EndStep.{EndState, EndStep}
