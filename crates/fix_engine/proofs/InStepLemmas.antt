@@ -170,13 +170,13 @@ run_serves n seat r to old new g start before h =
 
 -- ---- a new connection
 
-abbrev new_connection : EndState → Connection
+abbrev pub new_connection : EndState → Connection
 new_connection e = record { opened = e.end; read = []; written = []; base = length e.handled; gave = [] }
 
-abbrev opened_by : EndState → EndState
+abbrev pub opened_by : EndState → EndState
 opened_by e = record e { connection = Some (new_connection e) }
 
-fits_opened : (id : Identity) (l : Live) (t : ℕ) (e : EndState) → IsCertain l.state e → Fits id (begun l t) (opened_by e)
+pub fits_opened : (id : Identity) (l : Live) (t : ℕ) (e : EndState) → IsCertain l.state e → Fits id (begun l t) (opened_by e)
 fits_opened id l t e h = record {
   connection = new_connection e;
   on = record {
@@ -192,7 +192,7 @@ fits_opened id l t e h = record {
   counted = λ n m. elim m [ ];
 }
 
-opening : (id : Identity) (s : EndState) → s.doubt ≡ None → EndStep id s act.Opened (opened_by s)
+pub opening : (id : Identity) (s : EndState) → s.doubt ≡ None → EndStep id s act.Opened (opened_by s)
 opening id s none = record { certain = none; row = steps.opened }
 
 -- the opening of a connection is a run of a lawful end

@@ -22,6 +22,7 @@ pub mod Prefix
 pub mod RunActs
 pub mod WritingLemmas
 pub mod InStepLemmas
+pub mod ServesLemmas
 pub mod LookBackLemmas
 pub mod Shown
 pub mod Recounting

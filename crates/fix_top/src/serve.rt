@@ -2,9 +2,9 @@ ghost use Rattle.std.specs.Prelude.{◌≡◌, ◌≢◌, ◌↔◌, map, IfSome
 ghost use Rattle.fix_base.specs.End.{new_end};
 ghost use Rattle.fix_base.specs.declared.identity.Identity.{Identity as TheIdentity};
 ghost use Rattle.fix_base.specs.Session.{IsValidIdentity};
-ghost use Rattle.fix_base.specs.Seen.{Goes};
+ghost use Rattle.fix_base.specs.Seen.{acts_of, Goes};
 ghost use Rattle.fix_top.specs.Words.{IsForm, IsNoForm};
-ghost use Rattle.fix_top.specs.Serve.{Served, StatusHasCause};
+ghost use Rattle.fix_top.specs.Serve.{Served, ServedLawfully, StatusHasCause};
 
 use crate::status::{MEMORY, WORDS, status};
 use crate::words::{identity_from, read_words};
@@ -16,6 +16,7 @@ use std::alloc::Global;
 fn serve<O: Outside>(alloc: Global, identity: Identity, o: &mut O, turns: u64) -> Status
     requires { IsValidIdentity identity }
     ensures serves { Goes (O.seen o.old) (O.seen o.new) (Served identity turns result.0) }
+    ensures lawful { Goes (O.seen o.old) (O.seen o.new) (λ notes. ServedLawfully identity result.0 (acts_of notes)) }
     ensures cause { StatusHasCause result.0 (O.seen o.old).faults (O.seen o.new).faults }
     ensures words { result.0 ≢ 2 }
 {
@@ -45,6 +46,7 @@ pub fn serve_stdio<O: Outside>(alloc: Global, words: &[&str], o: &mut O, turns: 
 
     // On words that ask for a session.
     ensures serves { (id : TheIdentity) → IsForm (map (λ w. w.now) words.now) id → Goes (O.seen o.old) (O.seen o.new) (Served id turns result.0) }
+    ensures lawful { (id : TheIdentity) → IsForm (map (λ w. w.now) words.now) id → Goes (O.seen o.old) (O.seen o.new) (λ notes. ServedLawfully id result.0 (acts_of notes)) }
     ensures cause { StatusHasCause result.0 (O.seen o.old).faults (O.seen o.new).faults }
 {
     let Some(named) = read_words(words) else {
