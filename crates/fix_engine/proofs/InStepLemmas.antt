@@ -1,5 +1,5 @@
 -- A session stays in step with what is outside of it, and keeps up with its counterparty.
-use Rattle.std.proofs.Common.{◌≡◌, ◌≢◌, inl, inr, ℕ, List, [], ◌∷◌, ◌++◌, length, Option, Some, None, Result, Ok, Err, refl, sym, ap, ◌∙◌, subst, append_assoc, arith}
+use Rattle.std.proofs.Common.{◌≡◌, ◌≢◌, inl, inr, ℕ, ◌≤◌, List, [], ◌∷◌, ◌++◌, length, Option, Some, None, Result, Ok, Err, refl, sym, ap, ◌∙◌, subst, append_assoc, arith}
 use Rattle.std.specs.Prelude.{⊤, IfSome, IfNone}
 use Rattle.std.proofs.lemmas.List.{append-nil}
 use Rattle.fix_base.specs.declared.identity.Identity.{Identity}
@@ -8,6 +8,11 @@ use Rattle.fix_base.specs.declared.act.Act.TheVariants as act
 use Rattle.fix_base.specs.End.{End, new_end}
 use Rattle.fix_base.specs.EndStep as steps
 use Rattle.fix_base.specs.EndStep.{Connection, EndState, new_state, EndStep, EndRun}
+use Rattle.fix_base.specs.Lists.{IsPrefixOf}
+use Rattle.fix_base.specs.Session.{mirrored}
+use Rattle.fix_base.specs.Agrees.{Agrees}
+use Rattle.fix_base.specs.Reader.{bytes_read, ReaderKeepsUp}
+use Rattle.fix_base.specs.Payload.{LAST_TIME, IsPersistent}
 use Rattle.fix_base.specs.Seen.{Stores, grown, Note, acts_of, Seen, Moves, Goes}
 use Rattle.fix_base.proofs.SeenLemmas.{Moves-nil}
 use Rattle.fix_base.proofs.RunLemmas.{EndRun-append}
@@ -15,6 +20,7 @@ use Rattle.fix_base.proofs.ReaderLemmas.{reader}
 use Rattle.fix_base.proofs.WholeLemmas.{whole_start}
 use Rattle.fix_engine.specs.State.{Down, Ending, first_state}
 use Rattle.fix_engine.specs.declared.state.Ending.TheVariants as ending
+use Rattle.fix_engine.specs.declared.stop.RunEnd.{RunEnd}
 use Rattle.fix_engine.specs.declared.stop.RunEnd.TheVariants as run
 use Rattle.fix_engine.specs.declared.stop.StopCause.{StopCause}
 use Rattle.fix_engine.specs.declared.stop.BeginFault.{BeginFault}
@@ -23,13 +29,13 @@ use Rattle.fix_engine.specs.declared.stop.BeginFault.TheVariants as begins
 use Rattle.fix_engine.specs.Run.{Seat, no_bytes, run_end, stop_cause, stopped_for_memory, Opens, BeginsTo, opened_to, no_memory, no_memory_to_open, begun}
 use Rattle.fix_engine.specs.Lawful.{IsCertain, Fits, Leads, After, IsLawfulBegin}
 use Rattle.fix_engine.specs.InStep as step
-use Rattle.fix_engine.specs.InStep.{IsBeside, IsTape, IsStored, IsInStep, IsConnected, AreOfRun, HasServed}
+use Rattle.fix_engine.specs.InStep.{IsBeside, IsTape, IsStored, IsInStep, IsConnected, AreOfRun, HasServed, bytes_written}
 use Rattle.fix_engine.proofs.BeginLemmas.{begins_ok, begins_err}
 use Rattle.fix_engine.proofs.LeadsLemmas.{leads_nowhere, leads_step}
 use Rattle.fix_engine.proofs.ReadLemmas.{read_nothing}
 use Rattle.fix_engine.proofs.LawfulRuns.{Ran-lawful}
-use Rattle.fix_engine.proofs.WritingLemmas.{run_wrote}
-use Rattle.fix_engine.proofs.RunActs.{of_run-append, of_run_one, Ran-one}
+use Rattle.fix_engine.proofs.WritingLemmas.{run_wrote, run_persistent}
+use Rattle.fix_engine.proofs.RunActs.{of_run-append, of_run_one, Ran-plainly}
 
 -- ---- what is told
 
@@ -132,8 +138,8 @@ spent_ok (Err ending.StoreFault) e = cc
 spent_ok (Err ending.OutOfMemory) e = cc
 
 -- where all turns were made, the connection goes on
-pub run_connected : (n : ℕ) (seat : Seat) (r : Result ⊤ Ending) (to : Live) (stopped : Option StopCause) (old new : Seen) → Goes old new (λ notes. Ran seat.identity n seat.live notes r to) → run_end r ≡ run.TurnsSpent → (start : EndState) (before : List Act) → IsConnected start before old seat → IsConnected start before new (seated seat to stopped)
-run_connected n seat r to stopped old new g spent start before h =
+pub run_connected : (n : ℕ) (seat : Seat) (r : Result ⊤ Ending) (to : Live) (stopped : Option StopCause) (old new : Seen) → seat.live.state.reading ≤ LAST_TIME → Goes old new (λ notes. Ran seat.identity n seat.live notes r to) → run_end r ≡ run.TurnsSpent → (start : EndState) (before : List Act) → IsConnected start before old seat → IsConnected start before new (seated seat to stopped)
+run_connected n seat r to stopped old new small g spent start before h =
     let acts = acts_of g.0 in
     let ran : Ran seat.identity n seat.live g.0 (Ok tt) to = subst (λ (x : Result ⊤ Ending). Ran seat.identity n seat.live g.0 x to) (spent_ok r spent) g.2 in
     let l = Ran-lawful seat.identity n seat.live g.0 (Ok tt) to ran h.to h.fits in
@@ -141,7 +147,7 @@ run_connected n seat r to stopped old new g spent start before h =
       opened = h.opened;
       opens = h.opens;
       acts = h.acts ++ acts;
-      ran = of_run-append h.acts acts h.ran (Ran-one seat.identity n seat.live g.0 (Ok tt) to ran);
+      ran = of_run-append h.acts acts h.ran (Ran-plainly seat.identity n seat.live g.0 (Ok tt) to ran small);
       to = l.to;
       run = EndRun-append h.run l.run;
       fits = l.holds;
@@ -150,23 +156,30 @@ run_connected n seat r to stopped old new g spent start before h =
     }
 
 -- what it wrote is lawful, and the session keeps up with its counterparty
-pub run_serves : (n : ℕ) (seat : Seat) (r : Result ⊤ Ending) (to : Live) (old new : Seen) → Goes old new (λ notes. Ran seat.identity n seat.live notes r to) → (start : EndState) (before : List Act) (h : IsConnected start before old seat) → Goes old new (λ notes. HasServed seat.identity (run_end r) to start h.opened (h.acts ++ acts_of notes))
-run_serves n seat r to old new g start before h =
+pub run_serves : (n : ℕ) (seat : Seat) (r : Result ⊤ Ending) (to : Live) (old new : Seen) → seat.live.state.reading ≤ LAST_TIME → Goes old new (λ notes. Ran seat.identity n seat.live notes r to) → (start : EndState) (before : List Act) (h : IsConnected start before old seat) → Goes old new (λ notes. HasServed seat.identity (run_end r) to start h.opened (h.acts ++ acts_of notes))
+run_serves n seat r to old new small g start before h =
     let id = seat.identity in
     let acts = h.acts ++ acts_of g.0 in
     let l = Ran-lawful id n seat.live g.0 r to g.2 h.to h.fits in
     let run : EndRun id h.opened acts l.to = EndRun-append h.run l.run in
-    let ran : AreOfRun acts = of_run-append h.acts (acts_of g.0) h.ran (Ran-one id n seat.live g.0 r to g.2) in (
+    let ran : AreOfRun acts = of_run-append h.acts (acts_of g.0) h.ran (Ran-plainly id n seat.live g.0 r to g.2 small) in (
       g.0,
       g.1,
       record {
         to = l.to;
         run = run;
         behind = l.holds;
+        ran = ran;
+        persistent = run_persistent id start h.opened l.to acts h.opens run ran;
         wrote = run_wrote id start h.opened l.to acts h.opens run ran;
         keeps_up = λ f0 f1 p. reader id start h.opened l.to acts f0 f1 p.wrote p.persistent p.writes h.opens run (of_run_one acts ran) p.front p.stored p.running;
       },
     )
+
+-- over what another session wrote, a session keeps up with it
+pub sessions_agree : (id : Identity) (first second : RunEnd) (a b : Live) (mine theirs opened facing : EndState) (acts others : List Act) (x : HasServed id first a mine opened acts) (y : HasServed (mirrored id) second b theirs facing others) → IsPersistent theirs.end → IsPrefixOf (bytes_read acts) (bytes_written others) → Agrees mine.end.stored mine.handled theirs.end.out → Agrees mine.expected mine.handled theirs.end.out → ReaderKeepsUp theirs.end y.to.end acts x.to
+sessions_agree id first second a b mine theirs opened facing acts others x y kept front stored running =
+    x.keeps_up theirs.end y.to.end (record { wrote = bytes_written others; persistent = y.persistent kept; writes = y.wrote; front = front; stored = stored; running = running })
 
 -- ---- a new connection
 

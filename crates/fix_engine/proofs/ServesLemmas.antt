@@ -1,5 +1,5 @@
 -- A connection that was opened and the run on it, whatever the outside tells of them.
-use Rattle.std.proofs.Common.{ℕ, List, subst, sym}
+use Rattle.std.proofs.Common.{ℕ, List, subst, sym, arith}
 use Rattle.fix_base.specs.declared.identity.Identity.{Identity}
 use Rattle.fix_base.specs.declared.act.Act.TheVariants as act
 use Rattle.fix_base.specs.EndStep.{EndState, EndStep}
@@ -12,8 +12,8 @@ use Rattle.fix_engine.specs.Lawful.{IsCertain}
 use Rattle.fix_engine.specs.InStep.{HasServed}
 use Rattle.fix_engine.proofs.InStepLemmas.{opened_by, opening, fits_opened}
 use Rattle.fix_engine.proofs.LawfulRuns.{Ran-lawful}
-use Rattle.fix_engine.proofs.RunActs.{of_run_one, Ran-one}
-use Rattle.fix_engine.proofs.WritingLemmas.{run_wrote}
+use Rattle.fix_engine.proofs.RunActs.{of_run_one, Ran-plainly}
+use Rattle.fix_engine.proofs.WritingLemmas.{run_wrote, run_persistent}
 
 -- the opening of a connection is a step of an end that is in no doubt
 pub begun_opens : (id : Identity) (l : Live) (e : EndState) → IsCertain l.state e → EndStep id e act.Opened (opened_by e)
@@ -25,12 +25,14 @@ begun_serves id n l t answer to notes h start certain =
     let acts = acts_of notes in
     let open_run = opening id start certain.doubt in
     let led = Ran-lawful id n (begun l t) notes h.r to h.ran (opened_by start) (fits_opened id l t start certain) in
-    let ran = Ran-one id n (begun l t) notes h.r to h.ran in
+    let ran = Ran-plainly id n (begun l t) notes h.r to h.ran (omega arith) in
     subst (λ x. HasServed id x to start (opened_by start) acts) (sym h.answered)
     (record {
       to = led.to;
       run = led.run;
       behind = led.holds;
+      ran = ran;
+      persistent = run_persistent id start (opened_by start) led.to acts open_run led.run ran;
       wrote = run_wrote id start (opened_by start) led.to acts open_run led.run ran;
       keeps_up = λ f0 f1 p. reader id start (opened_by start) led.to acts f0 f1 p.wrote p.persistent p.writes open_run led.run (of_run_one acts ran) p.front p.stored p.running;
     })

@@ -1,7 +1,9 @@
--- What a run of an end writes on its connection may be written.
-use Rattle.std.proofs.Common.{◌≡◌, ℕ, List, [], ◌∷◌, ◌++◌, length, Some, None, refl, sym, ap, ◌∙◌, subst, append_assoc, arith}
+-- What a run of an end writes on its connection may be written, and what it keeps may be sent again.
+use Rattle.std.proofs.Common.{inl, inr, ◌≡◌, ℕ, List, [], ◌∷◌, ◌++◌, length, Some, None, refl, sym, ap, ◌∙◌, subst, append_assoc, arith}
 use Rattle.std.proofs.lemmas.List.{append-nil}
-use Rattle.fix_base.specs.Lists.{IsPrefixOf}
+use Rattle.fix_base.specs.Lists.{Among, IsPrefixOf}
+use Rattle.fix_base.specs.Payload.{IsPersistentEntry, IsPersistent}
+use Rattle.fix_base.specs.World.{IsPlainRecord}
 use Rattle.fix_base.specs.declared.identity.Identity.{Identity}
 use Rattle.fix_base.specs.declared.entry.Entry.{Entry}
 use Rattle.fix_base.specs.declared.entry.Record.{Record}
@@ -13,10 +15,10 @@ use Rattle.fix_base.specs.Wrote as wrote
 use Rattle.fix_base.specs.Wrote.{Writes, Wrote}
 use Rattle.fix_base.specs.EndStep as steps
 use Rattle.fix_base.specs.EndStep.{Connection, EndState, Row, EndStep, Move, EndRun}
-use Rattle.fix_base.proofs.ListLemmas.{some_same, prefix_refl, prefix_append, prefix_trans, length-prefix}
+use Rattle.fix_base.proofs.ListLemmas.{some_same, Among-append_cases, Among-cons_cases, prefix_refl, prefix_append, prefix_trans, length-prefix}
 use Rattle.fix_base.proofs.WroteLemmas.{IsEntry-more, AdminsBetween-more}
 use Rattle.fix_base.proofs.WholeLemmas.{whole_start, whole_wrote}
-use Rattle.fix_engine.specs.InStep.{IsNoReset, IsOfRun, AreOfRun, bytes_written}
+use Rattle.fix_engine.specs.InStep.{IsOfRun, AreOfRun, bytes_written}
 
 writes_more : {id : Identity} {out more : List Entry} {from to : ℕ} {texts : List (List ℕ)} → IsPrefixOf out more → Writes id out from texts to → Writes id more from texts to
 writes_more p wrote.done = wrote.done
@@ -31,17 +33,28 @@ wrote_more : (id : Identity) (old new more : End) (w : List ℕ) → IsPrefixOf 
 wrote_more id old new more w p h = record { grew = prefix_trans h.grew p; texts = h.texts; last = h.last; writes = writes_more p h.writes; front = h.front }
 
 -- a record that is no reset only adds to the entries
-no_reset_grows : (e : End) (r : Record) → IsNoReset r → IsPrefixOf e.out (folded e r).out
+no_reset_grows : (e : End) (r : Record) → IsPlainRecord r → IsPrefixOf e.out (folded e r).out
 no_reset_grows e (Push entry) h = prefix_append e.out (entry ∷ [])
 no_reset_grows e (Expect n) h = prefix_refl e.out
 no_reset_grows e (Reset t) h = absurd h
 
--- since the connection was opened at `old` the end has written these bytes, and no reset is in doubt
+-- with one more record the end is persistent still
+more_persistent : (e : End) (r : Record) → IsPlainRecord r → IsPersistent e → IsPersistent (folded e r)
+more_persistent e (Push entry) h p = record { each = λ x m. elim (Among-append_cases e.out (entry ∷ []) m) as (λ _. IsPersistentEntry x) [ inl a ↦ p.each x a | inr b ↦ subst IsPersistentEntry (sym (only x entry b)) h ] }
+  where
+    only : (x y : Entry) → Among x (y ∷ []) → x ≡ y
+    only x y m = elim (Among-cons_cases m) as (λ _. x ≡ y) [ inl same ↦ same | inr other ↦ elim other [ ] ]
+more_persistent e (Expect n) h p = record { each = p.each }
+more_persistent e (Reset t) h p = absurd h
+
+-- since the connection was opened at `old` the end has written these bytes; it is persistent where it was, and what is
+-- in doubt may be kept
 record HasWritten (id : Identity) (old : End) (w : List ℕ) (s : EndState) : Type 0 where
   so_far : Wrote id old s.end w
+  persistent : IsPersistent old → IsPersistent s.end
   opened : (c : Connection) → s.connection ≡ Some c → c.opened ≡ old
   written : (c : Connection) → s.connection ≡ Some c → c.written ≡ w
-  doubt : (r : Record) → s.doubt ≡ Some r → IsNoReset r
+  doubt : (r : Record) → s.doubt ≡ Some r → IsPlainRecord r
 
 -- a connection that goes on as this one
 same_opened : (old : End) (c k : Connection) → c.opened ≡ old → k.opened ≡ c.opened → (d : Connection) → Some k ≡ Some d → d.opened ≡ old
@@ -63,34 +76,35 @@ row_writes old w s s' x ran none steps.opened h = absurd ran
 row_writes {id = id} old w s s' x ran none (steps.now t) h = as_before id old w s h
 row_writes {id = id} old w s s' x ran none (steps.idle c o) h = as_before id old w s h
 row_writes {id = id} old w s s' x ran none (steps.ended c o) h = as_before id old w s h
-row_writes {id = id} old w s s' x ran none (steps.read b c o) h = as_before id old w s' (record { so_far = h.so_far; opened = same_opened old c _ (h.opened c o) refl; written = same_written w c _ (h.written c o) refl; doubt = h.doubt })
+row_writes {id = id} old w s s' x ran none (steps.read b c o) h = as_before id old w s' (record { so_far = h.so_far; persistent = h.persistent; opened = same_opened old c _ (h.opened c o) refl; written = same_written w c _ (h.written c o) refl; doubt = h.doubt })
 row_writes {id = id} old w s s' x ran none (steps.wrote b c o lawful) h =
     let bytes : c.written ++ b ≡ w ++ (b ++ []) = ap (λ v. v ++ b) (h.written c o) ∙ ap (λ v. w ++ v) (sym (append-nil b)) in
     record {
       so_far = subst (λ v. Wrote id old s.end v) bytes (subst (λ f. Wrote id f s.end (c.written ++ b)) (h.opened c o) lawful);
+      persistent = h.persistent;
       opened = same_opened old c _ (h.opened c o) refl;
       written = λ d e. subst (λ (k : Connection). k.written ≡ w ++ (b ++ [])) (some_same _ d e) bytes;
       doubt = h.doubt;
     }
-row_writes {id = id} old w s s' x ran none (steps.kept_push e) h = as_before id old w s' (record { so_far = wrote_more id old s.end s'.end w (prefix_append s.end.out (e ∷ [])) h.so_far; opened = h.opened; written = h.written; doubt = h.doubt })
-row_writes {id = id} old w s s' x ran none (steps.kept_reject e g j) h = as_before id old w s' (record { so_far = wrote_more id old s.end s'.end w (prefix_append s.end.out (e ∷ [])) h.so_far; opened = h.opened; written = h.written; doubt = h.doubt })
-row_writes {id = id} old w s s' x ran none (steps.kept_expect n k) h = as_before id old w s' (record { so_far = wrote_more id old s.end s'.end w (prefix_refl s.end.out) h.so_far; opened = h.opened; written = h.written; doubt = h.doubt })
+row_writes {id = id} old w s s' x ran none (steps.kept_push e) h = as_before id old w s' (record { so_far = wrote_more id old s.end s'.end w (prefix_append s.end.out (e ∷ [])) h.so_far; persistent = λ p. more_persistent s.end (Push e) ran (h.persistent p); opened = h.opened; written = h.written; doubt = h.doubt })
+row_writes {id = id} old w s s' x ran none (steps.kept_reject e g j) h = as_before id old w s' (record { so_far = wrote_more id old s.end s'.end w (prefix_append s.end.out (e ∷ [])) h.so_far; persistent = λ p. more_persistent s.end (Push e) ran (h.persistent p); opened = h.opened; written = h.written; doubt = h.doubt })
+row_writes {id = id} old w s s' x ran none (steps.kept_expect n k) h = as_before id old w s' (record { so_far = wrote_more id old s.end s'.end w (prefix_refl s.end.out) h.so_far; persistent = λ p. more_persistent s.end (Expect n) tt (h.persistent p); opened = h.opened; written = h.written; doubt = h.doubt })
 row_writes old w s s' x ran none (steps.kept_reset t) h = absurd ran
-row_writes {id = id} old w s s' x ran none (steps.handed c n marked body may) h = as_before id old w s' (record { so_far = h.so_far; opened = same_opened old c _ (h.opened c may.is_open) refl; written = same_written w c _ (h.written c may.is_open) refl; doubt = h.doubt })
-row_writes {id = id} old w s s' x ran none (steps.hand_lost c n marked body may) h = as_before id old w s' (record { so_far = h.so_far; opened = λ d e. cc; written = λ d e. cc; doubt = h.doubt })
-row_writes {id = id} old w s s' x ran none (steps.lost_push e) h = as_before id old w s' (record { so_far = h.so_far; opened = λ d k. cc; written = λ d k. cc; doubt = λ r k. subst IsNoReset (some_same _ r k) ran })
-row_writes {id = id} old w s s' x ran none (steps.lost_expect n k) h = as_before id old w s' (record { so_far = h.so_far; opened = λ d e. cc; written = λ d e. cc; doubt = λ r e. subst IsNoReset (some_same _ r e) ran })
+row_writes {id = id} old w s s' x ran none (steps.handed c n marked body may) h = as_before id old w s' (record { so_far = h.so_far; persistent = h.persistent; opened = same_opened old c _ (h.opened c may.is_open) refl; written = same_written w c _ (h.written c may.is_open) refl; doubt = h.doubt })
+row_writes {id = id} old w s s' x ran none (steps.hand_lost c n marked body may) h = as_before id old w s' (record { so_far = h.so_far; persistent = h.persistent; opened = λ d e. cc; written = λ d e. cc; doubt = h.doubt })
+row_writes {id = id} old w s s' x ran none (steps.lost_push e) h = as_before id old w s' (record { so_far = h.so_far; persistent = h.persistent; opened = λ d k. cc; written = λ d k. cc; doubt = λ r k. subst IsPlainRecord (some_same _ r k) ran })
+row_writes {id = id} old w s s' x ran none (steps.lost_expect n k) h = as_before id old w s' (record { so_far = h.so_far; persistent = h.persistent; opened = λ d e. cc; written = λ d e. cc; doubt = λ r e. subst IsPlainRecord (some_same _ r e) ran })
 row_writes old w s s' x ran none (steps.lost_reset t) h = absurd ran
-row_writes {id = id} old w s s' x ran none steps.cut h = as_before id old w s' (record { so_far = h.so_far; opened = λ d e. cc; written = λ d e. cc; doubt = h.doubt })
+row_writes {id = id} old w s s' x ran none steps.cut h = as_before id old w s' (record { so_far = h.so_far; persistent = h.persistent; opened = λ d e. cc; written = λ d e. cc; doubt = h.doubt })
 row_writes old w s s' x ran none steps.stopped h = absurd ran
 
 move_writes : (id : Identity) (old : End) (w : List ℕ) (s s' : EndState) → Move s s' → HasWritten id old w s → HasWritten id old w s'
-move_writes id old w s s' (steps.settles_without q e) h = record { so_far = h.so_far; opened = h.opened; written = h.written; doubt = λ r k. cc }
-move_writes id old w s s' (steps.settles_with q e) h = record { so_far = wrote_more id old s.end s'.end w (no_reset_grows s.end q (h.doubt q e)) h.so_far; opened = h.opened; written = h.written; doubt = λ r k. cc }
-move_writes id old w s s' (steps.past_admin c x o read at) h = record { so_far = h.so_far; opened = h.opened; written = h.written; doubt = h.doubt }
-move_writes id old w s s' (steps.past_app c n marked body o read at grew) h = record { so_far = h.so_far; opened = h.opened; written = h.written; doubt = h.doubt }
-move_writes id old w s s' (steps.past_gap c n m o read at lt) h = record { so_far = h.so_far; opened = h.opened; written = h.written; doubt = h.doubt }
-move_writes id old w s s' (steps.reset_to c n m o read le) h = record { so_far = h.so_far; opened = h.opened; written = h.written; doubt = h.doubt }
+move_writes id old w s s' (steps.settles_without q e) h = record { so_far = h.so_far; persistent = h.persistent; opened = h.opened; written = h.written; doubt = λ r k. cc }
+move_writes id old w s s' (steps.settles_with q e) h = record { so_far = wrote_more id old s.end s'.end w (no_reset_grows s.end q (h.doubt q e)) h.so_far; persistent = λ p. more_persistent s.end q (h.doubt q e) (h.persistent p); opened = h.opened; written = h.written; doubt = λ r k. cc }
+move_writes id old w s s' (steps.past_admin c x o read at) h = record { so_far = h.so_far; persistent = h.persistent; opened = h.opened; written = h.written; doubt = h.doubt }
+move_writes id old w s s' (steps.past_app c n marked body o read at grew) h = record { so_far = h.so_far; persistent = h.persistent; opened = h.opened; written = h.written; doubt = h.doubt }
+move_writes id old w s s' (steps.past_gap c n m o read at lt) h = record { so_far = h.so_far; persistent = h.persistent; opened = h.opened; written = h.written; doubt = h.doubt }
+move_writes id old w s s' (steps.reset_to c n m o read le) h = record { so_far = h.so_far; persistent = h.persistent; opened = h.opened; written = h.written; doubt = h.doubt }
 
 written-cons : (x : Act) (acts : List Act) → bytes_written (x ∷ acts) ≡ bytes_written (x ∷ []) ++ bytes_written acts
 written-cons (act.Wrote b) acts = ap (λ v. v ++ bytes_written acts) (sym (append-nil b))
@@ -115,12 +129,16 @@ run_writes {id = id} old w {s = s} {s' = s'} (steps.step {mid = mid} {a = x} {ac
 
 just_opened : {id : Identity} (s s' : EndState) → s.doubt ≡ None → Row id s act.Opened s' → HasWritten id s.end [] s'
 just_opened {id = id} s s' none steps.opened = record {
+  persistent = λ p. p;
   so_far = whole_wrote id s.end s.end (length s.end.out) [] (whole_start id s.end);
   opened = λ d e. ap (λ (k : Connection). k.opened) (sym (some_same _ d e));
   written = λ d e. ap (λ (k : Connection). k.written) (sym (some_same _ d e));
   doubt = λ r e. cc;
 }
 
--- what is written from the opening on
+-- from the opening on
 pub run_wrote : (id : Identity) (start opened to : EndState) (acts : List Act) → EndStep id start act.Opened opened → EndRun id opened acts to → AreOfRun acts → Wrote id start.end to.end (bytes_written acts)
 run_wrote id start opened to acts step d ran = (run_writes start.end [] d ran (just_opened start opened step.certain step.row)).so_far
+
+pub run_persistent : (id : Identity) (start opened to : EndState) (acts : List Act) → EndStep id start act.Opened opened → EndRun id opened acts to → AreOfRun acts → IsPersistent start.end → IsPersistent to.end
+run_persistent id start opened to acts step d ran = (run_writes start.end [] d ran (just_opened start opened step.certain step.row)).persistent

@@ -3,8 +3,6 @@ use Rattle.std.specs.Prelude.{◌≡◌, ℕ, List, [], ◌∷◌, ◌++◌, IfS
 use Rattle.fix_base.specs.Lists.{IsPrefixOf}
 use Rattle.fix_base.specs.declared.identity.Identity.{Identity}
 use Rattle.fix_base.specs.Session.{mirrored}
-use Rattle.fix_base.specs.declared.entry.Record.{Record}
-use Rattle.fix_base.specs.declared.entry.Record.TheVariants.{Push, Expect, Reset}
 use Rattle.fix_base.specs.declared.act.Act.{Act}
 use Rattle.fix_base.specs.declared.act.Act.TheVariants as act
 use Rattle.fix_base.specs.End.{End}
@@ -13,6 +11,7 @@ use Rattle.fix_base.specs.Wrote.{Wrote}
 use Rattle.fix_base.specs.EndStep.{EndState, EndStep, EndRun}
 use Rattle.fix_base.specs.Agrees.{Agrees}
 use Rattle.fix_base.specs.Reader.{bytes_read, ReaderKeepsUp}
+use Rattle.fix_base.specs.World.{IsPlainRecord}
 use Rattle.fix_base.specs.Seen.{Seen}
 use Rattle.fix_engine.specs.State.{Down}
 use Rattle.fix_engine.specs.Turn.{Live}
@@ -44,13 +43,8 @@ pub record IsInStep (start : EndState) (before : List Act) (w : Seen) (seat : Se
   pub tape : IsTape w (before ++ acts)
   pub stored : IsStored w to.end
 
--- no record of a reset
-abbrev pub IsNoReset : Record → Type 0
-IsNoReset (Push e) = Unit {0}
-IsNoReset (Expect n) = Unit {0}
-IsNoReset (Reset t) = ⊥
-
--- an act of a run: no connection is opened, no store is reset, and the process goes on
+-- an act of a run: no connection is opened, no store is reset, what is kept may be sent again, and the process goes
+-- on
 abbrev pub IsOfRun : Act → Type 0
 IsOfRun act.Opened = ⊥
 IsOfRun (act.Now t) = Unit {0}
@@ -58,8 +52,8 @@ IsOfRun (act.Read b) = Unit {0}
 IsOfRun act.Idle = Unit {0}
 IsOfRun act.Ended = Unit {0}
 IsOfRun (act.Wrote b) = Unit {0}
-IsOfRun (act.Kept r) = IsNoReset r
-IsOfRun (act.KeepLost r) = IsNoReset r
+IsOfRun (act.Kept r) = IsPlainRecord r
+IsOfRun (act.KeepLost r) = IsPlainRecord r
 IsOfRun (act.Handed n marked body) = Unit {0}
 IsOfRun (act.HandLost n marked body) = Unit {0}
 IsOfRun act.Cut = Unit {0}
@@ -108,11 +102,13 @@ bytes_written (act.Cut ∷ acts) = bytes_written acts
 bytes_written (act.Stop ∷ acts) = bytes_written acts
 
 -- these acts on a connection led to an end behind this answer. What they wrote may be written between the opening and
--- now, and the end keeps up with its counterparty: what was handed over, each number once, are the first messages that
+-- now, all messages are still kept to be sent again, and the end keeps up with its counterparty: what was handed over, each number once, are the first messages that
 -- the counterparty stored, and each message that the counterparty had before the connection came marked
 pub record HasServed (id : Identity) (answer : RunEnd) (live : Live) (start opened : EndState) (acts : List Act) : Type 0 where
   pub to : EndState
   pub run : EndRun id opened acts to
   pub behind : After id answer live to
+  pub ran : AreOfRun acts
   pub wrote : Wrote id start.end to.end (bytes_written acts)
+  pub persistent : IsPersistent start.end → IsPersistent to.end
   pub keeps_up : (f0 f1 : End) → ReadsFrom id start acts f0 f1 → ReaderKeepsUp f0 f1 acts to

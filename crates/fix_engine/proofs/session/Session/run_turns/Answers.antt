@@ -44,10 +44,11 @@ returns-clause-in_step g c =
     rw (← c.self.view_is, c.in_default.is, c.stop_of-self-inside.ensures, c.answer_of-answer.ensures) (run_in_step _ _ _ _ _ _ (rw (← c.self.view_is, c.in_default.is) at c.requires) h)
 
 pub returns-clause-connected : goal.returns-clause-connected
-returns-clause-connected g c = rw (← c.self.view_is, c.answer_of-answer.ensures) (run_connected _ _ _ _ _ _ _ c.run_and_cut-ran.ensures.notes)
+returns-clause-connected g c = rw (← c.self.view_is, c.answer_of-answer.ensures) (run_connected _ _ _ _ _ _ _ c.self.invariant.1.reading c.run_and_cut-ran.ensures.notes)
 
 pub returns-clause-headline : goal.returns-clause-headline
-returns-clause-headline g c = rw (← c.self.view_is, c.in_default.is, c.answer_of-answer.ensures) (run_serves _ _ _ _ _ _ c.run_and_cut-ran.ensures.notes)
+returns-clause-headline g c = rw (← c.self.view_is, c.in_default.is, c.answer_of-answer.ensures) (run_serves _ _ _ _ _ _ c.self.invariant.1.reading c.run_and_cut-ran.ensures.notes)
+
 pub returns-clause-peer_end : goal.returns-clause-peer_end
 returns-clause-peer_end g c =
     rw (← c.self.view_is, c.in_default.is, c.answer_of-answer.ensures) (shows_peer_end _ _ _ _ _ _ _ c.run_and_cut-ran.ensures.notes)
