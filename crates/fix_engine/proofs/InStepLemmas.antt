@@ -8,7 +8,11 @@ use Rattle.fix_base.specs.declared.act.Act.TheVariants as act
 use Rattle.fix_base.specs.End.{End, new_end}
 use Rattle.fix_base.specs.EndStep as steps
 use Rattle.fix_base.specs.EndStep.{Connection, EndState, new_state, EndStep, EndRun}
-use Rattle.fix_base.specs.Payload.{LAST_TIME}
+use Rattle.fix_base.specs.Lists.{IsPrefixOf}
+use Rattle.fix_base.specs.Session.{mirrored}
+use Rattle.fix_base.specs.Agrees.{Agrees}
+use Rattle.fix_base.specs.Reader.{bytes_read, ReaderKeepsUp}
+use Rattle.fix_base.specs.Payload.{LAST_TIME, IsPersistent}
 use Rattle.fix_base.specs.Seen.{Stores, grown, Note, acts_of, Seen, Moves, Goes}
 use Rattle.fix_base.proofs.SeenLemmas.{Moves-nil}
 use Rattle.fix_base.proofs.RunLemmas.{EndRun-append}
@@ -16,6 +20,7 @@ use Rattle.fix_base.proofs.ReaderLemmas.{reader}
 use Rattle.fix_base.proofs.WholeLemmas.{whole_start}
 use Rattle.fix_engine.specs.State.{Down, Ending, first_state}
 use Rattle.fix_engine.specs.declared.state.Ending.TheVariants as ending
+use Rattle.fix_engine.specs.declared.stop.RunEnd.{RunEnd}
 use Rattle.fix_engine.specs.declared.stop.RunEnd.TheVariants as run
 use Rattle.fix_engine.specs.declared.stop.StopCause.{StopCause}
 use Rattle.fix_engine.specs.declared.stop.BeginFault.{BeginFault}
@@ -24,7 +29,7 @@ use Rattle.fix_engine.specs.declared.stop.BeginFault.TheVariants as begins
 use Rattle.fix_engine.specs.Run.{Seat, no_bytes, run_end, stop_cause, stopped_for_memory, Opens, BeginsTo, opened_to, no_memory, no_memory_to_open, begun}
 use Rattle.fix_engine.specs.Lawful.{IsCertain, Fits, Leads, After, IsLawfulBegin}
 use Rattle.fix_engine.specs.InStep as step
-use Rattle.fix_engine.specs.InStep.{IsBeside, IsTape, IsStored, IsInStep, IsConnected, AreOfRun, HasServed}
+use Rattle.fix_engine.specs.InStep.{IsBeside, IsTape, IsStored, IsInStep, IsConnected, AreOfRun, HasServed, bytes_written}
 use Rattle.fix_engine.proofs.BeginLemmas.{begins_ok, begins_err}
 use Rattle.fix_engine.proofs.LeadsLemmas.{leads_nowhere, leads_step}
 use Rattle.fix_engine.proofs.ReadLemmas.{read_nothing}
@@ -170,6 +175,11 @@ run_serves n seat r to old new small g start before h =
         keeps_up = λ f0 f1 p. reader id start h.opened l.to acts f0 f1 p.wrote p.persistent p.writes h.opens run (of_run_one acts ran) p.front p.stored p.running;
       },
     )
+
+-- over what another session wrote, a session keeps up with it
+pub sessions_agree : (id : Identity) (first second : RunEnd) (a b : Live) (mine theirs opened facing : EndState) (acts others : List Act) (x : HasServed id first a mine opened acts) (y : HasServed (mirrored id) second b theirs facing others) → IsPersistent theirs.end → IsPrefixOf (bytes_read acts) (bytes_written others) → Agrees mine.end.stored mine.handled theirs.end.out → Agrees mine.expected mine.handled theirs.end.out → ReaderKeepsUp theirs.end y.to.end acts x.to
+sessions_agree id first second a b mine theirs opened facing acts others x y kept front stored running =
+    x.keeps_up theirs.end y.to.end (record { wrote = bytes_written others; persistent = y.persistent kept; writes = y.wrote; front = front; stored = stored; running = running })
 
 -- ---- a new connection
 

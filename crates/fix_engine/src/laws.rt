@@ -1,17 +1,35 @@
 //! What holds of a session whatever it is called with, each law on a function that does nothing.
 ghost use Rattle.std.specs.Prelude.{List, None};
+ghost use Rattle.fix_base.specs.Lists.{IsPrefixOf};
+ghost use Rattle.fix_base.specs.Session.{mirrored};
+ghost use Rattle.fix_base.specs.Payload.{IsPersistent};
 ghost use Rattle.fix_base.specs.End.{new_end};
-ghost use Rattle.fix_base.specs.EndStep.{new_state};
+ghost use Rattle.fix_base.specs.EndStep.{EndState, new_state};
+ghost use Rattle.fix_base.specs.Agrees.{Agrees};
+ghost use Rattle.fix_base.specs.Reader.{bytes_read, ReaderKeepsUp};
 ghost use Rattle.fix_base.specs.Seen.{Seen};
 ghost use Rattle.fix_engine.specs.State.{first_state};
-ghost use Rattle.fix_engine.specs.Turn.{live};
+ghost use Rattle.fix_engine.specs.Turn.{Live, live};
 ghost use Rattle.fix_engine.specs.Run.{no_bytes};
-ghost use Rattle.fix_engine.specs.InStep.{IsTape, IsStored, IsInStep};
+ghost use Rattle.fix_engine.specs.InStep.{IsTape, IsStored, IsInStep, HasServed, bytes_written};
 
+use crate::RunEnd;
 use fix_base::{Act, Identity};
 
 /// A session that was just opened is in step with an outside that stores nothing, whatever acts
 /// its tape has already.
 pub fn a_new_session_is_in_step()
     ensures { (id : Identity) (w : Seen) (before : List Act) → IsTape w before → IsStored w new_end → IsInStep new_state before w (record { identity = id; live = live first_state no_bytes; stopped = None }) }
+{}
+
+/// Where both ends of a connection are sessions of this engine, and what the one read is a front of
+/// what the other wrote, the one keeps up with the other: what it handed over, each MsgSeqNum (34)
+/// once, are the first messages that the other stored. This is said of ends that agreed at the
+/// opening of the connection, of which the other keeps its messages to be sent again; it holds the
+/// other way round too.
+pub fn two_sessions_agree()
+    ensures { (id : Identity) (first second : RunEnd) (a b : Live) (mine theirs opened facing : EndState) (acts others : List Act) →
+        (x : HasServed id first a mine opened acts) (y : HasServed (mirrored id) second b theirs facing others) →
+        IsPersistent theirs.end → IsPrefixOf (bytes_read acts) (bytes_written others) →
+        Agrees mine.end.stored mine.handled theirs.end.out → Agrees mine.expected mine.handled theirs.end.out → ReaderKeepsUp theirs.end y.to.end acts x.to }
 {}

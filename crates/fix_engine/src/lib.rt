@@ -18,7 +18,7 @@ mod stop;
 mod turn;
 mod writing;
 
-pub use laws::a_new_session_is_in_step;
+pub use laws::{a_new_session_is_in_step, two_sessions_agree};
 pub use outside::{KeepFault, Outside};
 pub use plain::Plain;
 pub use session::Session;

@@ -189,10 +189,10 @@ impl Session {
         ensures in_step { IfNone self.new.stopped ((start : EndState) (before : List Act) → IsInStep start before (O.seen o.old) self.old → IsInStep start before (O.seen o.new) self.new) }
         ensures connected { result ≡ RunEnd.TurnsSpent → (start : EndState) (before : List Act) → IsConnected start before (O.seen o.old) self.old → IsConnected start before (O.seen o.new) self.new }
 
-        // What it wrote on the connection may be written; and over what a counterparty wrote that keeps its
-        // messages, the session keeps up with it, whatever this answers: what it handed over, each number
-        // once, are the first messages that the counterparty stored, none is left out, and each that the
-        // counterparty stored before the connection comes marked.
+        // What it wrote on the connection may be written, and what it keeps may be sent again. Over what
+        // a counterparty wrote that keeps its messages the session keeps up with it, whatever this answers:
+        // what it handed over, each number once, are the first messages that the counterparty stored, none
+        // is left out, and each that the counterparty stored before the connection comes marked.
         ensures headline { IfNone self.old.stopped ((start : EndState) (before : List Act) (h : IsConnected start before (O.seen o.old) self.old) → Goes (O.seen o.old) (O.seen o.new) (λ notes. HasServed self.old.identity result self.new.live start h.opened (h.acts ++ acts_of notes))) }
     {
         if let Some(cause) = self.stopped {
