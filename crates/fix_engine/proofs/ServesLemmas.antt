@@ -7,7 +7,7 @@ use Rattle.fix_base.specs.Seen.{Note, acts_of}
 use Rattle.fix_base.proofs.ReaderLemmas.{reader}
 use Rattle.fix_engine.specs.declared.stop.RunEnd.{RunEnd}
 use Rattle.fix_engine.specs.Turn.{Live}
-use Rattle.fix_engine.specs.Run.{run_end, RanTo, begun}
+use Rattle.fix_engine.specs.Run.{RanTo, begun}
 use Rattle.fix_engine.specs.Lawful.{IsCertain}
 use Rattle.fix_engine.specs.InStep.{HasServed}
 use Rattle.fix_engine.proofs.InStepLemmas.{opened_by, opening, fits_opened}

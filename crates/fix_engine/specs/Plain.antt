@@ -1,6 +1,6 @@
 -- What is seen of an outside whose message store is a list in memory, and what keeping a record does to
 -- that store.
-use Rattle.std.specs.Prelude.{◌≡◌, ℕ, ◌+◌, ◌<◌, min, List, [], length, vec_len, vec_capacity, Option, Some, Contains, Result, Ok, Err}
+use Rattle.std.specs.Prelude.{◌≡◌, ℕ, ◌+◌, ◌<◌, min, List, length, vec_len, vec_capacity, Option, Some, Contains, Result, Ok, Err}
 use Rattle.fix_base.specs.declared.entry.Record.{Record}
 use Rattle.fix_base.specs.End.{End, new_end, folded}
 use Rattle.fix_base.specs.declared.act.Act.{Act}
