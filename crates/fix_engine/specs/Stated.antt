@@ -24,13 +24,13 @@ pub record GoesOn {S : Type 0} (R : S → List Note → Result ⊤ Ending → S 
   pub whole : R s (notes ++ more) r to
   pub no_want : r ≢ Err ending.OutOfMemory
 
--- there can't be none: A holds, though no value of it is computed
+-- that there is no A is refuted. Classically this is A; it computes none
 abbrev pub CanNotFail : Type 0 → Type 0
 CanNotFail A = (A → ⊥) → ⊥
 
 -- No part failed, and the notes, the answer and what is behind them are those of a run; or memory was refused,
--- and the notes are the front of those of a run that another answer ends. The bytes that the rest of that run
--- would have looked at were not looked at, so it is said to be there, and not which it is.
+-- and the notes are the front of those of a run that another answer ends. That run would have looked at bytes that
+-- nobody looked at, so it is said that there is one, and not which.
 abbrev pub IsAsStated : Identity → ℕ → Live → RunEnd → Live → List Note → Type 0
 IsAsStated id n l answer to notes =
     IsFaultless notes × (((answer ≢ run.OutOfMemory) × RanTo id n l answer to notes) ⊎ ((answer ≡ run.OutOfMemory) × CanNotFail (GoesOn (Ran id n) l notes)))
