@@ -14,7 +14,6 @@ use Rattle.fix_base.proofs.SeenLemmas.{acts_of-append}
 use Rattle.fix_frame.specs.Given.{GivesFrame}
 use Rattle.fix_engine.specs.State.{State, Ending, with_kept, with_reading}
 use Rattle.fix_engine.specs.declared.state.Ending.TheVariants as ending
-use Rattle.fix_engine.specs.declared.stop.RunEnd.TheVariants as run
 use Rattle.fix_engine.specs.Fold as fold
 use Rattle.fix_engine.specs.Fold.{Each, AndThen, first_ends, both}
 use Rattle.fix_engine.specs.Answer.{Handled}
@@ -24,6 +23,7 @@ use Rattle.fix_engine.specs.Run.{run_end}
 use Rattle.fix_engine.specs.LookBack.{last_sent, last_kept, last_reading, state_at, AreFramesTo, AreAll, StandsAt, Calls, reads, idles, is_over, looks, keeps, loses, cuts, fails, Closes, nothing_more, keeps_it, loses_it, cuts_off, Recounts, done, calls, answers, ends, IsShown, LooksBack}
 use Rattle.fix_engine.proofs.LookBackLemmas.{last_sent-append, last_kept-append, last_reading-append, bytes_read-append, same_state, behind_frame, next_frame, no_frame, more_bytes}
 use Rattle.fix_engine.proofs.Shown.{shown_behind, shown_before, frame_shown}
+use Rattle.fix_engine.proofs.Turns.{never_spent}
 
 -- the state behind one act more
 state_more : (start : State) (answered : List (List ℕ)) (acts more : List Act) (s : State) → s.phase ≡ (state_at start answered acts).phase → s.expected ≡ (state_at start answered acts).expected → s.kept ≡ last_kept (last_kept start.kept acts) more → s.last ≡ last_sent (last_sent start.last acts) more → s.reading ≡ last_reading (last_reading start.reading acts) more → s ≡ state_at start answered (acts ++ more)
@@ -276,15 +276,6 @@ module _ (id : Identity) (start : State) where
       then_why answered acts first more e mid to w (Turns-why us w.now w.behind mid more e to w.stands k)
 
   -- ---- a run
-
-  never_spent : (e : Ending) → run_end (Err e) ≡ run.TurnsSpent → ⊥
-  never_spent (ending.Closed why) h = cc
-  never_spent (ending.NotBuilt n) h = cc
-  never_spent ending.StoreFault h = cc
-  never_spent ending.LinkFault h = cc
-  never_spent ending.AppFault h = cc
-  never_spent ending.NumbersSpent h = cc
-  never_spent ending.OutOfMemory h = cc
 
   -- it ended, and nothing came behind
   closed : (answered : List (List ℕ)) (acts : List Act) (notes : List Note) (to : Live) (w : Ended answered acts notes to) → Recounts id start answered acts notes w.now

@@ -113,7 +113,8 @@ before_look ending.AppFault = omega arith
 before_look ending.NumbersSpent = omega arith
 before_look ending.OutOfMemory = omega arith
 
-never_spent : (e : Ending) → run_end (Err e) ≡ run.TurnsSpent → ⊥
+-- only a run that made all its turns answers so
+pub never_spent : (e : Ending) → run_end (Err e) ≡ run.TurnsSpent → ⊥
 never_spent (ending.Closed why) h = cc
 never_spent (ending.NotBuilt n) h = cc
 never_spent ending.StoreFault h = cc
