@@ -14,6 +14,8 @@ pub mod Says
 pub mod End
 pub mod Payload
 pub mod Act
+pub mod Line
+pub mod Parts
 pub mod Wrote
 pub mod EndStep
 pub mod Agrees

@@ -1,7 +1,8 @@
--- What is seen from outside of the parts that an engine calls: the tape of its acts, the stored end, and
--- how often each part failed.
+-- What is seen from outside of the parts that an engine calls: the tape of its acts, the stored end, how
+-- often each part failed, and what the parts have yet to give and were given.
 use Rattle.std.specs.Prelude.{◌≡◌, ◌⊎◌, ℕ, suc, ◌+◌, ◌≤◌, min, List, [], ◌∷◌, ◌++◌, Option, Some, None}
 use Rattle.fix_base.specs.End.{Record, End, folded}
+use Rattle.fix_base.specs.Parts.{Parts, ActMoves, HasNoRoom}
 use Rattle.fix_base.specs.Act.{Act, Opened, Now, Read, Idle, Ended, Wrote, Kept, KeepLost, Handed, HandLost, Cut, Stop}
 
 abbrev pub option_folded : Option End → Record → Option End
@@ -41,7 +42,8 @@ pub record Faults : Type 0 where
 -- what an outside may fail at
 pub data Part : Type 0 where
   StorePart : Part
-  LinkPart : Part
+  -- so many bytes of a write didn't go out; 0 for a read
+  LinkPart : (unsent : ℕ) → Part
   AppPart : Part
 
 -- one thing that came of a call: an act, or that a part failed
@@ -60,21 +62,21 @@ abbrev pub store_failures : List Note → ℕ
 store_failures [] = 0
 store_failures (Did act ∷ notes) = store_failures notes
 store_failures (Failed StorePart ∷ notes) = suc (store_failures notes)
-store_failures (Failed LinkPart ∷ notes) = store_failures notes
+store_failures (Failed (LinkPart unsent) ∷ notes) = store_failures notes
 store_failures (Failed AppPart ∷ notes) = store_failures notes
 
 abbrev pub link_failures : List Note → ℕ
 link_failures [] = 0
 link_failures (Did act ∷ notes) = link_failures notes
 link_failures (Failed StorePart ∷ notes) = link_failures notes
-link_failures (Failed LinkPart ∷ notes) = suc (link_failures notes)
+link_failures (Failed (LinkPart unsent) ∷ notes) = suc (link_failures notes)
 link_failures (Failed AppPart ∷ notes) = link_failures notes
 
 abbrev pub app_failures : List Note → ℕ
 app_failures [] = 0
 app_failures (Did act ∷ notes) = app_failures notes
 app_failures (Failed StorePart ∷ notes) = app_failures notes
-app_failures (Failed LinkPart ∷ notes) = app_failures notes
+app_failures (Failed (LinkPart unsent) ∷ notes) = app_failures notes
 app_failures (Failed AppPart ∷ notes) = suc (app_failures notes)
 
 -- the last value of a count
@@ -97,17 +99,31 @@ pub record NoneRose (old new : Faults) : Type 0 where
   pub link : Rises 1 old.link new.link → ⊥
   pub app : Rises 1 old.app new.app → ⊥
 
+-- what one thing that came of a call does to what the parts tell
+abbrev pub NoteMoves : Note → Parts → Parts → Type 0
+NoteMoves (Did act) old new = ActMoves act old new
+NoteMoves (Failed StorePart) old new = new ≡ old
+NoteMoves (Failed (LinkPart unsent)) old new = HasNoRoom unsent old.link_room × (new ≡ old)
+NoteMoves (Failed AppPart) old new = new ≡ old
+
+-- the same of several, one after another
+abbrev pub Follows : List Note → Parts → Parts → Type 0
+Follows [] old new = new ≡ old
+Follows (note ∷ notes) old new = (mid : Parts) × NoteMoves note old mid × Follows notes mid new
+
 -- what is seen from outside of an Outside
 pub record Seen : Type 0 where
   pub tape : Option (List Act)
   pub stored : Option End
   pub faults : Faults
+  pub parts : Parts
 
 -- this came of some calls, and nothing else
 pub record Moves (old new : Seen) (notes : List Note) : Type 0 where
   pub tape : new.tape ≡ grown old.tape (acts_of notes)
   pub stored : Stores (acts_of notes) old.stored new.stored
   pub faults : Counts old.faults new.faults notes
+  pub parts : Follows notes old.parts new.parts
 
 -- these notes came of the calls between two moments, and they have P
 abbrev pub Goes : Seen → Seen → (List Note → Type 0) → Type 0

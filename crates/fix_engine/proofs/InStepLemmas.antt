@@ -5,6 +5,7 @@ use Rattle.std.proofs.lemmas.List.{append-nil}
 use Rattle.fix_base.specs.declared.identity.Identity.{Identity}
 use Rattle.fix_base.specs.declared.act.Act.{Act}
 use Rattle.fix_base.specs.declared.act.Act.TheVariants as act
+use Rattle.fix_base.specs.declared.entry.Record.{Record}
 use Rattle.fix_base.specs.End.{End, new_end}
 use Rattle.fix_base.specs.EndStep as steps
 use Rattle.fix_base.specs.EndStep.{Connection, EndState, new_state, EndStep, EndRun}
@@ -27,11 +28,11 @@ use Rattle.fix_engine.specs.declared.stop.BeginFault.{BeginFault}
 use Rattle.fix_engine.specs.Turn.{Live, live, Ran}
 use Rattle.fix_engine.specs.declared.stop.BeginFault.TheVariants as begins
 use Rattle.fix_engine.specs.Run.{Seat, no_bytes, run_end, stop_cause, stopped_for_memory, Opens, BeginsTo, opened_to, no_memory, no_memory_to_open, begun}
-use Rattle.fix_engine.specs.Lawful.{IsCertain, Fits, Leads, After, IsLawfulBegin}
+use Rattle.fix_engine.specs.Lawful.{IsCertain, MayHold, Fits, Leads, After, IsLawfulBegin}
 use Rattle.fix_engine.specs.InStep as step
 use Rattle.fix_engine.specs.InStep.{IsBeside, IsTape, IsStored, IsInStep, IsConnected, AreOfRun, HasServed, bytes_written}
 use Rattle.fix_engine.proofs.BeginLemmas.{begins_ok, begins_err}
-use Rattle.fix_engine.proofs.LeadsLemmas.{leads_nowhere, leads_step}
+use Rattle.fix_engine.proofs.LeadsLemmas.{leads_nowhere, leads_step, holds_end, Stores-split}
 use Rattle.fix_engine.proofs.ReadLemmas.{read_nothing}
 use Rattle.fix_engine.proofs.LawfulRuns.{Ran-lawful}
 use Rattle.fix_engine.proofs.WritingLemmas.{run_wrote, run_persistent}
@@ -60,10 +61,22 @@ untold (act.HandLost n marked body ∷ acts) o s = untold acts o (subst (λ m. S
 untold (act.Cut ∷ acts) o s = untold acts o (subst (λ m. Stores acts m o) s.1 s.2)
 untold (act.Stop ∷ acts) o s = untold acts o (subst (λ m. Stores acts m o) s.1 s.2)
 
+-- what each store that held the end holds behind the acts, a store that is told holds
+pub told_holds : (o o' : Option End) (acts : List Act) (from : End) (P : Option End → Type 0) → Stores acts o o' → ((held : Option End) → Stores acts (Some from) held → P held) → IfSome o (λ held. held ≡ from) → IfSome o' (λ held. P (Some held))
+told_holds None o' acts from P s follows h = subst (λ x. IfSome x (λ held. P (Some held))) (sym (untold acts o' s)) tt
+told_holds (Some old) None acts from P s follows h = tt
+told_holds (Some old) (Some new) acts from P s follows h = follows (Some new) (subst (λ f. Stores acts (Some f) (Some new)) h s)
+
 -- a store that held the end holds the one behind the acts
 store_moves : (o o' : Option End) (acts : List Act) (from to : End) → Stores acts o o' → ((held : Option End) → Stores acts (Some from) held → held ≡ Some to) → IfSome o (λ held. held ≡ from) → IfSome o' (λ held. held ≡ to)
 store_moves None o' acts from to s follows h = subst (λ x. IfSome x (λ held. held ≡ to)) (sym (untold acts o' s)) tt
 store_moves (Some old) o' acts from to s follows h = subst (λ x. IfSome x (λ held. held ≡ to)) (sym (follows o' (subst (λ f. Stores acts (Some f) o') h s))) refl
+
+-- the same over two lists of acts
+stored_on : (first between : End) (xs ys : List Act) (doubt : Option Record) (last : End) → ((held : Option End) → Stores xs (Some first) held → held ≡ Some between) → ((held : Option End) → Stores ys (Some between) held → MayHold doubt last held) → (held : Option End) → Stores (xs ++ ys) (Some first) held → MayHold doubt last held
+stored_on first between xs ys doubt last before behind held s =
+    let parts = Stores-split xs ys (Some first) held s in
+    behind held (subst (λ o. Stores ys o held) (before parts.0 parts.1) parts.2)
 
 -- ---- a new session
 
@@ -112,7 +125,7 @@ moved start before old new seat to stopped notes P m beside h l =
       run = EndRun-append h.run l.run;
       beside = b;
       tape = subst (λ acts. IsTape new acts) (append_assoc before h.acts (acts_of notes)) (tape_moves old.tape new.tape (before ++ h.acts) (acts_of notes) m.tape h.tape);
-      stored = store_moves old.stored new.stored (acts_of notes) h.to.end l.to.end m.stored (λ held s. l.store held (beside_settled seat.identity to l.to b).doubt s) h.stored;
+      stored = store_moves old.stored new.stored (acts_of notes) h.to.end l.to.end m.stored (λ held s. holds_end l.to.doubt l.to.end held (beside_settled seat.identity to l.to b).doubt (l.store held s)) h.stored;
     }
 
 if_none : {A : Type 0} (o : Option A) (P : Type 0) → (o ≡ None → P) → IfNone o P
@@ -152,7 +165,8 @@ run_connected n seat r to stopped old new small g spent start before h =
       run = EndRun-append h.run l.run;
       fits = l.holds;
       tape = subst (λ (w : List Act). IsTape new w) (append_assoc before (act.Opened ∷ h.acts) acts) (tape_moves old.tape new.tape (before ++ act.Opened ∷ h.acts) acts g.1.tape h.tape);
-      stored = store_moves old.stored new.stored acts h.to.end l.to.end g.1.stored (λ held s. l.store held l.holds.on.settled.doubt s) h.stored;
+      stored = store_moves old.stored new.stored acts h.to.end l.to.end g.1.stored (λ held s. holds_end l.to.doubt l.to.end held l.holds.on.settled.doubt (l.store held s)) h.stored;
+      store = λ held s. holds_end l.to.doubt l.to.end held l.holds.on.settled.doubt (stored_on h.opened.end h.to.end h.acts acts l.to.doubt l.to.end h.store l.store held s);
     }
 
 -- what it wrote is lawful, and the session keeps up with its counterparty
@@ -169,6 +183,7 @@ run_serves n seat r to old new small g start before h =
         to = l.to;
         run = run;
         behind = l.holds;
+        store = stored_on h.opened.end h.to.end h.acts (acts_of g.0) l.to.doubt l.to.end h.store l.store;
         ran = ran;
         persistent = run_persistent id start h.opened l.to acts h.opens run ran;
         wrote = run_wrote id start h.opened l.to acts h.opens run ran;
@@ -180,6 +195,11 @@ run_serves n seat r to old new small g start before h =
 pub sessions_agree : (id : Identity) (first second : RunEnd) (a b : Live) (mine theirs opened facing : EndState) (acts others : List Act) (x : HasServed id first a mine opened acts) (y : HasServed (mirrored id) second b theirs facing others) → IsPersistent theirs.end → IsPrefixOf (bytes_read acts) (bytes_written others) → Agrees mine.end.stored mine.handled theirs.end.out → Agrees mine.expected mine.handled theirs.end.out → ReaderKeepsUp theirs.end y.to.end acts x.to
 sessions_agree id first second a b mine theirs opened facing acts others x y kept front stored running =
     x.keeps_up theirs.end y.to.end (record { wrote = bytes_written others; persistent = y.persistent kept; writes = y.wrote; front = front; stored = stored; running = running })
+
+-- and the other with the one
+pub sessions_agree_back : (id : Identity) (first second : RunEnd) (a b : Live) (mine theirs opened facing : EndState) (acts others : List Act) (x : HasServed id first a mine opened acts) (y : HasServed (mirrored id) second b theirs facing others) → IsPersistent mine.end → IsPrefixOf (bytes_read others) (bytes_written acts) → Agrees theirs.end.stored theirs.handled mine.end.out → Agrees theirs.expected theirs.handled mine.end.out → ReaderKeepsUp mine.end x.to.end others y.to
+sessions_agree_back id first second a b mine theirs opened facing acts others x y kept front stored running =
+    y.keeps_up mine.end x.to.end (record { wrote = bytes_written acts; persistent = x.persistent kept; writes = x.wrote; front = front; stored = stored; running = running })
 
 -- ---- a new connection
 
@@ -249,6 +269,7 @@ Begins-connected old new r a b notes m (opened_to t) =
         fits = fits_opened old.identity old.live t e settled;
         tape = subst (λ (w : List Act). IsTape b w) (again before h.acts t) (tape_moves a.tape b.tape (before ++ h.acts) (act.Now t ∷ act.Opened ∷ []) m.tape h.tape);
         stored = store_moves a.stored b.stored (act.Now t ∷ act.Opened ∷ []) e.end e.end m.stored (λ held s. s.2.2 ∙ s.2.1 ∙ s.1) h.stored;
+        store = λ held s. s;
       },
     ))
   where

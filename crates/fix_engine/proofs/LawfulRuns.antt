@@ -82,7 +82,7 @@ met_leads id l notes r to (both {mid = mid} {first = first} {more = more} d k) e
 expect_lost_leads : (id : Identity) (s : State) (e : EndState) → IsCertain s e → Leads id e (act.KeepLost (Expect s.expected) ∷ []) (IsInDoubt s)
 expect_lost_leads id s e h =
     let left : EndState = record e { doubt = Some (Expect s.expected); connection = None } in
-    leads_lost id e left (act.KeepLost (Expect s.expected)) (Expect s.expected) (IsInDoubt s) (record { certain = h.doubt; row = steps.lost_expect s.expected (sym h.numbers.expected) }) refl
+    leads_lost id e left (Expect s.expected) (IsInDoubt s) (record { certain = h.doubt; row = steps.lost_expect s.expected (sym h.numbers.expected) }) refl refl
     (record { numbers = record { expected = h.numbers.expected; stored = h.numbers.stored; out = h.numbers.out }; record_lost = Expect s.expected; doubt = refl; is = lawful.number; closed = refl })
 
 -- or kept

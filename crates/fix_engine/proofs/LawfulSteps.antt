@@ -170,7 +170,7 @@ module _ (id : Identity) (frame : List ℕ) (b : Ahead) where
   push_lost s say e h =
       let entry = entry_of s say in
       let left : EndState = record e { doubt = Some (Push entry); connection = None } in
-      leads_lost id e left (act.KeepLost (Push entry)) (Push entry) (IsInDoubt s) (record { certain = h.doubt; row = steps.lost_push entry }) refl
+      leads_lost id e left (Push entry) (IsInDoubt s) (record { certain = h.doubt; row = steps.lost_push entry }) refl refl
       (record { numbers = record { expected = h.numbers.expected; stored = h.numbers.stored; out = h.numbers.out }; record_lost = Push entry; doubt = refl; is = lawful.entry say; closed = refl })
 
   -- an entry is kept, and then more is done

@@ -1,23 +1,40 @@
 -- Runs of a lawful end, put together.
-use Rattle.std.proofs.Common.{◌≡◌, List, [], ◌∷◌, ◌++◌, Option, Some, None, refl, sym, subst}
+use Rattle.std.proofs.Common.{◌≡◌, ◌⊎◌, inl, inr, List, [], ◌∷◌, ◌++◌, Option, Some, None, refl, sym, ◌∙◌, subst}
 use Rattle.fix_base.specs.declared.identity.Identity.{Identity}
 use Rattle.fix_base.specs.declared.entry.Record.{Record}
-use Rattle.fix_base.specs.End.{End}
+use Rattle.fix_base.specs.End.{End, folded}
 use Rattle.fix_base.specs.declared.act.Act.{Act}
+use Rattle.fix_base.specs.declared.act.Act.TheVariants as act
 use Rattle.fix_base.specs.EndStep as steps
 use Rattle.fix_base.specs.EndStep.{EndState, EndStep, Move, EndRun}
 use Rattle.fix_base.specs.Seen.{ActStores, Stores, Note, acts_of}
 use Rattle.fix_base.proofs.SeenLemmas.{acts_of-append}
 use Rattle.fix_base.proofs.RunLemmas.{EndRun-append}
-use Rattle.fix_engine.specs.Lawful.{Leads}
+use Rattle.fix_engine.specs.Lawful.{MayHold, Leads}
 
-Stores-split : (xs ys : List Act) (a c : Option End) → Stores (xs ++ ys) a c → (b : Option End) × Stores xs a b × Stores ys b c
+-- where no record is in doubt a store holds the end
+pub holds_end : (doubt : Option Record) (end : End) (held : Option End) → doubt ≡ None → MayHold doubt end held → held ≡ Some end
+holds_end None end held certain h = h
+holds_end (Some r) end held certain h = cc
+
+-- where this record was lost it holds the end with or without it
+holds_lost : (r : Record) (end : End) (held mid : Option End) → (mid ≡ Some end) ⊎ (mid ≡ Some (folded end r)) → held ≡ mid → MayHold (Some r) end held
+holds_lost r end held mid (inl same) is = inl (is ∙ same)
+holds_lost r end held mid (inr added) is = inr (is ∙ added)
+
+-- a store that holds the end holds it in any doubt
+holds_any : (doubt : Option Record) (end : End) (held : Option End) → held ≡ Some end → MayHold doubt end held
+holds_any None end held h = h
+holds_any (Some r) end held h = inl h
+
+-- what a store did in two parts
+pub Stores-split : (xs ys : List Act) (a c : Option End) → Stores (xs ++ ys) a c → (b : Option End) × Stores xs a b × Stores ys b c
 Stores-split [] ys a c s = (a, refl, s)
 Stores-split (x ∷ xs) ys a c s = let t = Stores-split xs ys s.0 c s.2 in (t.0, (s.0, s.1, t.1), t.2)
 
 -- nothing is done
 pub leads_nowhere : (id : Identity) (e : EndState) (P : EndState → Type 0) → P e → Leads id e [] P
-leads_nowhere id e P h = record { to = e; run = steps.stop; holds = h; store = λ held none s. s }
+leads_nowhere id e P h = record { to = e; run = steps.stop; holds = h; store = λ held s. holds_any e.doubt e.end held s }
 
 -- one act, and then others
 pub leads_step : (id : Identity) (e mid : EndState) (x : Act) (acts : List Act) (P : EndState → Type 0) → EndStep id e x mid → ((held : Option End) → ActStores x (Some e.end) held → held ≡ Some mid.end) → Leads id mid acts P → Leads id e (x ∷ acts) P
@@ -25,12 +42,19 @@ leads_step id e mid x acts P one stores l = record {
   to = l.to;
   run = steps.step one l.run;
   holds = l.holds;
-  store = λ held none s. l.store held none (subst (λ o. Stores acts o held) (stores s.0 s.1) s.2);
+  store = λ held s. l.store held (subst (λ o. Stores acts o held) (stores s.0 s.1) s.2);
 }
 
 -- a record is lost, and nothing more is done
-pub leads_lost : (id : Identity) (e mid : EndState) (x : Act) (r : Record) (P : EndState → Type 0) → EndStep id e x mid → mid.doubt ≡ Some r → P mid → Leads id e (x ∷ []) P
-leads_lost id e mid x r P one doubt h = record { to = mid; run = steps.step one steps.stop; holds = h; store = λ held none s. cc }
+pub leads_lost : (id : Identity) (e mid : EndState) (r : Record) (P : EndState → Type 0) → EndStep id e (act.KeepLost r) mid → mid.end ≡ e.end → mid.doubt ≡ Some r → P mid → Leads id e (act.KeepLost r ∷ []) P
+leads_lost id e mid r P one same doubt h = record {
+  to = mid;
+  run = steps.step one steps.stop;
+  holds = h;
+  store = λ held s.
+      subst (λ (d : Option Record). MayHold d mid.end held) (sym doubt)
+      (subst (λ (f : End). MayHold (Some r) f held) (sym same) (holds_lost r e.end held s.0 s.1 s.2));
+}
 
 -- a move that leaves the store as it is, and then acts
 pub leads_move : (id : Identity) (e mid : EndState) (acts : List Act) (P : EndState → Type 0) → Move e mid → mid.end ≡ e.end → Leads id mid acts P → Leads id e acts P
@@ -38,7 +62,7 @@ leads_move id e mid acts P m same l = record {
   to = l.to;
   run = steps.move m l.run;
   holds = l.holds;
-  store = λ held none s. l.store held none (subst (λ f. Stores acts (Some f) held) (sym same) s);
+  store = λ held s. l.store held (subst (λ f. Stores acts (Some f) held) (sym same) s);
 }
 
 leads_then : (id : Identity) (e : EndState) (xs ys : List Act) (P Q : EndState → Type 0) → ((mid : EndState) → P mid → mid.doubt ≡ None) → Leads id e xs P → ((mid : EndState) → P mid → Leads id mid ys Q) → Leads id e (xs ++ ys) Q
@@ -48,9 +72,10 @@ leads_then id e xs ys P Q certain l k =
       to = later.to;
       run = EndRun-append l.run later.run;
       holds = later.holds;
-      store = λ held none s.
+      store = λ held s.
           (let parts = Stores-split xs ys (Some e.end) held s in
-          later.store held none (subst (λ o. Stores ys o held) (l.store parts.0 (certain l.to l.holds) parts.1) parts.2));
+          let between = holds_end l.to.doubt l.to.end parts.0 (certain l.to l.holds) (l.store parts.0 parts.1) in
+          later.store held (subst (λ o. Stores ys o held) between parts.2));
     }
 
 -- one part, and then another from where nothing is in doubt

@@ -27,3 +27,4 @@ pub mod LookBackLemmas
 pub mod Shown
 pub mod Recounting
 pub mod PeerEnds
+pub mod PlainLemmas

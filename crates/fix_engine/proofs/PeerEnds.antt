@@ -79,7 +79,7 @@ Heard-shows : (id : Identity) (l : Live) (notes : List Note) (r : Result ⊤ End
 Heard-shows id l notes r to (turn.bytes {more = more} b some fits d) = shows_none r (Did (act.Read b) ∷ more) (Fed-not_over id b l more r to d) (behind_read b more (Fed-answers id b l more r to d))
 Heard-shows id l notes r to turn.idle = shows_none (Ok tt) (Did act.Idle ∷ []) (λ h. cc) (λ a. none_of_one act.Idle a (λ e. cc))
 Heard-shows id l notes r to turn.over = record { read = λ h. here; only = λ a. tt }
-Heard-shows id l notes r to turn.read_lost = shows_none (Err ending.LinkFault) (Failed LinkPart ∷ []) (λ h. cc) none_of_none
+Heard-shows id l notes r to turn.read_lost = shows_none (Err ending.LinkFault) (Failed (LinkPart 0) ∷ []) (λ h. cc) none_of_none
 Heard-shows id l notes r to turn.read_memory = shows_none (Err ending.OutOfMemory) [] (λ h. cc) none_of_none
 
 Clocked-shows : (l : Live) (notes : List Note) (r : Result ⊤ Ending) (to : Live) → Clocked l notes r to → Shows r notes

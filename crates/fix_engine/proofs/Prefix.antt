@@ -45,7 +45,7 @@ faultless : (old new : Faults) (notes : List Note) → Counts old new notes → 
 faultless old new [] c n = tt
 faultless old new (Did a ∷ notes) c n = faultless old new notes (record { store = c.store; link = c.link; app = c.app }) n
 faultless old new (Failed StorePart ∷ notes) c n = absurd (n.store (let h = c.store in omega arith))
-faultless old new (Failed LinkPart ∷ notes) c n = absurd (n.link (let h = c.link in omega arith))
+faultless old new (Failed (LinkPart unsent) ∷ notes) c n = absurd (n.link (let h = c.link in omega arith))
 faultless old new (Failed AppPart ∷ notes) c n = absurd (n.app (let h = c.app in omega arith))
 
 -- it goes on to some end, with no further fault and with memory, at which Good holds

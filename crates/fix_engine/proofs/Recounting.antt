@@ -181,7 +181,7 @@ module _ (id : Identity) (start : State) where
       }
   Heard-why answered acts l notes e to s (turn.bytes b some fits turn.fed_memory) = record { ended = one_call_ends answered acts (Did (act.Read b)) l (reads b) (expected_is answered acts l s.state); shown = tt }
   Heard-why answered acts l notes e to s turn.over = record { ended = one_call_ends answered acts (Did act.Ended) to is_over (expected_is answered acts l s.state); shown = here }
-  Heard-why answered acts l notes e to s turn.read_lost = record { ended = one_call_ends answered acts (Failed LinkPart) l (fails LinkPart) (expected_is answered acts l s.state); shown = tt }
+  Heard-why answered acts l notes e to s turn.read_lost = record { ended = one_call_ends answered acts (Failed (LinkPart 0)) l (fails (LinkPart 0)) (expected_is answered acts l s.state); shown = tt }
   Heard-why answered acts l notes e to s turn.read_memory = record { ended = ends_here answered acts l (expected_is answered acts l s.state); shown = tt }
 
   -- ---- a look at the clock

@@ -31,6 +31,7 @@ begun_serves id n l t answer to notes h start certain =
       to = led.to;
       run = led.run;
       behind = led.holds;
+      store = led.store;
       ran = ran;
       persistent = run_persistent id start (opened_by start) led.to acts open_run led.run ran;
       wrote = run_wrote id start (opened_by start) led.to acts open_run led.run ran;

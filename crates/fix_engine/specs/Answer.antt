@@ -1,5 +1,5 @@
 -- The answer of a session to an inbound message, and what each step of it comes to.
-use Rattle.std.specs.Prelude.{◌<◌, ◌≤◌, ◌+◌, ◌^◌, ◌∷◌, ◌&&◌, ◌||◌, ◌==◌, not, ℕ, List, [], take, Bool, false, if◌then◌else◌, bytes_eq, codes, Option, Some, None, is_none, Result, Ok, Err, ⊤, ℤ, pos, ◌+ℤ◌, int_le}
+use Rattle.std.specs.Prelude.{◌<◌, ◌≤◌, ◌+◌, ◌-◌, length, ◌^◌, ◌∷◌, ◌&&◌, ◌||◌, ◌==◌, not, ℕ, List, [], take, Bool, false, if◌then◌else◌, bytes_eq, codes, Option, Some, None, is_none, Result, Ok, Err, ⊤, ℤ, pos, ◌+ℤ◌, int_le}
 use Rattle.std.specs.Fmt.{decimal}
 use Rattle.fix_base.specs.declared.identity.Identity.{Identity}
 use Rattle.fix_base.specs.Session.{begin_string_of}
@@ -141,7 +141,7 @@ pub data Performed (id : Identity) (frame : List ℕ) (s : State) : Step → Lis
   keep_lost : (say : Say) (n : Option ℕ) → s.last < 999999999 → Performed id frame s (step.Send say n) (Did (act.KeepLost (Push (entry_of s say))) ∷ Failed StorePart ∷ []) (Err ending.StoreFault) s
   sent : (say : Say) (n : Option ℕ) (text : List ℕ) → s.last < 999999999 → IsSaid id (s.last + 1) s.reading say text → Performed id frame s (step.Send say n) (Did (act.Kept (Push (entry_of s say))) ∷ Did (act.Wrote text) ∷ []) (Ok tt) (with_last s (s.last + 1))
   -- what is kept is said all the same, by a repeat: the message that it answers is counted
-  write_lost : (say : Say) (n : Option ℕ) (text : List ℕ) (sent_bytes : ℕ) → s.last < 999999999 → IsSaid id (s.last + 1) s.reading say text → Performed id frame s (step.Send say n) (Did (act.Kept (Push (entry_of s say))) ∷ Did (act.Wrote (take sent_bytes text)) ∷ Failed LinkPart ∷ []) (Err ending.LinkFault) (counted (with_last s (s.last + 1)) n)
+  write_lost : (say : Say) (n : Option ℕ) (text : List ℕ) (sent_bytes : ℕ) → s.last < 999999999 → IsSaid id (s.last + 1) s.reading say text → Performed id frame s (step.Send say n) (Did (act.Kept (Push (entry_of s say))) ∷ Did (act.Wrote (take sent_bytes text)) ∷ Failed (LinkPart (length text - sent_bytes)) ∷ []) (Err ending.LinkFault) (counted (with_last s (s.last + 1)) n)
   write_memory : (say : Say) (n : Option ℕ) → s.last < 999999999 → Performed id frame s (step.Send say n) (Did (act.Kept (Push (entry_of s say))) ∷ []) (Err ending.OutOfMemory) (with_last s (s.last + 1))
 
 -- the steps of an answer, in order

@@ -1,5 +1,5 @@
 -- A session is in step with what is outside of it, from its first call on, and keeps up with its counterparty.
-use Rattle.std.specs.Prelude.{◌≡◌, ℕ, List, [], ◌∷◌, ◌++◌, IfSome}
+use Rattle.std.specs.Prelude.{◌≡◌, ℕ, List, [], ◌∷◌, ◌++◌, Option, Some, IfSome}
 use Rattle.fix_base.specs.Lists.{IsPrefixOf}
 use Rattle.fix_base.specs.declared.identity.Identity.{Identity}
 use Rattle.fix_base.specs.Session.{mirrored}
@@ -12,12 +12,12 @@ use Rattle.fix_base.specs.EndStep.{EndState, EndStep, EndRun}
 use Rattle.fix_base.specs.Agrees.{Agrees}
 use Rattle.fix_base.specs.Reader.{bytes_read, ReaderKeepsUp}
 use Rattle.fix_base.specs.World.{IsPlainRecord}
-use Rattle.fix_base.specs.Seen.{Seen}
+use Rattle.fix_base.specs.Seen.{Seen, Stores}
 use Rattle.fix_engine.specs.State.{Down}
 use Rattle.fix_engine.specs.Turn.{Live}
 use Rattle.fix_engine.specs.declared.stop.RunEnd.{RunEnd}
 use Rattle.fix_engine.specs.Run.{Seat}
-use Rattle.fix_engine.specs.Lawful.{IsCertain, Fits, After}
+use Rattle.fix_engine.specs.Lawful.{IsCertain, MayHold, Fits, After}
 
 -- the end is in step with a session: on a connection, or between two of them
 pub data IsBeside (id : Identity) (l : Live) (e : EndState) : Type 0 where
@@ -74,6 +74,7 @@ pub record IsConnected (start : EndState) (before : List Act) (w : Seen) (seat :
   pub fits : Fits seat.identity seat.live to
   pub tape : IsTape w (before ++ act.Opened ∷ acts)
   pub stored : IsStored w to.end
+  pub store : (held : Option End) → Stores acts (Some opened.end) held → held ≡ Some to.end
 
 -- what these acts read on a connection is a front of what a counterparty wrote that keeps its messages to be sent
 -- again: `f0` is the counterparty at its opening, when the end agreed with it, and `f1` the counterparty now
@@ -101,13 +102,15 @@ bytes_written (act.HandLost n marked body ∷ acts) = bytes_written acts
 bytes_written (act.Cut ∷ acts) = bytes_written acts
 bytes_written (act.Stop ∷ acts) = bytes_written acts
 
--- these acts on a connection led to an end behind this answer. What they wrote may be written between the opening and
+-- these acts on a connection led to an end behind this answer. A store that held the end at the opening, and did the
+-- acts, holds this end. What they wrote may be written between the opening and
 -- now, all messages are still kept to be sent again, and the end keeps up with its counterparty: what was handed over, each number once, are the first messages that
 -- the counterparty stored, and each message that the counterparty had before the connection came marked
 pub record HasServed (id : Identity) (answer : RunEnd) (live : Live) (start opened : EndState) (acts : List Act) : Type 0 where
   pub to : EndState
   pub run : EndRun id opened acts to
   pub behind : After id answer live to
+  pub store : (held : Option End) → Stores acts (Some opened.end) held → MayHold to.doubt to.end held
   pub ran : AreOfRun acts
   pub wrote : Wrote id start.end to.end (bytes_written acts)
   pub persistent : IsPersistent start.end → IsPersistent to.end

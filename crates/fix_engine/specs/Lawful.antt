@@ -1,5 +1,5 @@
 -- Every run of the engine is a run of a lawful end.
-use Rattle.std.specs.Prelude.{◌≡◌, ◌≢◌, ℕ, ◌<◌, ◌≤◌, List, length, true, Option, Some, None, Result, Ok, Err}
+use Rattle.std.specs.Prelude.{◌≡◌, ◌≢◌, ◌⊎◌, ℕ, ◌<◌, ◌≤◌, List, length, true, Option, Some, None, Result, Ok, Err}
 use Rattle.fix_base.specs.Lists.{Among}
 use Rattle.fix_base.specs.declared.identity.Identity.{Identity}
 use Rattle.fix_base.specs.Stream.{Ahead, Item, TakesAll, frames}
@@ -7,7 +7,7 @@ use Rattle.fix_base.specs.Message.{Message}
 use Rattle.fix_base.specs.Says.{SaysAll}
 use Rattle.fix_base.specs.declared.entry.Record.{Record}
 use Rattle.fix_base.specs.declared.entry.Record.TheVariants.{Push, Expect}
-use Rattle.fix_base.specs.End.{End}
+use Rattle.fix_base.specs.End.{End, folded}
 use Rattle.fix_base.specs.declared.act.Act.{Act}
 use Rattle.fix_base.specs.Wrote.{WroteWhole}
 use Rattle.fix_base.specs.EndStep.{Connection, EndState, EndRun}
@@ -76,13 +76,18 @@ pub record IsInDoubt (s : State) (e : EndState) : Type 0 where
   pub is : IsLost s record_lost
   pub closed : e.connection ≡ None
 
+-- what a store of this end holds: the end, with or without the record that is in doubt
+abbrev pub MayHold : Option Record → End → Option End → Type 0
+MayHold None end held = held ≡ Some end
+MayHold (Some r) end held = (held ≡ Some end) ⊎ (held ≡ Some (folded end r))
+
 -- these acts are a run of a lawful end, to one that has P. A store that held the old end, and did the acts, holds the
--- new one, unless a record of it is in doubt
+-- new one
 pub record Leads (id : Identity) (e : EndState) (acts : List Act) (P : EndState → Type 0) : Type 0 where
   pub to : EndState
   pub run : EndRun id e acts to
   pub holds : P to
-  pub store : (held : Option End) → to.doubt ≡ None → Stores acts (Some e.end) held → held ≡ Some to.end
+  pub store : (held : Option End) → Stores acts (Some e.end) held → MayHold to.doubt to.end held
 
 -- the end behind a run that gave this answer
 abbrev pub After : Identity → RunEnd → Live → EndState → Type 0

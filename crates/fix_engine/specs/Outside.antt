@@ -1,5 +1,5 @@
 -- What each call of an Outside comes to, by what it answers.
-use Rattle.std.specs.Prelude.{ℕ, List, [], ◌∷◌, take, Bool, true, false, Result, Ok, Err}
+use Rattle.std.specs.Prelude.{ℕ, ◌-◌, length, List, [], ◌∷◌, take, Bool, true, false, Result, Ok, Err}
 use Rattle.fix_base.specs.declared.entry.Record.{Record}
 use Rattle.fix_base.specs.declared.act.Act.TheVariants as act
 use Rattle.fix_base.specs.declared.bytes.OutOfMemory.{OutOfMemory}
@@ -29,13 +29,13 @@ abbrev pub reads : ReadTurn → List ℕ → List Note
 reads (read.Bytes n) room = Did (act.Read (take n room)) ∷ []
 reads read.Idle room = Did act.Idle ∷ []
 reads read.End room = Did act.Ended ∷ []
-reads read.Failed room = Failed LinkPart ∷ []
+reads read.Failed room = Failed (LinkPart 0) ∷ []
 reads read.OutOfMemory room = []
 
--- a failed write sent so many bytes
+-- a failed write sent so many bytes, and the rest not
 abbrev pub writes : WriteTurn → List ℕ → List Note
 writes write.Done bytes = Did (act.Wrote bytes) ∷ []
-writes (write.Failed n) bytes = Did (act.Wrote (take n bytes)) ∷ Failed LinkPart ∷ []
+writes (write.Failed n) bytes = Did (act.Wrote (take n bytes)) ∷ Failed (LinkPart (length bytes - n)) ∷ []
 writes write.OutOfMemory bytes = []
 
 abbrev pub keeps : {T : Type 0} → Result T KeepFault → Record → List Note

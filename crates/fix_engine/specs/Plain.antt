@@ -1,9 +1,10 @@
 -- What is seen of an outside whose message store is a list in memory, and what keeping a record does to
 -- that store.
-use Rattle.std.specs.Prelude.{◌≡◌, ℕ, ◌+◌, ◌<◌, min, List, length, vec_len, vec_capacity, Option, Some, Contains, Result, Ok, Err}
+use Rattle.std.specs.Prelude.{◌≡◌, ℕ, ◌+◌, ◌<◌, min, List, [], ◌∷◌, length, Bool, true, false, vec_len, vec_capacity, Option, Some, Contains, Result, Ok, Err}
 use Rattle.fix_base.specs.declared.entry.Record.{Record}
 use Rattle.fix_base.specs.End.{End, new_end, folded}
 use Rattle.fix_base.specs.declared.act.Act.{Act}
+use Rattle.fix_base.specs.Parts.{Parts}
 use Rattle.fix_base.specs.Seen.{Seen, LAST_COUNT}
 use Rattle.fix_base.specs.declared.entry.Stored.{Stored}
 use Rattle.fix_parts.specs.Link.{LinkSeen}
@@ -32,6 +33,11 @@ next_keep s = min (s.calls + 1) LAST_COUNT
 -- the next call is listed to fail
 abbrev pub FailsNextKeep : StoreSeen → Type 0
 FailsNextKeep s = Contains s.fail (next_keep s)
+
+-- no call is listed to fail
+abbrev pub is_sure : List ℕ → Bool
+is_sure [] = true
+is_sure (number ∷ numbers) = false
 
 -- the store after a record was kept, and after one was lost, which keeps nothing
 abbrev pub store_kept : StoreSeen → Record → StoreSeen
@@ -75,8 +81,11 @@ abbrev pub store_in : {L A C T : Type 0} → Plain L A C T → StoreSeen
 store_in p = store_of p.store
 
 -- what is seen of the whole, from what is seen of the parts
-abbrev pub seen_of : Option (List Act) → StoreSeen → LinkSeen → AppSeen → Seen
-seen_of told store link app = record { tape = told; stored = Some store.held; faults = record { store = store.faults; link = link.faults; app = app.faults } }
+abbrev pub parts_of : StoreSeen → LinkSeen → AppSeen → Option (List ℕ) → Parts
+parts_of store link app readings = record { to_come = link.to_come; readings = readings; written = link.written; link_room = link.room; lines = app.lines; line_room = app.room; sure = is_sure store.fail }
+
+abbrev pub seen_of : Option (List Act) → StoreSeen → LinkSeen → AppSeen → Option (List ℕ) → Seen
+seen_of told store link app readings = record { tape = told; stored = Some store.held; faults = record { store = store.faults; link = link.faults; app = app.faults }; parts = parts_of store link app readings }
 
 -- the one with the clock of the other, and its tape: what a look at the clock changes. The others likewise
 abbrev pub with_clock_of : {L A C T : Type 0} → Plain L A C T → Plain L A C T → Plain L A C T

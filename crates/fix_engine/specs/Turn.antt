@@ -41,7 +41,7 @@ pub data Heard (id : Identity) (l : Live) : List Note → Result ⊤ Ending → 
   bytes : {to : Live} {more : List Note} {r : Result ⊤ Ending} (b : List ℕ) → 0 < length b → length b ≤ 65536 → Fed id b l more r to → Heard id l (Did (act.Read b) ∷ more) r to
   idle : Heard id l (Did act.Idle ∷ []) (Ok tt) l
   over : Heard id l (Did act.Ended ∷ []) (Err (ending.Closed PeerEnd)) (live (with_phase l.state Down) l.ahead)
-  read_lost : Heard id l (Failed LinkPart ∷ []) (Err ending.LinkFault) l
+  read_lost : Heard id l (Failed (LinkPart 0) ∷ []) (Err ending.LinkFault) l
   read_memory : Heard id l [] (Err ending.OutOfMemory) l
 
 -- one look at the clock

@@ -25,11 +25,14 @@ pub fn a_new_session_is_in_step()
 /// Where both ends of a connection are sessions of this engine, and what the one read is a front of
 /// what the other wrote, the one keeps up with the other: what it handed over, each MsgSeqNum (34)
 /// once, are the first messages that the other stored. This is said of ends that agreed at the
-/// opening of the connection, of which the other keeps its messages to be sent again; it holds the
-/// other way round too.
+/// opening of the connection, of which the other keeps its messages to be sent again; each way.
 pub fn two_sessions_agree()
-    ensures { (id : Identity) (first second : RunEnd) (a b : Live) (mine theirs opened facing : EndState) (acts others : List Act) →
+    ensures one { (id : Identity) (first second : RunEnd) (a b : Live) (mine theirs opened facing : EndState) (acts others : List Act) →
         (x : HasServed id first a mine opened acts) (y : HasServed (mirrored id) second b theirs facing others) →
         IsPersistent theirs.end → IsPrefixOf (bytes_read acts) (bytes_written others) →
         Agrees mine.end.stored mine.handled theirs.end.out → Agrees mine.expected mine.handled theirs.end.out → ReaderKeepsUp theirs.end y.to.end acts x.to }
+    ensures other { (id : Identity) (first second : RunEnd) (a b : Live) (mine theirs opened facing : EndState) (acts others : List Act) →
+        (x : HasServed id first a mine opened acts) (y : HasServed (mirrored id) second b theirs facing others) →
+        IsPersistent mine.end → IsPrefixOf (bytes_read others) (bytes_written acts) →
+        Agrees theirs.end.stored theirs.handled mine.end.out → Agrees theirs.expected theirs.handled mine.end.out → ReaderKeepsUp mine.end x.to.end others y.to }
 {}

@@ -3,7 +3,7 @@ ghost use Rattle.fix_base.specs.Payload.{IsKeepable};
 ghost use Rattle.fix_base.specs.Seen.{Moves};
 ghost use Rattle.fix_parts.specs.Link.{IsInRoom, IsInBytes, LinkReads, LinkWrites};
 ghost use Rattle.fix_parts.specs.App.{AppTakes};
-ghost use Rattle.fix_parts.specs.Clock.{ClockReads};
+ghost use Rattle.fix_base.specs.Parts.{ClockReads};
 ghost use Rattle.fix_engine.specs.Outside.{marks, tells_time, reads, writes, keeps, hands};
 ghost use Rattle.fix_engine.specs.Plain.{store_from, StoreKeeps, stored_of_end, link_in, app_in, clock_in, tape_in, store_in, seen_of, with_clock_of, with_tape_of, with_link_of, with_store_of, with_app_of};
 
@@ -80,10 +80,10 @@ impl<L: Link, A: App, C: Clock, T: Tape> Plain<L, A, C, T> {
 }
 
 impl<L: Link, A: App, C: Clock, T: Tape> Outside for Plain<L, A, C, T> {
-    ghost seen = { λ p. seen_of (T.told (tape_in p)) (store_in p) (L.link (link_in p)) (A.app (app_in p)) };
+    ghost seen = { λ p. seen_of (T.told (tape_in p)) (store_in p) (L.link (link_in p)) (A.app (app_in p)) (C.readings (clock_in p)) };
 
     fn now(&mut self) -> Result<u64, OutOfMemory>
-        ensures noted { Moves (seen_of (T.told (tape_in self.old)) (store_in self.old) (L.link (link_in self.old)) (A.app (app_in self.old))) (seen_of (T.told (tape_in self.new)) (store_in self.new) (L.link (link_in self.new)) (A.app (app_in self.new))) (tells_time result) }
+        ensures noted { Moves (seen_of (T.told (tape_in self.old)) (store_in self.old) (L.link (link_in self.old)) (A.app (app_in self.old)) (C.readings (clock_in self.old))) (seen_of (T.told (tape_in self.new)) (store_in self.new) (L.link (link_in self.new)) (A.app (app_in self.new)) (C.readings (clock_in self.new))) (tells_time result) }
         ensures clock { MatchResult result (λ time. ClockReads time (C.readings (clock_in self.old)) (C.readings (clock_in self.new))) (λ e. clock_in self.new ≡ clock_in self.old) }
         ensures others { self.new ≡ with_clock_of self.old self.new }
     {
@@ -94,7 +94,7 @@ impl<L: Link, A: App, C: Clock, T: Tape> Outside for Plain<L, A, C, T> {
     }
 
     fn mark(&mut self, cut: bool) -> Result<(), OutOfMemory>
-        ensures noted { Moves (seen_of (T.told (tape_in self.old)) (store_in self.old) (L.link (link_in self.old)) (A.app (app_in self.old))) (seen_of (T.told (tape_in self.new)) (store_in self.new) (L.link (link_in self.new)) (A.app (app_in self.new))) (marks cut result) }
+        ensures noted { Moves (seen_of (T.told (tape_in self.old)) (store_in self.old) (L.link (link_in self.old)) (A.app (app_in self.old)) (C.readings (clock_in self.old))) (seen_of (T.told (tape_in self.new)) (store_in self.new) (L.link (link_in self.new)) (A.app (app_in self.new)) (C.readings (clock_in self.new))) (marks cut result) }
         ensures others { self.new ≡ with_tape_of self.old self.new }
     {
         self.tape.reserve(&Noted::Opened)?;
@@ -108,7 +108,7 @@ impl<L: Link, A: App, C: Clock, T: Tape> Outside for Plain<L, A, C, T> {
 
     fn read(&mut self, room: &mut [u8]) -> ReadTurn
         requires { 0 < length room.old }
-        ensures noted { Moves (seen_of (T.told (tape_in self.old)) (store_in self.old) (L.link (link_in self.old)) (A.app (app_in self.old))) (seen_of (T.told (tape_in self.new)) (store_in self.new) (L.link (link_in self.new)) (A.app (app_in self.new))) (reads result room.new) }
+        ensures noted { Moves (seen_of (T.told (tape_in self.old)) (store_in self.old) (L.link (link_in self.old)) (A.app (app_in self.old)) (C.readings (clock_in self.old))) (seen_of (T.told (tape_in self.new)) (store_in self.new) (L.link (link_in self.new)) (A.app (app_in self.new)) (C.readings (clock_in self.new))) (reads result room.new) }
         ensures in_room { IsInRoom result room.new }
         ensures link { LinkReads result room.new (L.link (link_in self.old)) (L.link (link_in self.new)) }
         ensures others { self.new ≡ with_link_of self.old self.new }
@@ -135,7 +135,7 @@ impl<L: Link, A: App, C: Clock, T: Tape> Outside for Plain<L, A, C, T> {
     }
 
     fn write(&mut self, bytes: &[u8]) -> WriteTurn
-        ensures noted { Moves (seen_of (T.told (tape_in self.old)) (store_in self.old) (L.link (link_in self.old)) (A.app (app_in self.old))) (seen_of (T.told (tape_in self.new)) (store_in self.new) (L.link (link_in self.new)) (A.app (app_in self.new))) (writes result bytes.now) }
+        ensures noted { Moves (seen_of (T.told (tape_in self.old)) (store_in self.old) (L.link (link_in self.old)) (A.app (app_in self.old)) (C.readings (clock_in self.old))) (seen_of (T.told (tape_in self.new)) (store_in self.new) (L.link (link_in self.new)) (A.app (app_in self.new)) (C.readings (clock_in self.new))) (writes result bytes.now) }
         ensures in_bytes { IsInBytes result bytes.now }
         ensures link { LinkWrites result bytes.now (L.link (link_in self.old)) (L.link (link_in self.new)) }
         ensures others { self.new ≡ with_link_of self.old self.new }
@@ -158,7 +158,7 @@ impl<L: Link, A: App, C: Clock, T: Tape> Outside for Plain<L, A, C, T> {
 
     fn keep(&mut self, kept: &Record) -> Result<(), KeepFault>
         requires { IsKeepable kept.now }
-        ensures noted { Moves (seen_of (T.told (tape_in self.old)) (store_in self.old) (L.link (link_in self.old)) (A.app (app_in self.old))) (seen_of (T.told (tape_in self.new)) (store_in self.new) (L.link (link_in self.new)) (A.app (app_in self.new))) (keeps result kept.now) }
+        ensures noted { Moves (seen_of (T.told (tape_in self.old)) (store_in self.old) (L.link (link_in self.old)) (A.app (app_in self.old)) (C.readings (clock_in self.old))) (seen_of (T.told (tape_in self.new)) (store_in self.new) (L.link (link_in self.new)) (A.app (app_in self.new)) (C.readings (clock_in self.new))) (keeps result kept.now) }
         ensures store { StoreKeeps result kept.now (store_in self.old) (store_in self.new) }
         ensures others { self.new ≡ with_store_of self.old self.new }
     {
@@ -179,7 +179,7 @@ impl<L: Link, A: App, C: Clock, T: Tape> Outside for Plain<L, A, C, T> {
     }
 
     fn hand(&mut self, h: &Handed<'_>) -> Said
-        ensures noted { Moves (seen_of (T.told (tape_in self.old)) (store_in self.old) (L.link (link_in self.old)) (A.app (app_in self.old))) (seen_of (T.told (tape_in self.new)) (store_in self.new) (L.link (link_in self.new)) (A.app (app_in self.new))) (hands result h.now) }
+        ensures noted { Moves (seen_of (T.told (tape_in self.old)) (store_in self.old) (L.link (link_in self.old)) (A.app (app_in self.old)) (C.readings (clock_in self.old))) (seen_of (T.told (tape_in self.new)) (store_in self.new) (L.link (link_in self.new)) (A.app (app_in self.new)) (C.readings (clock_in self.new))) (hands result h.now) }
         ensures app { AppTakes result h.now (A.app (app_in self.old)) (A.app (app_in self.new)) }
         ensures others { self.new ≡ with_app_of self.old self.new }
     {

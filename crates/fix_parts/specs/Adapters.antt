@@ -7,10 +7,10 @@ use Rattle.fix_parts.specs.Link.{LinkSeen}
 use Rattle.fix_parts.specs.Sink.{SinkSeen}
 
 abbrev pub stdio_link_of : {I O : Type 0} → StdioLink I O → LinkSeen
-stdio_link_of l = record { to_come = None; written = None; faults = l.faults }
+stdio_link_of l = record { to_come = None; written = None; room = None; faults = l.faults }
 
 abbrev pub stream_sink_of : {W : Type 0} → StreamSink W → SinkSeen
-stream_sink_of s = record { written = None; faults = s.faults }
+stream_sink_of s = record { written = None; room = None; faults = s.faults }
 
 -- what a clock gives where the system's can't be read
 abbrev pub last_reading : {R : Type 0} → SystemClock R → ℕ

@@ -1,35 +1,17 @@
 -- The line of text that shows a message.
-use Rattle.std.specs.Prelude.{◌≡◌, ℕ, ◌+◌, ◌/◌, ◌%◌, ◌==◌, ◌||◌, nat_lt, nat_le, if◌then◌else◌, List, [], ◌∷◌, ◌++◌, decimal, Ok, Err, ⊤}
+use Rattle.std.specs.Prelude.{◌≡◌, None, Ok, Err, ⊤}
 use Rattle.fix_parts.specs.declared.app.Handed.{Handed}
 use Rattle.fix_parts.specs.declared.app.Said.{Said}
 use Rattle.fix_parts.specs.declared.app.Said.TheVariants as said
 use Rattle.fix_parts.specs.Sink.{SinkSeen, SinkWrites}
-
--- 0 to 9 and a to f
-abbrev pub hex_digit : ℕ → ℕ
-hex_digit d = if nat_lt d 10 then 48 + d else 87 + d
-
--- a byte as body text: SOH as `|`, `\` as `\\`, `|` as `\|`, and each other byte that isn't from
--- 0x20 to 0x7E as `\x` and two digits
-abbrev pub byte_text : ℕ → List ℕ
-byte_text b =
-    if b == 1 then 124 ∷ []
-    else (if b == 92 then 92 ∷ 92 ∷ []
-    else (if b == 124 then 92 ∷ 124 ∷ []
-    else (if nat_lt b 32 || nat_le 127 b then 92 ∷ 120 ∷ hex_digit (b / 16) ∷ hex_digit (b % 16) ∷ []
-    else b ∷ [])))
-
-abbrev pub body_text : List ℕ → List ℕ
-body_text [] = []
-body_text (b ∷ bs) = byte_text b ++ body_text bs
-
--- MsgSeqNum (34), `Y` where PossDupFlag (43) is Y and else `N`, and the body, with a space between
--- and LF behind
-abbrev pub line_of : Handed → List ℕ
-line_of h = decimal h.number ++ (32 ∷ (if h.marked then 89 else 78) ∷ 32 ∷ []) ++ body_text h.body.now ++ (10 ∷ [])
+use Rattle.fix_parts.specs.App.{AppSeen, line_of}
 
 -- a hand-over is one write of the line, or none where memory was refused
 abbrev pub LineWrites : Said → Handed → SinkSeen → SinkSeen → Type 0
 LineWrites said.Taken h old new = SinkWrites {T = ⊤} (Ok tt) (line_of h) old new
 LineWrites said.Failed h old new = SinkWrites {T = ⊤} (Err (record {})) (line_of h) old new
 LineWrites said.OutOfMemory h old new = new ≡ old
+
+-- what is seen of an application that writes lines to a sink
+abbrev pub line_seen : SinkSeen → AppSeen
+line_seen s = record { given = None; lines = s.written; room = s.room; faults = s.faults }

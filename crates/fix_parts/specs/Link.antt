@@ -1,21 +1,17 @@
 -- What is seen of a connection, and what its calls do to that.
-use Rattle.std.specs.Prelude.{◌≡◌, ℕ, ◌<◌, ◌≤◌, min, List, [], ◌∷◌, length, take, drop, Option, Some, None, ⊤}
+use Rattle.std.specs.Prelude.{◌≡◌, ℕ, ◌<◌, ◌≤◌, ◌-◌, min, List, [], ◌∷◌, length, take, drop, Option, Some, None, ⊤}
 use Rattle.fix_base.specs.Seen.{Rises}
 use Rattle.fix_parts.specs.declared.link.ReadTurn.{ReadTurn}
 use Rattle.fix_parts.specs.declared.link.ReadTurn.TheVariants as read
 use Rattle.fix_parts.specs.declared.link.WriteTurn.{WriteTurn}
 use Rattle.fix_parts.specs.declared.link.WriteTurn.TheVariants as write
-use Rattle.fix_parts.specs.Told.{extended}
+use Rattle.fix_base.specs.Parts.{extended, less, HasNoRoom, left_before}
 
 pub record LinkSeen : Type 0 where
   pub to_come : Option (List (List ℕ))  -- the pieces that reads give yet; an empty one is Idle
   pub written : Option (List ℕ)  -- the bytes that went out
+  pub room : Option ℕ  -- a connection that tells it fails only at a write of more bytes than this
   pub faults : ℕ
-
--- the pieces where this much is left of the first
-abbrev pub left_before : List ℕ → List (List ℕ) → List (List ℕ)
-left_before [] later = later
-left_before (b ∷ bs) later = (b ∷ bs) ∷ later
 
 -- a read of n bytes gives the first piece, or as much of it as there is room for: the rest of it
 -- stays in front
@@ -48,6 +44,14 @@ IsInRoom read.End room = ⊤
 IsInRoom read.Failed room = ⊤
 IsInRoom read.OutOfMemory room = ⊤
 
+-- a read fails only where no room is told
+abbrev pub MayRead : ReadTurn → Option ℕ → Type 0
+MayRead (read.Bytes n) room = ⊤
+MayRead read.Idle room = ⊤
+MayRead read.End room = ⊤
+MayRead read.Failed room = HasNoRoom 0 room
+MayRead read.OutOfMemory room = ⊤
+
 -- how often a read failed
 abbrev pub read_failures : ReadTurn → ℕ
 read_failures (read.Bytes n) = 0
@@ -61,6 +65,8 @@ pub record LinkReads (turn : ReadTurn) (room : List ℕ) (old new : LinkSeen) : 
   pub in_room : IsInRoom turn room
   pub to_come : TakesTold turn room old.to_come new.to_come
   pub written : new.written ≡ old.written
+  pub may : MayRead turn old.room
+  pub same : new.room ≡ old.room
   pub faults : Rises (read_failures turn) old.faults new.faults
 
 -- the bytes that went out after a write of these
@@ -68,6 +74,12 @@ abbrev pub written_after : WriteTurn → List ℕ → Option (List ℕ) → Opti
 written_after write.Done bytes old = extended old bytes
 written_after (write.Failed n) bytes old = extended old (take n bytes)
 written_after write.OutOfMemory bytes old = old
+
+-- what a write does to the room: one that failed had none for the rest of its bytes
+abbrev pub LinkRoomAfter : WriteTurn → List ℕ → Option ℕ → Option ℕ → Type 0
+LinkRoomAfter write.Done bytes old new = new ≡ less (length bytes) old
+LinkRoomAfter (write.Failed n) bytes old new = HasNoRoom (length bytes - n) new × (new ≡ less n old)
+LinkRoomAfter write.OutOfMemory bytes old new = new ≡ old
 
 -- a write that failed has written no more than it was given
 abbrev pub IsInBytes : WriteTurn → List ℕ → Type 0
@@ -86,4 +98,5 @@ pub record LinkWrites (turn : WriteTurn) (bytes : List ℕ) (old new : LinkSeen)
   pub in_bytes : IsInBytes turn bytes
   pub to_come : new.to_come ≡ old.to_come
   pub written : new.written ≡ written_after turn bytes old.written
+  pub room : LinkRoomAfter turn bytes old.room new.room
   pub faults : Rises (write_failures turn) old.faults new.faults

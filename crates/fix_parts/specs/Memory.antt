@@ -1,5 +1,5 @@
 -- What is seen of the parts in memory, and which of their calls fail.
-use Rattle.std.specs.Prelude.{◌≡◌, ℕ, ◌+◌, ◌-◌, ◌<◌, ◌≤◌, vec_len, vec_capacity, min, List, [], ◌∷◌, length, drop, Some, Contains}
+use Rattle.std.specs.Prelude.{◌≡◌, ℕ, ◌+◌, ◌-◌, ◌<◌, ◌≤◌, vec_len, vec_capacity, min, List, [], ◌∷◌, length, drop, Option, Some, None, Contains}
 use Rattle.fix_base.specs.declared.act.Act.{Act}
 use Rattle.fix_base.specs.Seen.{LAST_COUNT}
 use Rattle.fix_parts.specs.declared.failing.Failing.{Failing}
@@ -17,6 +17,11 @@ pub record Script : Type 0 where
   pub fail : List ℕ
   pub calls : ℕ
   pub capacity : ℕ
+
+-- the room that is told: none where calls are listed to fail
+abbrev pub told_room : List ℕ → ℕ → Option ℕ
+told_room [] room = Some room
+told_room (number ∷ numbers) room = None
 
 -- a part that was just made
 abbrev pub script_from : List ℕ → ℕ → Script
@@ -42,7 +47,7 @@ abbrev pub pieces_of : MemoryLink → List (List ℕ)
 pieces_of m = rest_of m.part (drop m.at m.pieces.items)
 
 abbrev pub link_of : MemoryLink → LinkSeen
-link_of m = record { to_come = Some (pieces_of m); written = Some m.out.items; faults = m.failing.faults }
+link_of m = record { to_come = Some (pieces_of m); written = Some m.out.items; room = told_room m.failing.numbers.items (m.capacity - length m.out.items); faults = m.failing.faults }
 
 abbrev pub link_script : MemoryLink → Script
 link_script m = script_with m.failing m.capacity
@@ -52,7 +57,7 @@ abbrev pub link_room : MemoryLink → ℕ
 link_room m = m.capacity - length m.out.items
 
 abbrev pub app_of : MemoryApp → AppSeen
-app_of m = record { given = Some m.given.items; faults = m.failing.faults }
+app_of m = record { given = Some m.given.items; lines = None; room = None; faults = m.failing.faults }
 
 abbrev pub app_script : MemoryApp → Script
 app_script m = script_with m.failing m.capacity
@@ -65,7 +70,7 @@ abbrev pub readings_of : MemoryClock → List ℕ
 readings_of m = drop m.at m.readings.items
 
 abbrev pub sink_of : MemorySink → SinkSeen
-sink_of m = record { written = Some m.out.items; faults = m.failing.faults }
+sink_of m = record { written = Some m.out.items; room = told_room m.failing.numbers.items (m.capacity - length m.out.items); faults = m.failing.faults }
 
 abbrev pub sink_script : MemorySink → Script
 sink_script m = script_with m.failing m.capacity

@@ -1,5 +1,5 @@
 ghost use Rattle.std.specs.Prelude.{ℕ, List, Option};
-ghost use Rattle.fix_parts.specs.Clock.{ClockReads};
+ghost use Rattle.fix_base.specs.Parts.{ClockReads};
 
 /// A clock.
 pub trait Clock {

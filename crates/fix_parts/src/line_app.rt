@@ -1,6 +1,7 @@
 ghost use Rattle.std.specs.Prelude.{◌≡◌, ◌++◌, ◌<◌, OnOk};
-ghost use Rattle.fix_parts.specs.App.{AppTakes};
-ghost use Rattle.fix_parts.specs.Line.{hex_digit, byte_text, body_text, line_of, LineWrites};
+ghost use Rattle.fix_parts.specs.App.{AppTakes, line_of};
+ghost use Rattle.fix_base.specs.Line.{hex_digit, byte_text, body_text};
+ghost use Rattle.fix_parts.specs.Line.{LineWrites, line_seen};
 
 use crate::{App, Handed, Said, Sink, SinkFailed};
 use itoa::Buffer;
@@ -40,12 +41,10 @@ impl<S: Sink> LineApp<S> {
 }
 
 impl<S: Sink> App for LineApp<S> {
-    ghost use Rattle.std.specs.Prelude.{None};
-
-    ghost app = { λ a. record { given = None; faults = (S.sink a).faults } };
+    ghost app = { λ a. line_seen (S.sink a) };
 
     fn hand(&mut self, h: &Handed<'_>) -> Said
-        ensures moves { AppTakes result h.now (record { given = None; faults = (S.sink self.old).faults }) (record { given = None; faults = (S.sink self.new).faults }) }
+        ensures moves { AppTakes result h.now (line_seen (S.sink self.old)) (line_seen (S.sink self.new)) }
         ensures line { LineWrites result h.now (S.sink self.old) (S.sink self.new) }
     {
         self.line.clear();

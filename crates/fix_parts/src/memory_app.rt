@@ -25,7 +25,7 @@ impl MemoryApp {
     /// An application that takes up to `capacity` messages. The calls of `hand` whose numbers are
     /// in `fail`, from 1 on, fail.
     pub fn new(alloc: Global, capacity: usize, fail: Vec<u64>) -> Result<MemoryApp, OutOfMemory>
-        ensures seen { IfOk result (λ made. app_of made ≡ record { given = Some []; faults = 0 }) }
+        ensures seen { IfOk result (λ made. app_of made ≡ record { given = Some []; lines = None; room = None; faults = 0 }) }
         ensures script { IfOk result (λ made. app_script made ≡ script_from fail.items capacity) }
     {
         Ok(MemoryApp {

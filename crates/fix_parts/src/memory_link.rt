@@ -24,7 +24,7 @@ pub struct MemoryLink {
 impl MemoryLink {
     ghost use Rattle.std.specs.Prelude.{◌<◌, ◌≢◌, [], length, Some, IfOk};
     ghost use Rattle.fix_parts.specs.Link.{IsInRoom, TakesPieces};
-    ghost use Rattle.fix_parts.specs.Memory.{pieces_of, link_of, link_script, script_from};
+    ghost use Rattle.fix_parts.specs.Memory.{pieces_of, link_of, link_script, script_from, told_room};
 
     /// A connection whose reads give these pieces. An empty piece is Idle, and End follows the
     /// last. It keeps up to `capacity` written bytes. The calls of `read` and `write` whose numbers
@@ -35,7 +35,7 @@ impl MemoryLink {
         capacity: usize,
         fail: Vec<u64>,
     ) -> Result<MemoryLink, OutOfMemory>
-        ensures seen { IfOk result (λ made. link_of made ≡ record { to_come = Some pieces.items; written = Some []; faults = 0 }) }
+        ensures seen { IfOk result (λ made. link_of made ≡ record { to_come = Some pieces.items; written = Some []; room = told_room fail.items capacity; faults = 0 }) }
         ensures script { IfOk result (λ made. link_script made ≡ script_from fail.items capacity) }
     {
         Ok(MemoryLink {
@@ -62,6 +62,7 @@ impl MemoryLink {
         ensures in_room { IsInRoom result room.new }
         ensures pieces { TakesPieces result room.new (pieces_of self.old) (pieces_of self.new) }
         ensures written { (link_of self.new).written ≡ (link_of self.old).written }
+        ensures room { (link_of self.new).room ≡ (link_of self.old).room }
         ensures faults { (link_of self.new).faults ≡ (link_of self.old).faults }
         ensures script { link_script self.new ≡ link_script self.old }
     {

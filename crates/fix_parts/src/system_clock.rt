@@ -27,7 +27,7 @@ impl<R: rt::Clock> SystemClock<R> {
 impl<R: rt::Clock> Clock for SystemClock<R> {
     ghost use Rattle.std.specs.Prelude.{None};
     ghost use Rattle.fix_parts.specs.Adapters.{last_reading};
-    ghost use Rattle.fix_parts.specs.Clock.{ClockReads};
+    ghost use Rattle.fix_base.specs.Parts.{ClockReads};
 
     ghost readings = { λ c. None };
 

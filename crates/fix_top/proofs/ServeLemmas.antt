@@ -1,17 +1,19 @@
 -- What begin and the run come to, together.
-use Rattle.std.proofs.Common.{ℕ, List, ◌++◌, IfNone, Ok, refl}
-use Rattle.std.specs.Prelude.{⊤}
+use Rattle.std.proofs.Common.{◌≡◌, ℕ, List, ◌++◌, Option, Some, None, IfNone, Ok, refl, sym, ap, ◌∙◌, subst}
+use Rattle.std.specs.Prelude.{⊤, IfSome}
 use Rattle.fix_base.specs.declared.identity.Identity.{Identity}
+use Rattle.fix_base.specs.End.{End, new_end}
 use Rattle.fix_base.specs.EndStep.{new_state}
-use Rattle.fix_base.specs.Seen.{Note, acts_of, Seen, Moves, Goes}
+use Rattle.fix_base.specs.Seen.{Note, Stores, acts_of, Seen, Moves, Goes}
 use Rattle.fix_base.proofs.SeenLemmas.{Moves-append}
 use Rattle.fix_engine.specs.declared.stop.RunEnd.{RunEnd}
 use Rattle.fix_engine.specs.State.{first_state}
 use Rattle.fix_engine.specs.Turn.{Live, live}
 use Rattle.fix_engine.specs.Run.{Seat, no_bytes, BeginsTo, opened_to, no_memory, no_memory_to_open, RanTo}
-use Rattle.fix_engine.specs.Lawful.{IsCertain}
+use Rattle.fix_engine.specs.Lawful.{IsCertain, MayHold}
+use Rattle.fix_engine.proofs.InStepLemmas.{told_holds}
 use Rattle.fix_engine.proofs.ServesLemmas.{begun_opens, begun_serves}
-use Rattle.fix_top.specs.Serve.{opened, status_of, Served, not_opened, not_begun, ran, ServedLawfully, not_started, not_connected, served}
+use Rattle.fix_top.specs.Serve.{opened, status_of, Served, not_opened, not_begun, ran, HoldsEnd, ServedLawfully, not_started, not_connected, served}
 
 -- a connection that was begun, and the run on it
 pub begun-ran : (id : Identity) (turns : ℕ) (a b c : Seen) (first : List Note) (x : ⊤) (to : Seat) (answer : RunEnd) (after : Live) → Moves a b first → BeginsTo (opened id) (Ok x) to first → IfNone to.stopped (Goes b c (RanTo to.identity turns to.live answer after)) → Goes a c (Served id turns (status_of answer))
@@ -22,14 +24,22 @@ begun-ran id turns a b c first x to answer after m (opened_to t) h =
 new_certain : IsCertain first_state new_state
 new_certain = record { doubt = refl; numbers = record { expected = refl; stored = refl; out = refl } }
 
--- what comes of serving a connection is lawful
-pub Served-lawful : (id : Identity) (turns status : ℕ) (notes : List Note) → Served id turns status notes → ServedLawfully id status (acts_of notes)
-Served-lawful id turns status notes not_opened = not_started
-Served-lawful id turns status notes (not_begun no_memory) = not_started
-Served-lawful id turns status notes (not_begun (no_memory_to_open t)) = not_connected t
-Served-lawful id turns status notes (ran {to = to} {answer = answer} {more = more} (opened_to t) r) =
-    served t (begun_opens id (live first_state no_bytes) new_state new_certain) (begun_serves id turns (live first_state no_bytes) t answer to more r new_state new_certain)
+-- a new store that did nothing holds the end that never did anything
+still_new : (o o' : Option End) → o' ≡ o → IfSome o (λ e. e ≡ new_end) → HoldsEnd o' new_state
+still_new None o' same new = subst (λ x. HoldsEnd x new_state) (sym same) tt
+still_new (Some e) o' same new = subst (λ x. HoldsEnd x new_state) (sym same) (ap Some new)
+
+-- what comes of serving a connection over a new store is lawful, and stored
+pub Served-lawful : (id : Identity) (turns status : ℕ) (notes : List Note) (a b : Option End) → IfSome a (λ e. e ≡ new_end) → Stores (acts_of notes) a b → Served id turns status notes → ServedLawfully id b status (acts_of notes)
+Served-lawful id turns status notes a b new stores not_opened = not_started (still_new a b stores new)
+Served-lawful id turns status notes a b new stores (not_begun no_memory) = not_started (still_new a b stores new)
+Served-lawful id turns status notes a b new stores (not_begun (no_memory_to_open t)) = not_connected t (still_new a b (stores.2 ∙ stores.1) new)
+Served-lawful id turns status notes a b new stores (ran {to = to} {answer = answer} {more = more} (opened_to t) r) =
+    let h = begun_serves id turns (live first_state no_bytes) t answer to more r new_state new_certain in
+    let from : Stores (acts_of more) a b = subst (λ o. Stores (acts_of more) o b) (stores.2.1 ∙ stores.1) stores.2.2 in
+    served t (begun_opens id (live first_state no_bytes) new_state new_certain) h
+    (told_holds a b (acts_of more) new_end (MayHold h.to.doubt h.to.end) from h.store new)
 
 -- the same of the calls between two moments
-pub serves-lawfully : (id : Identity) (turns status : ℕ) (a b : Seen) → Goes a b (Served id turns status) → Goes a b (λ notes. ServedLawfully id status (acts_of notes))
-serves-lawfully id turns status a b g = (g.0, g.1, Served-lawful id turns status g.0 g.2)
+pub serves-lawfully : (id : Identity) (turns status : ℕ) (a b : Seen) → IfSome a.stored (λ e. e ≡ new_end) → Goes a b (Served id turns status) → Goes a b (λ notes. ServedLawfully id b.stored status (acts_of notes))
+serves-lawfully id turns status a b new g = (g.0, g.1, Served-lawful id turns status g.0 a.stored b.stored new g.1.stored g.2)

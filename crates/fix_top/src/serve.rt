@@ -14,9 +14,10 @@ use std::alloc::Global;
 
 // Serves one connection of a new session.
 fn serve<O: Outside>(alloc: Global, identity: Identity, o: &mut O, turns: u64) -> Status
-    requires { IsValidIdentity identity }
+    requires valid { IsValidIdentity identity }
+    requires new { IfSome (O.seen o.old).stored (λ e. e ≡ new_end) }
     ensures serves { Goes (O.seen o.old) (O.seen o.new) (Served identity turns result.0) }
-    ensures lawful { Goes (O.seen o.old) (O.seen o.new) (λ notes. ServedLawfully identity result.0 (acts_of notes)) }
+    ensures lawful { Goes (O.seen o.old) (O.seen o.new) (λ notes. ServedLawfully identity (O.seen o.new).stored result.0 (acts_of notes)) }
     ensures cause { StatusHasCause result.0 (O.seen o.old).faults (O.seen o.new).faults }
     ensures words { result.0 ≢ 2 }
 {
@@ -46,7 +47,7 @@ pub fn serve_stdio<O: Outside>(alloc: Global, words: &[&str], o: &mut O, turns: 
 
     // On words that ask for a session.
     ensures serves { (id : TheIdentity) → IsForm (map (λ w. w.now) words.now) id → Goes (O.seen o.old) (O.seen o.new) (Served id turns result.0) }
-    ensures lawful { (id : TheIdentity) → IsForm (map (λ w. w.now) words.now) id → Goes (O.seen o.old) (O.seen o.new) (λ notes. ServedLawfully id result.0 (acts_of notes)) }
+    ensures lawful { (id : TheIdentity) → IsForm (map (λ w. w.now) words.now) id → Goes (O.seen o.old) (O.seen o.new) (λ notes. ServedLawfully id (O.seen o.new).stored result.0 (acts_of notes)) }
     ensures cause { StatusHasCause result.0 (O.seen o.old).faults (O.seen o.new).faults }
 {
     let Some(named) = read_words(words) else {

@@ -1,5 +1,5 @@
 use Rattle.std.proofs.Common.{◌≡◌, ◌++◌, drop}
-use Rattle.fix_parts.specs.Line.{body_text}
+use Rattle.fix_base.specs.Line.{body_text}
 use Rattle.fix_parts.proofs.line_app.push_body.Given as goal
 
 -- what is written and what is still to write make the whole

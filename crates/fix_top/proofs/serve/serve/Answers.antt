@@ -1,6 +1,6 @@
 use Rattle.std.proofs.Common.{[]}
 use Rattle.fix_base.proofs.SeenLemmas.{Moves-nil}
-use Rattle.fix_top.specs.Serve.{not_opened, not_begun, not_started}
+use Rattle.fix_top.specs.Serve.{not_opened, not_begun}
 use Rattle.fix_top.proofs.ServeLemmas.{begun-ran, serves-lawfully}
 use Rattle.fix_top.proofs.serve.serve.Goals as goal
 
@@ -18,14 +18,14 @@ returns-clause-serves g c =
     (b.0, b.1, not_begun b.2)
 
 pub returns-in-Err-clause-lawful : goal.returns-in-Err-clause-lawful
-returns-in-Err-clause-lawful g c = ([], Moves-nil _, not_started)
+returns-in-Err-clause-lawful g c = serves-lawfully _ 0 _ _ _ c.requires.new ([], Moves-nil _, not_opened)
 
 pub returns-in-Ok-begin-clause-lawful : goal.returns-in-Ok-begin-clause-lawful
 returns-in-Ok-begin-clause-lawful g c =
     let b = rw c.in-Ok.ensures at c.in-Ok-begin.ensures.begins in
-    rw c.status.ensures (serves-lawfully _ _ _ _ _ (begun-ran _ _ _ _ _ _ _ _ _ _ b.1 b.2 c.run_turns.ensures.runs))
+    rw c.status.ensures (serves-lawfully _ _ _ _ _ c.requires.new (begun-ran _ _ _ _ _ _ _ _ _ _ b.1 b.2 c.run_turns.ensures.runs))
 
 pub returns-clause-lawful : goal.returns-clause-lawful
 returns-clause-lawful g c =
     let b = rw c.in-Ok.ensures at c.in-Err-begin.ensures.begins in
-    serves-lawfully _ 0 _ _ _ (b.0, b.1, not_begun b.2)
+    serves-lawfully _ 0 _ _ _ c.requires.new (b.0, b.1, not_begun b.2)
