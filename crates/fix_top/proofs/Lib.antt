@@ -1,2 +1,13 @@
 pub mod WordsLemmas
 pub mod ServeLemmas
+pub mod SampleStream
+pub mod SampleReads
+pub mod SamplePlaces
+pub mod SampleFrames
+pub mod SampleSteps
+pub mod SampleHandled
+pub mod SampleLemmas
+pub mod SampleTexts
+pub mod SampleTime
+pub mod SampleSaid
+pub mod SampleInbound

@@ -1,3 +1,4 @@
 pub mod Words
 pub mod Serve
 pub mod Names
+pub mod Sample

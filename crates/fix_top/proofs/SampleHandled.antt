@@ -1,0 +1,136 @@
+-- How each message of the sample is handled.
+use Rattle.std.proofs.Common.{◌≡◌, inl, inr, ℕ, ◌+◌, ◌<◌, List, [], ◌∷◌, ◌++◌, Result, Err, None, Some, false, refl, sym, ap, subst, ◌∙◌, arith}
+use Rattle.std.specs.Prelude.{⊤}
+use Rattle.std.proofs.lemmas.List.{append-nil}
+use Rattle.fix_base.specs.declared.act.Act.TheVariants as act
+use Rattle.fix_base.specs.declared.entry.Record.TheVariants.{Push}
+use Rattle.fix_base.specs.Fields.{Field}
+use Rattle.fix_base.specs.Says.{body_of}
+use Rattle.fix_base.specs.Seen.{Note, Did}
+use Rattle.fix_engine.specs.declared.state.State.{State}
+use Rattle.fix_engine.specs.declared.state.Phase.TheVariants.{Up}
+use Rattle.fix_engine.specs.declared.state.Say.{Say}
+use Rattle.fix_engine.specs.declared.state.Say.TheVariants.{Logon, Logout}
+use Rattle.fix_engine.specs.declared.state.Step.{Step}
+use Rattle.fix_engine.specs.declared.state.Step.TheVariants as step
+use Rattle.fix_engine.specs.declared.state.Why.TheVariants.{LoggedOut}
+use Rattle.fix_engine.specs.declared.state.Ending.{Ending}
+use Rattle.fix_engine.specs.declared.state.Ending.TheVariants as ending
+use Rattle.fix_engine.specs.State.{with_phase, with_expected, with_last}
+use Rattle.fix_engine.specs.Answer.{IsSaid, entry_of, Handled, logon_steps, app_answer, logout_answer}
+use Rattle.fix_engine.specs.Stated.{IsFaultless}
+use Rattle.fix_engine.proofs.ReadLemmas.{has_same}
+use Rattle.fix_top.specs.Sample.{SAMPLE_ID, SAMPLE_TIME, LOGON, ORDER, LOGOUT, LOGON_ANSWER, LOGOUT_ANSWER, BODY}
+use Rattle.fix_top.proofs.SampleReads.{Tells}
+use Rattle.fix_top.proofs.SamplePlaces.{Place, AtLogon, AtOrder, AtLogout, text_at, rest_at, IsAt, Came, no_memory, on, over}
+use Rattle.fix_top.proofs.SampleTexts.{ORDER_FIELDS}
+use Rattle.fix_top.proofs.SampleFrames.{order_has, order_body}
+use Rattle.fix_top.proofs.SampleSaid.{logon_said, logout_said}
+use Rattle.fix_top.proofs.SampleInbound.{logon_answered, order_answered, logout_answered}
+use Rattle.fix_top.proofs.SampleSteps.{Carries, nothing_quiet, count_quiet, up_quiet, after_quiet, after_all, Follows, after_done, HasSent, send_done, HasHanded, hand_done, after_close}
+
+-- the message was handled: the next one is behind it
+pub record IsNextAt (p : Place) (s : State) (q : Place) : Type 0 where
+  pub text : rest_at p ≡ text_at q ++ rest_at q
+  pub state : IsAt q s
+
+-- memory was refused
+want : (p : Place) (notes : List Note) (P : Place → Type 0) (r : Result ⊤ Ending) → r ≡ Err ending.OutOfMemory → Came p notes P r
+want p notes P r e = subst (Came p notes P) (sym e) no_memory
+
+-- a number below the last
+low_of : (n k : ℕ) → n ≡ k → k < 999999999 → n < 999999999
+low_of n k e low = omega arith
+
+-- what was said, where the last number and the reading are known
+said_there : (s : State) (say : Say) (last : ℕ) (text : List ℕ) → s.last ≡ last → s.reading ≡ SAMPLE_TIME → IsSaid SAMPLE_ID (s.last + 1) s.reading say text → IsSaid SAMPLE_ID (last + 1) SAMPLE_TIME say text
+said_there s say last text e f said = subst (λ t. IsSaid SAMPLE_ID (last + 1) t say text) f (subst (λ n. IsSaid SAMPLE_ID (n + 1) s.reading say text) e said)
+
+-- one message was written, and nothing more
+sent_tells : (s : State) (say : Say) (text wanted : List ℕ) (notes first more : List Note) → notes ≡ first ++ more → first ≡ Did (act.Kept (Push (entry_of s say))) ∷ Did (act.Wrote text) ∷ [] → more ≡ [] → text ≡ wanted → Tells notes wanted []
+sent_tells s say text wanted notes first more is noted none same =
+    let all : notes ≡ Did (act.Kept (Push (entry_of s say))) ∷ Did (act.Wrote text) ∷ [] = is ∙ ap (λ (w : List Note). first ++ w) none ∙ append-nil first ∙ noted in
+    subst (λ (w : List Note). Tells w wanted []) (sym all) (record { wrote = append-nil text ∙ same; gave = refl })
+
+-- ---- the Logon
+
+-- the state behind it
+at_order : (s mid to : State) → IsAt AtLogon s → mid ≡ with_last s (s.last + 1) → to ≡ with_expected (with_phase mid Up) 2 → IsAt AtOrder to
+at_order s mid to at sent is =
+    let whole : to ≡ with_expected (with_phase (with_last s (s.last + 1)) Up) 2 = is ∙ ap (λ (m : State). with_expected (with_phase m Up) 2) sent in
+    subst (IsAt AtOrder) (sym whole) (record { phase = refl; expected = refl; last = ap (λ n. n + 1) at.last; reading = at.reading })
+
+logon_goes : (s s' : State) (notes : List Note) (r : Result ⊤ Ending) → IsAt AtLogon s → Follows LOGON (HasSent s (Logon 30)) (step.GoUp ∷ step.Count 1 ∷ step.Nothing ∷ []) notes r s' → Came AtLogon notes (IsNextAt AtLogon s') r
+logon_goes s s' notes r at f =
+    let up = with_phase f.mid Up in
+    let counted = with_expected up 2 in
+    let a = after_quiet LOGON f.mid up step.GoUp (step.Count 1 ∷ step.Nothing ∷ []) f.more r s' (up_quiet LOGON f.mid) f.others in
+    let b = after_quiet LOGON up counted (step.Count 1) (step.Nothing ∷ []) f.more r s' (count_quiet LOGON up 1) a in
+    let c = after_quiet LOGON counted counted step.Nothing [] f.more r s' (nothing_quiet LOGON counted) b in
+    let end = after_all LOGON counted f.more r s' c in
+    let said = logon_said f.did.text (said_there s (Logon 30) 0 f.did.text at.last at.reading f.did.said) in
+    let tells = sent_tells s (Logon 30) f.did.text LOGON_ANSWER notes f.first f.more f.is f.did.noted end.0 said in
+    subst (Came AtLogon notes (IsNextAt AtLogon s')) (sym end.1) (on AtOrder (record { text = refl; state = at_order s f.mid s' at f.did.state end.2 }) LOGON_ANSWER [] tells refl refl)
+
+logon_handles : (s s' : State) (notes : List Note) (r : Result ⊤ Ending) → IsAt AtLogon s → IsFaultless notes → Carries LOGON s (logon_steps 1 30) notes r s' → Came AtLogon notes (IsNextAt AtLogon s') r
+logon_handles s s' notes r at fair d =
+    elim (after_done LOGON s (step.Send (Logon 30) (Some 1)) (HasSent s (Logon 30)) (step.GoUp ∷ step.Count 1 ∷ step.Nothing ∷ []) notes r s' (send_done LOGON s (Logon 30) (Some 1) (low_of s.last 0 at.last (omega arith))) fair d) [
+      | inl lost ↦ want AtLogon notes (IsNextAt AtLogon s') r lost
+      | inr f ↦ logon_goes s s' notes r at f
+    ]
+
+-- ---- the order
+
+at_logout : (s mid to : State) → IsAt AtOrder s → mid ≡ s → to ≡ with_expected mid 3 → IsAt AtLogout to
+at_logout s mid to at same is =
+    let whole : to ≡ with_expected s 3 = is ∙ ap (λ (m : State). with_expected m 3) same in
+    subst (IsAt AtLogout) (sym whole) (record { phase = at.phase; expected = refl; last = at.last; reading = at.reading })
+
+-- the order was handed over, and nothing more
+handed_tells : (fields : List Field) (notes first more : List Note) → notes ≡ first ++ more → first ≡ Did (act.Handed 2 false (body_of fields)) ∷ [] → more ≡ [] → body_of fields ≡ BODY → Tells notes [] (act.Handed 2 false BODY ∷ [])
+handed_tells fields notes first more is noted none same =
+    let all : notes ≡ Did (act.Handed 2 false (body_of fields)) ∷ [] = is ∙ ap (λ (w : List Note). first ++ w) none ∙ append-nil first ∙ noted in
+    subst (λ (w : List Note). Tells w [] (act.Handed 2 false BODY ∷ [])) (sym all) (record { wrote = refl; gave = ap (λ (b : List ℕ). act.Handed 2 false b ∷ []) same })
+
+order_goes : (s s' : State) (notes : List Note) (r : Result ⊤ Ending) → IsAt AtOrder s → Follows ORDER (HasHanded ORDER s 2 false) (step.Count 2 ∷ step.Nothing ∷ step.Nothing ∷ []) notes r s' → Came AtOrder notes (IsNextAt AtOrder s') r
+order_goes s s' notes r at f =
+    let counted = with_expected f.mid 3 in
+    let a = after_quiet ORDER f.mid counted (step.Count 2) (step.Nothing ∷ step.Nothing ∷ []) f.more r s' (count_quiet ORDER f.mid 2) f.others in
+    let b = after_quiet ORDER counted counted step.Nothing (step.Nothing ∷ []) f.more r s' (nothing_quiet ORDER counted) a in
+    let c = after_quiet ORDER counted counted step.Nothing [] f.more r s' (nothing_quiet ORDER counted) b in
+    let end = after_all ORDER counted f.more r s' c in
+    let body = ap body_of (has_same ORDER f.did.fields ORDER_FIELDS f.did.has order_has) ∙ order_body in
+    let tells = handed_tells f.did.fields notes f.first f.more f.is f.did.noted end.0 body in
+    subst (Came AtOrder notes (IsNextAt AtOrder s')) (sym end.1) (on AtLogout (record { text = refl; state = at_logout s f.mid s' at f.did.state end.2 }) [] (act.Handed 2 false BODY ∷ []) tells refl refl)
+
+order_handles : (s s' : State) (notes : List Note) (r : Result ⊤ Ending) → IsAt AtOrder s → IsFaultless notes → Carries ORDER s (app_answer 2) notes r s' → Came AtOrder notes (IsNextAt AtOrder s') r
+order_handles s s' notes r at fair d =
+    elim (after_done ORDER s (step.Hand 2 false) (HasHanded ORDER s 2 false) (step.Count 2 ∷ step.Nothing ∷ step.Nothing ∷ []) notes r s' (hand_done ORDER s 2 false) fair d) [
+      | inl lost ↦ want AtOrder notes (IsNextAt AtOrder s') r lost
+      | inr f ↦ order_goes s s' notes r at f
+    ]
+
+-- ---- the Logout
+
+logout_goes : (s s' : State) (notes : List Note) (r : Result ⊤ Ending) → s.last ≡ 1 → s.reading ≡ SAMPLE_TIME → Follows LOGOUT (HasSent s Logout) (step.Close (LoggedOut 3) ∷ step.Nothing ∷ []) notes r s' → Came AtLogout notes (IsNextAt AtLogout s') r
+logout_goes s s' notes r last reading f =
+    let end = after_close LOGOUT f.mid (LoggedOut 3) (step.Nothing ∷ []) f.more r s' f.others in
+    let said = logout_said f.did.text (said_there s Logout 1 f.did.text last reading f.did.said) in
+    let tells = sent_tells s Logout f.did.text LOGOUT_ANSWER notes f.first f.more f.is f.did.noted end.0 said in
+    subst (Came AtLogout notes (IsNextAt AtLogout s')) (sym end.1) (over 3 tells)
+
+logout_handles : (s s' : State) (notes : List Note) (r : Result ⊤ Ending) → IsAt AtLogout s → IsFaultless notes → Carries LOGOUT s (logout_answer 3) notes r s' → Came AtLogout notes (IsNextAt AtLogout s') r
+logout_handles s s' notes r at fair d =
+    let counted = with_expected s 4 in
+    let a = after_quiet LOGOUT s counted (step.Count 3) (step.Send Logout None ∷ step.Close (LoggedOut 3) ∷ step.Nothing ∷ []) notes r s' (count_quiet LOGOUT s 3) d in
+    elim (after_done LOGOUT counted (step.Send Logout None) (HasSent counted Logout) (step.Close (LoggedOut 3) ∷ step.Nothing ∷ []) notes r s' (send_done LOGOUT counted Logout None (low_of s.last 1 at.last (omega arith))) fair a) [
+      | inl lost ↦ want AtLogout notes (IsNextAt AtLogout s') r lost
+      | inr f ↦ logout_goes counted s' notes r at.last at.reading f
+    ]
+
+-- ---- each of them
+
+pub handles : (p : Place) (s s' : State) (notes : List Note) (r : Result ⊤ Ending) → IsAt p s → IsFaultless notes → Handled SAMPLE_ID s (text_at p) notes r s' → Came p notes (IsNextAt p s') r
+handles AtLogon s s' notes r at fair h = logon_handles s s' notes r at fair (subst (λ (xs : List Step). Carries LOGON s xs notes r s') (logon_answered s h.inbound at h.presents) h.carried)
+handles AtOrder s s' notes r at fair h = order_handles s s' notes r at fair (subst (λ (xs : List Step). Carries ORDER s xs notes r s') (order_answered s h.inbound at h.presents) h.carried)
+handles AtLogout s s' notes r at fair h = logout_handles s s' notes r at fair (subst (λ (xs : List Step). Carries LOGOUT s xs notes r s') (logout_answered s h.inbound at h.presents) h.carried)
