@@ -9,7 +9,7 @@ use Rattle.fix_base.specs.Says.{joined}
 use Rattle.fix_base.specs.Stream.{HasNoItem}
 use Rattle.fix_base.specs.Seen.{Note, Did, acts_of}
 use Rattle.fix_base.proofs.Fronted.{nothing_ahead}
-use Rattle.fix_parts.specs.Link.{left_before}
+use Rattle.fix_base.specs.Parts.{left_before}
 use Rattle.fix_engine.specs.State.{first_state}
 use Rattle.fix_engine.specs.declared.state.State.{State}
 use Rattle.fix_engine.specs.declared.state.Ending.{Ending}

@@ -6,7 +6,7 @@ use Rattle.fix_base.specs.declared.act.Act.TheVariants as act
 use Rattle.fix_base.specs.Says.{joined}
 use Rattle.fix_base.specs.Seen.{Note, Did, Failed, acts_of}
 use Rattle.fix_base.proofs.SeenLemmas.{acts_of-append}
-use Rattle.fix_parts.specs.Link.{left_before}
+use Rattle.fix_base.specs.Parts.{left_before}
 use Rattle.fix_engine.specs.InStep.{bytes_written}
 use Rattle.fix_engine.specs.Stated.{IsFaultless}
 use Rattle.fix_engine.specs.Turns.{reads_in}

@@ -5,7 +5,7 @@ use Rattle.fix_base.specs.declared.act.Act.TheVariants as act
 use Rattle.fix_base.specs.declared.identity.Identity.{Identity}
 use Rattle.fix_base.specs.declared.identity.Begin.TheVariants.{Fix42}
 use Rattle.fix_base.specs.Says.{joined}
-use Rattle.fix_parts.specs.Link.{left_before}
+use Rattle.fix_base.specs.Parts.{left_before}
 use Rattle.fix_engine.specs.InStep.{bytes_written}
 
 -- the text with an SOH for each bar
