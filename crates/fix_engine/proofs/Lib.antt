@@ -28,3 +28,4 @@ pub mod Shown
 pub mod Recounting
 pub mod PeerEnds
 pub mod PlainLemmas
+pub mod KindLemmas

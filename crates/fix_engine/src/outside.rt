@@ -1,6 +1,7 @@
 ghost use Rattle.std.specs.Prelude.{◌<◌, length};
 ghost use Rattle.fix_base.specs.Payload.{IsKeepable};
 ghost use Rattle.fix_base.specs.Seen.{Seen, Moves};
+ghost use Rattle.fix_parts.specs.App.{HasKind};
 ghost use Rattle.fix_parts.specs.Link.{IsInRoom, IsInBytes};
 ghost use Rattle.fix_engine.specs.Outside.{marks, tells_time, reads, writes, keeps, hands};
 
@@ -47,7 +48,9 @@ pub trait Outside {
         requires { IsKeepable kept.now }
         ensures { Moves (seen self.old) (seen self.new) (keeps result kept.now) };
 
-    /// Hands a message over to the application.
+    /// Hands a message over to the application. Its kind is the MsgType (35) that its body begins
+    /// with.
     fn hand(&mut self, h: &Handed<'_>) -> Said
+        requires { HasKind h.now }
         ensures { Moves (seen self.old) (seen self.new) (hands result h.now) };
 }

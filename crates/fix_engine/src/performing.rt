@@ -3,6 +3,8 @@ ghost use Rattle.fix_base.specs.Session.{IsValidIdentity};
 ghost use Rattle.fix_base.specs.Shape.{IsFrame};
 ghost use Rattle.fix_base.specs.Seen.{Goes};
 ghost use Rattle.fix_engine.specs.State.{IsInRange};
+ghost use Rattle.fix_engine.specs.Inbound.{IsInbound};
+ghost use Rattle.fix_engine.specs.Presented.{inbound_of};
 ghost use Rattle.fix_engine.specs.Answer.{Performed, Carried};
 ghost use Rattle.fix_engine.specs.declared.state.Step.TheVariants as step;
 
@@ -23,7 +25,8 @@ fn hand<O: Outside>(
     number: SeqNum,
     marked: bool,
 ) -> Result<(), Ending>
-    requires { IsFrame inbound.now.frame.now }
+    requires frame { IsFrame inbound.now.frame.now }
+    requires presents { IsInbound inbound.now.frame.now (inbound_of inbound.now) }
     ensures { Goes (O.seen o.old) (O.seen o.new) (λ notes. Performed party.now.identity inbound.entry.now.frame.now state.now (step.Hand number marked) notes result state.now) }
 {
     let body = match body_of(party.alloc, inbound.frame) {
@@ -54,6 +57,7 @@ fn perform<O: Outside>(
 ) -> Result<(), Ending>
     requires valid { IsValidIdentity party.now.identity }
     requires frame { IsFrame inbound.now.frame.now }
+    requires presents { IsInbound inbound.now.frame.now (inbound_of inbound.now) }
     requires range { IsInRange state.old }
     ensures range { IsInRange state.new }
     ensures notes { Goes (O.seen o.old) (O.seen o.new) (λ notes. Performed party.now.identity inbound.entry.now.frame.now state.old step notes result state.new) }
@@ -91,6 +95,7 @@ pub fn carry_out<O: Outside>(
 ) -> Result<(), Ending>
     requires valid { IsValidIdentity party.now.identity }
     requires frame { IsFrame inbound.now.frame.now }
+    requires presents { IsInbound inbound.now.frame.now (inbound_of inbound.now) }
     requires range { IsInRange state.old }
     ensures range { IsInRange state.new }
     ensures notes { Goes (O.seen o.old) (O.seen o.new) (λ notes. Carried party.now.identity inbound.entry.now.frame.now state.old steps.now notes result state.new) }

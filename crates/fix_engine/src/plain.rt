@@ -2,7 +2,7 @@ ghost use Rattle.std.specs.Prelude.{◌≡◌, ◌<◌, length, MatchResult, OnO
 ghost use Rattle.fix_base.specs.Payload.{IsKeepable};
 ghost use Rattle.fix_base.specs.Seen.{Moves};
 ghost use Rattle.fix_parts.specs.Link.{IsInRoom, IsInBytes, LinkReads, LinkWrites};
-ghost use Rattle.fix_parts.specs.App.{AppTakes};
+ghost use Rattle.fix_parts.specs.App.{AppTakes, HasKind};
 ghost use Rattle.fix_base.specs.Parts.{ClockReads};
 ghost use Rattle.fix_engine.specs.Outside.{marks, tells_time, reads, writes, keeps, hands};
 ghost use Rattle.fix_engine.specs.Plain.{store_from, StoreKeeps, stored_of_end, link_in, app_in, clock_in, tape_in, store_in, seen_of, with_clock_of, with_tape_of, with_link_of, with_store_of, with_app_of};
@@ -179,6 +179,7 @@ impl<L: Link, A: App, C: Clock, T: Tape> Outside for Plain<L, A, C, T> {
     }
 
     fn hand(&mut self, h: &Handed<'_>) -> Said
+        requires { HasKind h.now }
         ensures noted { Moves (seen_of (T.told (tape_in self.old)) (store_in self.old) (L.link (link_in self.old)) (A.app (app_in self.old)) (C.readings (clock_in self.old))) (seen_of (T.told (tape_in self.new)) (store_in self.new) (L.link (link_in self.new)) (A.app (app_in self.new)) (C.readings (clock_in self.new))) (hands result h.now) }
         ensures app { AppTakes result h.now (A.app (app_in self.old)) (A.app (app_in self.new)) }
         ensures others { self.new ≡ with_app_of self.old self.new }

@@ -244,22 +244,22 @@ field_bytes due f bytes rest b = front_is bytes b.text rest b.spelled ∙ b.is.s
 
 -- ---- the header
 
-type_tag : codes "35=" ≡ decimal 35 ++ 61 ∷ []
+pub type_tag : codes "35=" ≡ decimal 35 ++ 61 ∷ []
 type_tag = sym (ap (λ (t : List ℕ). t ++ 61 ∷ []) (decimal-digits_value numerals (codes "35") (lit< tt, (lit< tt, tt)) (lit< tt) (λ e. absurd (omega (arith, e))) (lit< tt)))
 
 -- the first field of a frame is MsgType (35)
-type_first : (n : ℕ) (body : List ℕ) → IsBody n body → (fs : List Field) → FieldsAfter None body fs → (v : List ℕ) × (value_of 35 fs ≡ Some v)
+pub type_first : (n : ℕ) (body : List ℕ) → IsBody n body → (fs : List Field) → FieldsAfter None body fs → (g : Field) × (gs : List Field) × (fs ≡ g ∷ gs) × (g.tag ≡ 35)
 type_first n body is [] are = absurd (omega (arith, ap length are, ap length is.spelled, length-append is.first is.second, ap length is.is_first))
 type_first n body is (g ∷ gs) are =
     let first : Begins (IsField None g) body are.1 = record { text = are.0; is = are.2; spelled = are.3 } in
     let tag : Begins (IsTag 35) body is.second = record { text = is.first; is = record { first = omega arith; last = omega arith; spelled = is.is_first ∙ type_tag }; spelled = is.spelled } in
-    (g.value, value_here 35 g gs (tag_same g.tag 35 body _ _ (field_tag None g body are.1 first) tag))
+    (g, gs, refl, tag_same g.tag 35 body _ _ (field_tag None g body are.1 first) tag)
 
 pub has_type : (text body : List ℕ) → (h : IsFrame text) → ((parts : Parts) → HasShape parts text → body ≡ parts.body) → (fs : List Field) × FieldsAfter None body fs × (v : List ℕ) × (value_of 35 fs ≡ Some v)
 has_type text body h is =
     let fields = h.right.fields in
     let t = type_first h.shape.len h.parts.body h.shape.is_body fields.list fields.are in
-    (fields.list, subst (λ (b : List ℕ). FieldsAfter None b fields.list) (sym (is h.parts h.shape)) fields.are, t.0, t.1)
+    (fields.list, subst (λ (b : List ℕ). FieldsAfter None b fields.list) (sym (is h.parts h.shape)) fields.are, t.0.value, ap (value_of 35) t.2 ∙ value_here 35 t.0 t.1 t.3)
 
 pub some_of_map : (A : Type 0) (view : A → List ℕ) (o : Option A) (v : List ℕ) → option_map view o ≡ Some v → IsSome o
 some_of_map A view None v e = cc

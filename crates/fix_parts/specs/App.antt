@@ -1,5 +1,6 @@
 -- What is seen of an application, and what a hand-over does to that.
-use Rattle.std.specs.Prelude.{◌≡◌, ◌⊎◌, ℕ, List, [], ◌∷◌, length, Option}
+use Rattle.std.specs.Prelude.{◌≡◌, ◌⊎◌, ℕ, codes, List, [], ◌∷◌, ◌++◌, length, Option}
+use Rattle.fix_base.specs.Lists.{IsPrefixOf}
 use Rattle.fix_base.specs.Seen.{Rises}
 use Rattle.fix_parts.specs.declared.app.Given.{Given}
 use Rattle.fix_parts.specs.declared.app.Handed.{Handed}
@@ -13,6 +14,10 @@ pub record AppSeen : Type 0 where
   pub lines : Option (List ℕ)  -- their lines, where it writes a line for each
   pub room : Option ℕ  -- an application that tells it fails only at a line of more bytes than this
   pub faults : ℕ
+
+-- the MsgType (35) that is named is the one that the body begins with
+abbrev pub HasKind : Handed → Type 0
+HasKind h = IsPrefixOf (codes "35=" ++ h.kind.now ++ 1 ∷ []) h.body.now
 
 -- what the application has of a message
 abbrev pub given_of : Handed → Given

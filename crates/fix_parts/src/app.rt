@@ -1,4 +1,4 @@
-ghost use Rattle.fix_parts.specs.App.{AppSeen, AppTakes};
+ghost use Rattle.fix_parts.specs.App.{AppSeen, AppTakes, HasKind};
 
 use fix_base::Bytes;
 
@@ -44,5 +44,6 @@ pub trait App {
 
     /// Hands the message over.
     fn hand(&mut self, h: &Handed<'_>) -> Said
+        requires { HasKind h.now }
         ensures moves { AppTakes result h.now (app self.old) (app self.new) };
 }
