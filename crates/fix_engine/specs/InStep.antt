@@ -43,6 +43,12 @@ pub record IsInStep (start : EndState) (before : List Act) (w : Seen) (seat : Se
   pub tape : IsTape w (before ++ acts)
   pub stored : IsStored w to.end
 
+-- the same since some start
+pub record StandsInStep (w : Seen) (seat : Seat) : Type 0 where
+  pub start : EndState
+  pub before : List Act
+  pub in_step : IsInStep start before w seat
+
 -- an act of a run: no connection is opened, no store is reset, what is kept may be sent again, and the process goes
 -- on
 abbrev pub IsOfRun : Act → Type 0

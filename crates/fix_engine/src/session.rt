@@ -6,7 +6,7 @@ ghost use Rattle.fix_engine.specs.declared.state.State.{State};
 ghost use Rattle.fix_engine.specs.State.{IsInRange, first_state};
 ghost use Rattle.fix_engine.specs.Turn.{live};
 ghost use Rattle.fix_engine.specs.Lawful.{IsLawful, IsLawfulBegin};
-ghost use Rattle.fix_engine.specs.InStep.{IsInStep, IsConnected, HasServed};
+ghost use Rattle.fix_engine.specs.InStep.{IsInStep, StandsInStep, IsConnected, HasServed};
 ghost use Rattle.fix_engine.specs.Run.{no_bytes, run_end, RanTo, stop_cause, RunHasCause, IsDownUnlessSpent, Opens, BeginsTo};
 ghost use Rattle.fix_engine.specs.Turns.{HasTurns, IsSettled, ShowsPeerEnd};
 ghost use Rattle.fix_engine.specs.Stated.{IsAsStated};
@@ -114,9 +114,12 @@ impl Session {
     }
 
     /// Begins a connection: reads the clock once, and waits for the counterparty's Logon. The
-    /// phase must be Down. A stopped session answers `Stopped` and calls nothing.
+    /// phase must be Down, and the outside in step with the session: what it tells of its tape and
+    /// of its store is what the session's calls did. A stopped session answers `Stopped` and calls
+    /// nothing.
     pub fn begin<O: Outside>(&mut self, o: &mut O) -> Result<(), BeginFault>
-        requires { IfNone self.old.stopped (self.old.live.state.phase ≡ Phase.Down) }
+        requires phase { IfNone self.old.stopped (self.old.live.state.phase ≡ Phase.Down) }
+        requires in_step { IfNone self.old.stopped (StandsInStep (O.seen o.old) self.old) }
         // On a stopped session.
         ensures stopped { IfSome self.old.stopped (λ cause. result ≡ Err (BeginFault.Stopped cause)) }
         ensures calls_none { IfSome self.old.stopped (λ cause. o.new ≡ o.old) }
@@ -158,9 +161,11 @@ impl Session {
 
     /// Makes at most `turns` turns: in each it reads once, answers the messages that this
     /// completes, reads the clock once, and keeps the expected number. The phase must not be
-    /// Down. A stopped session answers `Stopped` and calls nothing.
+    /// Down, and the outside in step with the session. A stopped session answers `Stopped` and
+    /// calls nothing.
     pub fn run_turns<O: Outside>(&mut self, o: &mut O, turns: u64) -> RunEnd
-        requires { IfNone self.old.stopped (self.old.live.state.phase ≢ Phase.Down) }
+        requires phase { IfNone self.old.stopped (self.old.live.state.phase ≢ Phase.Down) }
+        requires in_step { IfNone self.old.stopped (StandsInStep (O.seen o.old) self.old) }
         // On a stopped session.
         ensures stopped { IfSome self.old.stopped (λ cause. result ≡ RunEnd.Stopped cause) }
         ensures calls_none { IfSome self.old.stopped (λ cause. o.new ≡ o.old) }

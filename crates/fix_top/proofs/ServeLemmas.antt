@@ -1,17 +1,20 @@
 -- What begin and the run come to, together.
-use Rattle.std.proofs.Common.{◌≡◌, ℕ, List, ◌++◌, Option, Some, None, IfNone, Ok, refl, sym, ap, ◌∙◌, subst}
+use Rattle.std.proofs.Common.{◌≡◌, ℕ, List, [], ◌++◌, Option, Some, None, IfNone, Ok, refl, sym, ap, ◌∙◌, subst}
 use Rattle.std.specs.Prelude.{⊤, IfSome}
 use Rattle.fix_base.specs.declared.identity.Identity.{Identity}
 use Rattle.fix_base.specs.End.{End, new_end}
-use Rattle.fix_base.specs.EndStep.{new_state}
+use Rattle.fix_base.specs.declared.act.Act.{Act}
+use Rattle.fix_base.specs.EndStep.{EndState, new_state}
 use Rattle.fix_base.specs.Seen.{Note, Stores, acts_of, Seen, Moves, Goes}
 use Rattle.fix_base.proofs.SeenLemmas.{Moves-append}
 use Rattle.fix_engine.specs.declared.stop.RunEnd.{RunEnd}
+use Rattle.fix_engine.specs.declared.stop.StopCause.{StopCause}
 use Rattle.fix_engine.specs.State.{first_state}
 use Rattle.fix_engine.specs.Turn.{Live, live}
 use Rattle.fix_engine.specs.Run.{Seat, no_bytes, BeginsTo, opened_to, no_memory, no_memory_to_open, RanTo}
+use Rattle.fix_engine.specs.InStep.{IsInStep, StandsInStep}
 use Rattle.fix_engine.specs.Lawful.{IsCertain, MayHold}
-use Rattle.fix_engine.proofs.InStepLemmas.{told_holds}
+use Rattle.fix_engine.proofs.InStepLemmas.{new_in_step, told_holds}
 use Rattle.fix_engine.proofs.ServesLemmas.{begun_opens, begun_serves}
 use Rattle.fix_top.specs.Serve.{opened, status_of, Served, not_opened, not_begun, ran, HoldsEnd, ServedLawfully, not_started, not_connected, served}
 
@@ -19,6 +22,19 @@ use Rattle.fix_top.specs.Serve.{opened, status_of, Served, not_opened, not_begun
 pub begun-ran : (id : Identity) (turns : ℕ) (a b c : Seen) (first : List Note) (x : ⊤) (to : Seat) (answer : RunEnd) (after : Live) → Moves a b first → BeginsTo (opened id) (Ok x) to first → IfNone to.stopped (Goes b c (RanTo to.identity turns to.live answer after)) → Goes a c (Served id turns (status_of answer))
 begun-ran id turns a b c first x to answer after m (opened_to t) h =
     (first ++ h.0, Moves-append a b c first h.0 m h.1, ran (opened_to t) h.2)
+
+-- an outside over a new store is in step with a session that was just opened
+pub starts_in_step : (id : Identity) (w : Seen) → IfSome w.stored (λ e. e ≡ new_end) → StandsInStep w (opened id)
+starts_in_step id w new = let t = tape_of w.tape in record { start = new_state; before = t.0; in_step = new_in_step id w t.0 t.1 new }
+  where
+    tape_of : (tape : Option (List Act)) → (before : List Act) × IfSome tape (λ acts. acts ≡ before)
+    tape_of None = ([], tt)
+    tape_of (Some acts) = (acts, refl)
+
+-- and stays so where it isn't stopped
+pub stays_in_step : (stopped : Option StopCause) (old new : Seat) (a b : Seen) → StandsInStep a old → IfNone stopped ((start : EndState) (before : List Act) → IsInStep start before a old → IsInStep start before b new) → IfNone stopped (StandsInStep b new)
+stays_in_step None old new a b h keeps = record { start = h.start; before = h.before; in_step = keeps h.start h.before h.in_step }
+stays_in_step (Some cause) old new a b h keeps = tt
 
 -- a new session is in no doubt
 new_certain : IsCertain first_state new_state

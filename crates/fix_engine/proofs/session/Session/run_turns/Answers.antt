@@ -16,7 +16,7 @@ returns-clause-cause g c =
 pub returns-clause-phase : goal.returns-clause-phase
 returns-clause-phase g c =
     let h = c.run_and_cut-ran.ensures.notes in
-    rw (← c.self.view_is, c.in_default.is, c.answer_of-answer.ensures) (Ran-phase _ _ _ _ _ _ (rw (← c.self.view_is, c.in_default.is) at c.requires) h.2)
+    rw (← c.self.view_is, c.in_default.is, c.answer_of-answer.ensures) (Ran-phase _ _ _ _ _ _ (rw (← c.self.view_is, c.in_default.is) at c.requires.phase) h.2)
 
 pub returns-clause-turns : goal.returns-clause-turns
 returns-clause-turns g c =
@@ -41,7 +41,7 @@ returns-clause-lawful g c = rw (← c.self.view_is, c.in_default.is, c.answer_of
 pub returns-clause-in_step : goal.returns-clause-in_step
 returns-clause-in_step g c =
     let h = c.run_and_cut-ran.ensures.notes in
-    rw (← c.self.view_is, c.in_default.is, c.stop_of-self-inside.ensures, c.answer_of-answer.ensures) (run_in_step _ _ _ _ _ _ (rw (← c.self.view_is, c.in_default.is) at c.requires) h)
+    rw (← c.self.view_is, c.in_default.is, c.stop_of-self-inside.ensures, c.answer_of-answer.ensures) (run_in_step _ _ _ _ _ _ (rw (← c.self.view_is, c.in_default.is) at c.requires.phase) h)
 
 pub returns-clause-connected : goal.returns-clause-connected
 returns-clause-connected g c = rw (← c.self.view_is, c.answer_of-answer.ensures) (run_connected _ _ _ _ _ _ _ c.self.invariant.1.reading c.run_and_cut-ran.ensures.notes)
