@@ -1,6 +1,8 @@
 pub mod NumberLemmas
 pub mod TimedLemmas
-pub mod WritingLemmas
+pub mod ValueLemmas
+pub mod PriceLemmas
 pub mod FieldsLeft
 pub mod EnvelopeLemmas
 pub mod ListLemmas
+pub mod WritingLemmas

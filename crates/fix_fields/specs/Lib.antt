@@ -1,5 +1,7 @@
 pub mod Lent
 pub mod Value
+pub mod Parts
+pub mod Kinds
 pub mod Timed
 pub mod Faulty
 pub mod Lined

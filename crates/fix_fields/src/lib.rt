@@ -2,12 +2,15 @@
 //! values say: times and numbers. Values are lent, and nothing is copied.
 #![tactic(auto)]
 
+mod dates;
 mod field;
 mod header;
+mod kind;
 mod lines;
 mod list;
 mod noted;
 mod number;
+mod price;
 mod reading;
 mod scanning;
 mod tag;
@@ -17,11 +20,14 @@ mod time_laws;
 mod times;
 mod value;
 
+pub use dates::month_year;
 pub use field::{FieldRef, due_after, field_at, is_body, is_body_field};
 pub use header::Envelope;
+pub use kind::{ValueKind, is_kind};
 pub use lines::body_fields;
 pub use list::{FieldFault, FieldList, fields};
 pub use number::{boolean, int};
+pub use price::price_text;
 pub use reading::{body_of, envelope, first_value};
 pub use scanning::{after_text, soh_at};
 pub use tag::{paired, tag_at};
