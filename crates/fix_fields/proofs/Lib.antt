@@ -5,4 +5,6 @@ pub mod PriceLemmas
 pub mod FieldsLeft
 pub mod EnvelopeLemmas
 pub mod ListLemmas
+pub mod DraftLemmas
+pub mod DraftBodies
 pub mod WritingLemmas

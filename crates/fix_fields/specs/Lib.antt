@@ -7,3 +7,5 @@ pub mod Faulty
 pub mod Lined
 pub mod Noted
 pub mod Header
+pub mod Drafts
+pub mod Drafted
