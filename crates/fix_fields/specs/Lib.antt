@@ -9,3 +9,6 @@ pub mod Noted
 pub mod Header
 pub mod Drafts
 pub mod Drafted
+pub mod Shapes
+pub mod Members
+pub mod Falls

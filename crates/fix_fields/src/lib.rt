@@ -6,10 +6,15 @@ mod dates;
 mod draft;
 mod draft_fields;
 mod draft_laws;
+#[cfg(test)]
+mod draft_tests;
 mod field;
 mod header;
 mod judging;
 mod kind;
+#[cfg(test)]
+mod kind_tests;
+mod layout;
 mod lines;
 mod list;
 mod noted;
@@ -33,6 +38,7 @@ pub use field::{FieldRef, due_after, field_at, is_body, is_body_field};
 pub use header::Envelope;
 pub use judging::DraftFault;
 pub use kind::{ValueKind, is_kind};
+pub use layout::{Layout, Member};
 pub use lines::body_fields;
 pub use list::{FieldFault, FieldList, fields};
 pub use number::{boolean, int};
