@@ -1,0 +1,15 @@
+pub mod Disk
+pub mod State
+pub mod Contents
+pub mod Past
+pub mod Log
+pub mod Kept
+pub mod Fuse
+pub mod Script
+pub mod MemoryDisk
+pub mod Told
+pub mod Source
+pub mod MemoryFiles
+pub mod Sink
+pub mod MemorySink
+pub mod StreamSink
