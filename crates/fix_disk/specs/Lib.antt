@@ -1,4 +1,5 @@
 pub mod Disk
+pub mod Moments
 pub mod State
 pub mod Contents
 pub mod Past
@@ -13,3 +14,5 @@ pub mod MemoryFiles
 pub mod Sink
 pub mod MemorySink
 pub mod StreamSink
+pub mod FileDisk
+pub mod FileSource

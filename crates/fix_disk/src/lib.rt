@@ -6,6 +6,8 @@
 mod contents;
 mod disk;
 mod failing;
+mod file_disk;
+mod file_source;
 mod log;
 mod memory_disk;
 mod memory_files;
@@ -15,8 +17,12 @@ mod sink;
 mod source;
 mod stream_sink;
 mod streams;
+#[cfg(test)]
+mod tests;
 
 pub use disk::{Disk, DiskFailed};
+pub use file_disk::{FileDisk, FileRefusal};
+pub use file_source::FileSource;
 pub use memory_disk::MemoryDisk;
 pub use memory_files::MemoryFiles;
 pub use memory_sink::MemorySink;
