@@ -8,7 +8,6 @@ pub mod Kept
 pub mod Fuse
 pub mod Script
 pub mod MemoryDisk
-pub mod Told
 pub mod Source
 pub mod MemoryFiles
 pub mod Sink

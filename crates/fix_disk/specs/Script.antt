@@ -1,5 +1,5 @@
 -- Which calls of a thing in memory fail, and how much it may keep.
-use Rattle.std.specs.Prelude.{ℕ, ◌+◌, min, List, Contains}
+use Rattle.std.specs.Prelude.{ℕ, ◌+◌, min, List, [], ◌∷◌, Option, Some, None, Contains}
 use Rattle.fix_base.specs.Seen.{LAST_COUNT}
 use Rattle.fix_disk.specs.declared.failing.Failing.{Failing}
 
@@ -8,6 +8,11 @@ pub record Script : Type 0 where
   pub fail : List ℕ
   pub calls : ℕ
   pub capacity : ℕ
+
+-- the room that is told: none where calls are listed to fail
+abbrev pub told_room : List ℕ → ℕ → Option ℕ
+told_room [] room = Some room
+told_room (number ∷ numbers) room = None
 
 -- one that was just made
 abbrev pub script_from : List ℕ → ℕ → Script

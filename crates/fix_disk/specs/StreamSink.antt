@@ -7,7 +7,7 @@ use Rattle.fix_disk.specs.declared.sink.SinkFailed.{SinkFailed}
 use Rattle.fix_disk.specs.Sink.{SinkSeen}
 
 abbrev pub stream_sink_of : {W : Type 0} → StreamSink W → SinkSeen
-stream_sink_of s = record { written = None; faults = s.faults }
+stream_sink_of s = record { written = None; room = None; faults = s.faults }
 
 abbrev pub StreamSinks : {T : Type 0} → Result T SinkFailed → List ℕ → Option (List ℕ) → Option (List ℕ) → Type 0
 StreamSinks (Ok x) bytes old new = Appends old new bytes

@@ -2,18 +2,21 @@ ghost use Rattle.std.specs.Prelude.{◌≡◌, ◌↔◌, ◌⊎◌, ◌+◌, �
 ghost use Rattle.fix_base.specs.Seen.{LAST_COUNT};
 ghost use Rattle.fix_disk.specs.Fuse.{IsBlown, IsStruck};
 
-/// Which calls of a thing in memory fail, and how many did.
+/// Which calls of a thing in memory fail, and how many did. The versions in memory of disks, sinks
+/// and of the parts of an engine are made with one.
 #[derive(Debug, Drop)]
-pub(crate) struct Failing {
-    // The numbers of the calls that fail.
-    numbers: Vec<u64>,
-    // How many calls there were.
-    calls: u64,
-    faults: u64,
+pub struct Failing {
+    /// The numbers of the calls that fail, from 1 on.
+    pub numbers: Vec<u64>,
+    /// How many calls there were.
+    pub calls: u64,
+    /// How many of them failed.
+    pub faults: u64,
 }
 
 impl Failing {
-    pub(crate) fn new(numbers: Vec<u64>) -> Failing
+    /// No call was made yet.
+    pub fn new(numbers: Vec<u64>) -> Failing
         ensures { result ≡ record { numbers = numbers; calls = 0; faults = 0 } }
     {
         Failing {
@@ -29,8 +32,8 @@ impl Failing {
         self.calls
     }
 
-    // Counts a call, and says whether it fails, which raises the count of faults.
-    pub(crate) fn strikes(&mut self) -> bool
+    /// Counts a call, and says whether it fails, which raises the count of faults.
+    pub fn strikes(&mut self) -> bool
         ensures numbers { self.new.numbers ≡ self.old.numbers }
         ensures calls { self.new.calls ≡ min (self.old.calls + 1) LAST_COUNT }
         ensures no_fewer { self.old.calls ≤ self.new.calls }
@@ -66,8 +69,8 @@ impl Failing {
         !can
     }
 
-    // Raises the count of faults, which stays at its last value.
-    pub(crate) fn fail(&mut self)
+    /// Raises the count of faults, which stays at its last value.
+    pub fn fail(&mut self)
         ensures { self.new ≡ record self.old { faults = min (self.old.faults + 1) LAST_COUNT } }
     {
         self.faults = self.faults.saturating_add(1);

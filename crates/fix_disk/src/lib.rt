@@ -21,11 +21,14 @@ mod streams;
 mod tests;
 
 pub use disk::{Disk, DiskFailed};
+pub use failing::Failing;
 pub use file_disk::{FileDisk, FileRefusal};
 pub use file_source::FileSource;
 pub use memory_disk::MemoryDisk;
 pub use memory_files::MemoryFiles;
 pub use memory_sink::MemorySink;
+pub use room::{put, put_bytes};
 pub use sink::{Sink, SinkFailed};
 pub use source::{Source, SourceFault};
 pub use stream_sink::StreamSink;
+pub use streams::write_out;

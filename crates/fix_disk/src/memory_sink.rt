@@ -18,13 +18,13 @@ pub struct MemorySink {
 
 impl MemorySink {
     ghost use Rattle.std.specs.Prelude.{[], Some, IfOk};
-    ghost use Rattle.fix_disk.specs.Script.{script_from};
+    ghost use Rattle.fix_disk.specs.Script.{script_from, told_room};
     ghost use Rattle.fix_disk.specs.MemorySink.{sink_of, sink_script};
 
     /// A sink that keeps up to `capacity` bytes. The calls of `write` whose numbers are in `fail`,
     /// from 1 on, fail.
     pub fn new(alloc: Global, capacity: usize, fail: Vec<u64>) -> Result<MemorySink, OutOfMemory>
-        ensures seen { IfOk result (λ made. sink_of made ≡ record { written = Some []; faults = 0 }) }
+        ensures seen { IfOk result (λ made. sink_of made ≡ record { written = Some []; room = told_room fail.items capacity; faults = 0 }) }
         ensures script { IfOk result (λ made. sink_script made ≡ script_from fail.items capacity) }
     {
         Ok(MemorySink {

@@ -1,8 +1,8 @@
 ghost use Rattle.std.specs.Prelude.{◌≡◌, ◌+◌, ◌-◌, ◌<◌, ◌≤◌, Bool, true, false, [], ◌∷◌, ◌++◌, length, take, drop, replicate, vec_len, vec_capacity};
 ghost use Rattle.fix_disk.specs.Disk.{overwritten};
 
-// Puts a value into room that is there.
-pub(crate) fn put<T: Drop>(values: &mut Vec<T>, value: T)
+/// Puts a value into room that is there.
+pub fn put<T: Drop>(values: &mut Vec<T>, value: T)
     requires { vec_len values.old < vec_capacity values.old }
     ensures items { values.new.items ≡ values.old.items ++ value ∷ [] }
     ensures len { vec_len values.new ≡ vec_len values.old + 1 }
@@ -14,8 +14,8 @@ pub(crate) fn put<T: Drop>(values: &mut Vec<T>, value: T)
     }
 }
 
-// Puts bytes into room that is there.
-pub(crate) fn put_bytes(held: &mut Vec<u8>, bytes: &[u8])
+/// Puts bytes into room that is there.
+pub fn put_bytes(held: &mut Vec<u8>, bytes: &[u8])
     requires { vec_len held.old + length bytes.now ≤ vec_capacity held.old }
     ensures items { held.new.items ≡ held.old.items ++ bytes.now }
     ensures len { vec_len held.new ≡ vec_len held.old + length bytes.now }

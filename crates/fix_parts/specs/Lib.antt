@@ -1,6 +1,5 @@
 pub mod Link
 pub mod App
-pub mod Sink
 pub mod Tape
 pub mod Memory
 pub mod Line

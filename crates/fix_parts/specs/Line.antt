@@ -3,7 +3,7 @@ use Rattle.std.specs.Prelude.{◌≡◌, None, Ok, Err, ⊤}
 use Rattle.fix_parts.specs.declared.app.Handed.{Handed}
 use Rattle.fix_parts.specs.declared.app.Said.{Said}
 use Rattle.fix_parts.specs.declared.app.Said.TheVariants as said
-use Rattle.fix_parts.specs.Sink.{SinkSeen, SinkWrites}
+use Rattle.fix_disk.specs.Sink.{SinkSeen, SinkWrites}
 use Rattle.fix_parts.specs.App.{AppSeen, line_of}
 
 -- a hand-over is one write of the line, or none where memory was refused

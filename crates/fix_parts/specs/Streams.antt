@@ -1,12 +1,10 @@
 -- What the calls over a stream do to its bytes, where the stream tells them.
-use Rattle.std.specs.Prelude.{ℕ, List, [], take, Option, Result, Ok, Err}
+use Rattle.std.specs.Prelude.{ℕ, List, [], take, Option}
 use Rattle.std.specs.Io.KnownBytes.{Keeps, Appends, Consumes, IsAtEnd}
-use Rattle.fix_base.specs.Lists.{IsPrefixOf}
 use Rattle.fix_parts.specs.declared.link.ReadTurn.{ReadTurn}
 use Rattle.fix_parts.specs.declared.link.ReadTurn.TheVariants as read
 use Rattle.fix_parts.specs.declared.link.WriteTurn.{WriteTurn}
 use Rattle.fix_parts.specs.declared.link.WriteTurn.TheVariants as write
-use Rattle.fix_parts.specs.declared.sink.SinkFailed.{SinkFailed}
 
 -- a read waits for bytes, so it is never Idle, and it asks for no memory
 abbrev pub StreamGives : ReadTurn → List ℕ → Option (List ℕ) → Option (List ℕ) → Type 0
@@ -21,8 +19,3 @@ abbrev pub StreamTakes : WriteTurn → List ℕ → Option (List ℕ) → Option
 StreamTakes write.Done bytes old new = Appends old new bytes
 StreamTakes (write.Failed n) bytes old new = Appends old new (take n bytes)
 StreamTakes write.OutOfMemory bytes old new = ⊥
-
--- the same of a write to a sink
-abbrev pub StreamSinks : {T : Type 0} → Result T SinkFailed → List ℕ → Option (List ℕ) → Option (List ℕ) → Type 0
-StreamSinks (Ok x) bytes old new = Appends old new bytes
-StreamSinks (Err e) bytes old new = (part : List ℕ) × IsPrefixOf part bytes × Appends old new part

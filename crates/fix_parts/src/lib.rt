@@ -1,23 +1,18 @@
 //! The parts that an engine calls: the connection (`Link`), the application (`App`), the clock
-//! (`Clock`), the tape of its acts (`Tape`), and the place for lines of text (`Sink`). Each is a
-//! trait with an exact meaning, with a version in memory and an adapter to the real thing.
+//! (`Clock`), and the tape of its acts (`Tape`). Each is a trait with an exact meaning, with a
+//! version in memory and an adapter to the real thing.
 #![tactic(auto)]
 
 mod app;
 mod clock;
 mod copies;
-mod failing;
 mod line_app;
 mod link;
 mod memory_app;
 mod memory_clock;
 mod memory_link;
-mod memory_sink;
 mod noted;
-mod room;
-mod sink;
 mod stdio_link;
-mod stream_sink;
 mod streams;
 mod system_clock;
 mod tape;
@@ -32,10 +27,7 @@ pub use link::{Link, ReadTurn, WriteTurn};
 pub use memory_app::MemoryApp;
 pub use memory_clock::MemoryClock;
 pub use memory_link::MemoryLink;
-pub use memory_sink::MemorySink;
 pub use noted::Noted;
-pub use sink::{Sink, SinkFailed};
 pub use stdio_link::StdioLink;
-pub use stream_sink::StreamSink;
 pub use system_clock::SystemClock;
 pub use tape::{KeptTape, NoTape, Tape};

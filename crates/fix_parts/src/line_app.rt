@@ -3,7 +3,8 @@ ghost use Rattle.fix_parts.specs.App.{AppTakes, line_of};
 ghost use Rattle.fix_base.specs.Line.{hex_digit, byte_text, body_text};
 ghost use Rattle.fix_parts.specs.Line.{LineWrites, line_seen};
 
-use crate::{App, Handed, Said, Sink, SinkFailed};
+use crate::{App, Handed, Said};
+use fix_disk::{Sink, SinkFailed};
 use itoa::Buffer;
 use std::alloc::{AllocError, Global};
 use std::marker::Model;

@@ -1,9 +1,8 @@
 ghost use Rattle.std.specs.Prelude.{◌≡◌, ◌≤◌, vec_len, vec_capacity};
 
-use crate::failing::Failing;
-use crate::room::put;
 use crate::{App, Given, Handed, Said};
 use fix_base::{Bytes, OutOfMemory};
+use fix_disk::{Failing, put};
 use std::alloc::Global;
 
 /// An application in memory, which keeps a copy of what it was handed.
@@ -20,7 +19,8 @@ pub struct MemoryApp {
 impl MemoryApp {
     ghost use Rattle.std.specs.Prelude.{[], Some, IfOk};
     ghost use Rattle.fix_parts.specs.App.{given_of};
-    ghost use Rattle.fix_parts.specs.Memory.{app_of, app_script, script_from};
+    ghost use Rattle.fix_disk.specs.Script.{script_from};
+    ghost use Rattle.fix_parts.specs.Memory.{app_of, app_script};
 
     /// An application that takes up to `capacity` messages. The calls of `hand` whose numbers are
     /// in `fail`, from 1 on, fail.
@@ -58,7 +58,8 @@ impl MemoryApp {
 impl App for MemoryApp {
     ghost use Rattle.std.specs.Prelude.{◌↔◌, ◌⊎◌};
     ghost use Rattle.fix_parts.specs.App.{AppTakes};
-    ghost use Rattle.fix_parts.specs.Memory.{app_of, app_script, app_room, FailsNext, next_call};
+    ghost use Rattle.fix_disk.specs.Script.{FailsNext, next_call};
+    ghost use Rattle.fix_parts.specs.Memory.{app_of, app_script, app_room};
 
     ghost app = { app_of };
 

@@ -1,9 +1,8 @@
 ghost use Rattle.std.specs.Prelude.{◌≡◌, ◌≤◌, vec_len, vec_capacity};
 
-use crate::failing::Failing;
-use crate::room::put_bytes;
 use crate::{Link, ReadTurn, WriteTurn};
 use fix_base::{Bytes, OutOfMemory};
+use fix_disk::{Failing, put_bytes};
 use std::alloc::Global;
 
 /// A connection in memory. Its reads give the pieces that it was made with, and it keeps what is
@@ -24,7 +23,8 @@ pub struct MemoryLink {
 impl MemoryLink {
     ghost use Rattle.std.specs.Prelude.{◌<◌, ◌≢◌, [], length, Some, IfOk};
     ghost use Rattle.fix_parts.specs.Link.{IsInRoom, TakesPieces};
-    ghost use Rattle.fix_parts.specs.Memory.{pieces_of, link_of, link_script, script_from, told_room};
+    ghost use Rattle.fix_disk.specs.Script.{script_from, told_room};
+    ghost use Rattle.fix_parts.specs.Memory.{pieces_of, link_of, link_script};
 
     /// A connection whose reads give these pieces. An empty piece is Idle, and End follows the
     /// last. It keeps up to `capacity` written bytes. The calls of `read` and `write` whose numbers
@@ -91,7 +91,8 @@ impl MemoryLink {
 impl Link for MemoryLink {
     ghost use Rattle.std.specs.Prelude.{◌↔◌, ◌⊎◌, ◌<◌, ◌≢◌, length};
     ghost use Rattle.fix_parts.specs.Link.{LinkReads, LinkWrites};
-    ghost use Rattle.fix_parts.specs.Memory.{link_of, link_script, link_room, FailsNext, next_call};
+    ghost use Rattle.fix_disk.specs.Script.{FailsNext, next_call};
+    ghost use Rattle.fix_parts.specs.Memory.{link_of, link_script, link_room};
 
     ghost link = { link_of };
 

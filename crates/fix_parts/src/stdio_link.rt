@@ -2,8 +2,9 @@ ghost use Rattle.std.specs.Prelude.{◌<◌, length};
 ghost use Rattle.fix_parts.specs.Link.{LinkReads, LinkWrites};
 ghost use Rattle.fix_parts.specs.Streams.{StreamGives, StreamTakes};
 
-use crate::streams::{read_some, write_out};
+use crate::streams::read_some;
 use crate::{Link, ReadTurn, WriteTurn};
+use fix_disk::write_out;
 use std::io::{Read, Write};
 
 /// A connection over an input and an output, as the standard ones: `rt.stdin()` and

@@ -1,5 +1,6 @@
 use super::*;
 use fix_base::{Act, By, Bytes, Entry, OutOfMemory, Record};
+use fix_disk::{MemorySink, Sink, StreamSink};
 use std::alloc::Global;
 use std::cell::Cell;
 use std::io::{ErrorKind, Read, Write};
@@ -145,15 +146,6 @@ fn a_clock_stays_at_its_last_reading(rt: HostRuntime) -> Result<(), Fail> {
     let mut clock = MemoryClock::new(Vec::from_slice(rt.alloc(), &[5, 9])?);
     let readings = times(rt.alloc(), &mut clock)?;
     assert_eq!(rt; readings.as_slice(), [5, 9, 9].as_slice());
-    Ok(())
-}
-
-#[test]
-fn a_sink_fails_where_it_is_told_and_past_its_room(rt: HostRuntime) -> Result<(), Fail> {
-    let mut sink = MemorySink::new(rt.alloc(), 3, Vec::from_slice(rt.alloc(), &[2])?)?;
-    let turns = sinks(rt.alloc(), &mut sink, &[b"ab", b"c", b"cd", b"c"])?;
-    assert_eq!(rt; turns.as_slice(), [true, false, false, true].as_slice());
-    assert_eq!(rt; sink.written(), b"abc".as_slice());
     Ok(())
 }
 

@@ -1,7 +1,8 @@
 use super::*;
 use fix_base::{Bytes, Status, Stored};
+use fix_disk::MemorySink;
 use fix_engine::Plain;
-use fix_parts::{KeptTape, LineApp, MemoryClock, MemoryLink, MemorySink};
+use fix_parts::{KeptTape, LineApp, MemoryClock, MemoryLink};
 use std::alloc::Global;
 use std::process::Abort;
 use std::test::Fail;

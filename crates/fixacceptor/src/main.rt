@@ -9,7 +9,8 @@ ghost use Rattle.fix_top.specs.Words.{IsNoForm};
 
 use fix_base::Status;
 use fix_engine::Plain;
-use fix_parts::{LineApp, NoTape, StdioLink, StreamSink, SystemClock};
+use fix_disk::StreamSink;
+use fix_parts::{LineApp, NoTape, StdioLink, SystemClock};
 use fix_top::{serve_stdio, status_name};
 use help::{HELP, VERSION};
 use std::alloc::{AllocError, Global};
