@@ -2,6 +2,7 @@ pub mod WordsLemmas
 pub mod ServeLemmas
 pub mod SampleStream
 pub mod SampleReads
+pub mod SampleRooms
 pub mod SamplePlaces
 pub mod SampleFrames
 pub mod SampleSteps
