@@ -3,6 +3,8 @@ pub mod ServeLemmas
 pub mod SampleStream
 pub mod SampleReads
 pub mod SampleRooms
+pub mod SampleParts
+pub mod SampleWritten
 pub mod SamplePlaces
 pub mod SampleFrames
 pub mod SampleSteps

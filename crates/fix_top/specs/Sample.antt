@@ -23,6 +23,10 @@ SAMPLE_ID = record { begin = Fix42; sender = codes "SELL"; target = codes "BUY" 
 abbrev pub SAMPLE_TIME : ℕ
 SAMPLE_TIME = 1704189600000000
 
+-- parts in memory keep so many bytes that are written, and so many of lines
+abbrev pub ROOM : ℕ
+ROOM = 1000
+
 -- what comes: a Logon (A), an order (D) and a Logout (5)
 unfoldable pub LOGON : List ℕ
 LOGON = wire (codes "8=FIX.4.2|9=58|35=A|34=1|49=BUY|52=20240102-10:00:00|56=SELL|98=0|108=30|10=063|")
