@@ -2,6 +2,9 @@ pub mod WordsLemmas
 pub mod ServeLemmas
 pub mod SampleStream
 pub mod SampleReads
+pub mod SampleRooms
+pub mod SampleParts
+pub mod SampleWritten
 pub mod SamplePlaces
 pub mod SampleFrames
 pub mod SampleSteps

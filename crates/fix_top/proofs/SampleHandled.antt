@@ -1,10 +1,11 @@
 -- How each message of the sample is handled.
-use Rattle.std.proofs.Common.{◌≡◌, inl, inr, ℕ, ◌+◌, ◌<◌, List, [], ◌∷◌, ◌++◌, Result, Err, None, Some, false, refl, sym, ap, subst, ◌∙◌, arith}
+use Rattle.std.proofs.Common.{◌≡◌, inl, inr, ℕ, ◌+◌, ◌<◌, ◌≤◌, List, [], ◌∷◌, ◌++◌, length, Result, Err, None, Some, false, refl, sym, ap, subst, ◌∙◌, arith}
 use Rattle.std.specs.Prelude.{⊤}
-use Rattle.std.proofs.lemmas.List.{append-nil}
+use Rattle.std.proofs.lemmas.List.{append-nil, length-append}
 use Rattle.fix_base.specs.declared.act.Act.TheVariants as act
 use Rattle.fix_base.specs.declared.entry.Record.TheVariants.{Push}
 use Rattle.fix_base.specs.Fields.{Field}
+use Rattle.fix_base.specs.Line.{line_text}
 use Rattle.fix_base.specs.Says.{body_of}
 use Rattle.fix_base.specs.Seen.{Note, Did}
 use Rattle.fix_engine.specs.declared.state.State.{State}
@@ -18,16 +19,16 @@ use Rattle.fix_engine.specs.declared.state.Ending.{Ending}
 use Rattle.fix_engine.specs.declared.state.Ending.TheVariants as ending
 use Rattle.fix_engine.specs.State.{with_phase, with_expected, with_last}
 use Rattle.fix_engine.specs.Answer.{IsSaid, entry_of, Handled, logon_steps, app_answer, logout_answer}
-use Rattle.fix_engine.specs.Stated.{IsFaultless}
 use Rattle.fix_engine.proofs.ReadLemmas.{has_same}
 use Rattle.fix_top.specs.Sample.{SAMPLE_ID, SAMPLE_TIME, LOGON, ORDER, LOGOUT, LOGON_ANSWER, LOGOUT_ANSWER, BODY}
 use Rattle.fix_top.proofs.SampleReads.{Tells}
-use Rattle.fix_top.proofs.SamplePlaces.{Place, AtLogon, AtOrder, AtLogout, text_at, rest_at, IsAt, Came, no_memory, on, over}
+use Rattle.fix_top.proofs.SampleRooms.{lines_in}
+use Rattle.fix_top.proofs.SamplePlaces.{Place, AtLogon, AtOrder, AtLogout, text_at, rest_at, written_at, handed_at, IsAt, IsFit, Came, no_memory, on, over}
 use Rattle.fix_top.proofs.SampleTexts.{ORDER_FIELDS}
 use Rattle.fix_top.proofs.SampleFrames.{order_has, order_body}
 use Rattle.fix_top.proofs.SampleSaid.{logon_said, logout_said}
 use Rattle.fix_top.proofs.SampleInbound.{logon_answered, order_answered, logout_answered}
-use Rattle.fix_top.proofs.SampleSteps.{Carries, nothing_quiet, count_quiet, up_quiet, after_quiet, after_all, Follows, after_done, HasSent, send_done, HasHanded, hand_done, after_close}
+use Rattle.fix_top.proofs.SampleSteps.{Carries, nothing_quiet, count_quiet, up_quiet, after_quiet, after_all, Follows, after_done, HasSent, SaidFits, send_done, HasHanded, LineFits, hand_done, after_close}
 
 -- the message was handled: the next one is behind it
 pub record IsNextAt (p : Place) (s : State) (q : Place) : Type 0 where
@@ -72,9 +73,15 @@ logon_goes s s' notes r at f =
     let tells = sent_tells s (Logon 30) f.did.text LOGON_ANSWER notes f.first f.more f.is f.did.noted end.0 said in
     subst (Came AtLogon notes (IsNextAt AtLogon s')) (sym end.1) (on AtOrder (record { text = refl; state = at_order s f.mid s' at f.did.state end.2 }) LOGON_ANSWER [] tells refl refl)
 
-logon_handles : (s s' : State) (notes : List Note) (r : Result ⊤ Ending) → IsAt AtLogon s → IsFaultless notes → Carries LOGON s (logon_steps 1 30) notes r s' → Came AtLogon notes (IsNextAt AtLogon s') r
+-- the answer fits into the room for what is to be written
+logon_fits : (s : State) (link : ℕ) → IsAt AtLogon s → length (written_at AtLogon) ≤ link → SaidFits link s (Logon 30)
+logon_fits s link at room text said =
+    let same : text ≡ LOGON_ANSWER = logon_said text (said_there s (Logon 30) 0 text at.last at.reading said) in
+    omega (arith, ap length same, length-append LOGON_ANSWER LOGOUT_ANSWER, room)
+
+logon_handles : (s s' : State) (notes : List Note) (r : Result ⊤ Ending) → IsAt AtLogon s → IsFit AtLogon notes → Carries LOGON s (logon_steps 1 30) notes r s' → Came AtLogon notes (IsNextAt AtLogon s') r
 logon_handles s s' notes r at fair d =
-    elim (after_done LOGON s (step.Send (Logon 30) (Some 1)) (HasSent s (Logon 30)) (step.GoUp ∷ step.Count 1 ∷ step.Nothing ∷ []) notes r s' (send_done LOGON s (Logon 30) (Some 1) (low_of s.last 0 at.last (omega arith))) fair d) [
+    elim (after_done fair.link fair.app LOGON s (step.Send (Logon 30) (Some 1)) (HasSent s (Logon 30)) (step.GoUp ∷ step.Count 1 ∷ step.Nothing ∷ []) notes r s' (send_done fair.link fair.app LOGON s (Logon 30) (Some 1) (low_of s.last 0 at.last (omega arith)) (logon_fits s fair.link at fair.written)) fair.rooms d) [
       | inl lost ↦ want AtLogon notes (IsNextAt AtLogon s') r lost
       | inr f ↦ logon_goes s s' notes r at f
     ]
@@ -103,9 +110,15 @@ order_goes s s' notes r at f =
     let tells = handed_tells f.did.fields notes f.first f.more f.is f.did.noted end.0 body in
     subst (Came AtOrder notes (IsNextAt AtOrder s')) (sym end.1) (on AtLogout (record { text = refl; state = at_logout s f.mid s' at f.did.state end.2 }) [] (act.Handed 2 false BODY ∷ []) tells refl refl)
 
-order_handles : (s s' : State) (notes : List Note) (r : Result ⊤ Ending) → IsAt AtOrder s → IsFaultless notes → Carries ORDER s (app_answer 2) notes r s' → Came AtOrder notes (IsNextAt AtOrder s') r
+order_fits : (app : ℕ) → length (lines_in (handed_at AtOrder)) ≤ app → LineFits app ORDER 2 false
+order_fits app room fields has =
+    let body : body_of fields ≡ BODY = ap body_of (has_same ORDER fields ORDER_FIELDS has order_has) ∙ order_body in
+    let line = line_text 2 false BODY in
+    omega (arith, ap (λ (b : List ℕ). length (line_text 2 false b)) body, length-append line [], room)
+
+order_handles : (s s' : State) (notes : List Note) (r : Result ⊤ Ending) → IsAt AtOrder s → IsFit AtOrder notes → Carries ORDER s (app_answer 2) notes r s' → Came AtOrder notes (IsNextAt AtOrder s') r
 order_handles s s' notes r at fair d =
-    elim (after_done ORDER s (step.Hand 2 false) (HasHanded ORDER s 2 false) (step.Count 2 ∷ step.Nothing ∷ step.Nothing ∷ []) notes r s' (hand_done ORDER s 2 false) fair d) [
+    elim (after_done fair.link fair.app ORDER s (step.Hand 2 false) (HasHanded ORDER s 2 false) (step.Count 2 ∷ step.Nothing ∷ step.Nothing ∷ []) notes r s' (hand_done fair.link fair.app ORDER s 2 false (order_fits fair.app fair.handed)) fair.rooms d) [
       | inl lost ↦ want AtOrder notes (IsNextAt AtOrder s') r lost
       | inr f ↦ order_goes s s' notes r at f
     ]
@@ -119,18 +132,21 @@ logout_goes s s' notes r last reading f =
     let tells = sent_tells s Logout f.did.text LOGOUT_ANSWER notes f.first f.more f.is f.did.noted end.0 said in
     subst (Came AtLogout notes (IsNextAt AtLogout s')) (sym end.1) (over 3 tells)
 
-logout_handles : (s s' : State) (notes : List Note) (r : Result ⊤ Ending) → IsAt AtLogout s → IsFaultless notes → Carries LOGOUT s (logout_answer 3) notes r s' → Came AtLogout notes (IsNextAt AtLogout s') r
+logout_fits : (s : State) (link : ℕ) → s.last ≡ 1 → s.reading ≡ SAMPLE_TIME → length (written_at AtLogout) ≤ link → SaidFits link s Logout
+logout_fits s link last reading room text said = omega (arith, ap length (logout_said text (said_there s Logout 1 text last reading said)), room)
+
+logout_handles : (s s' : State) (notes : List Note) (r : Result ⊤ Ending) → IsAt AtLogout s → IsFit AtLogout notes → Carries LOGOUT s (logout_answer 3) notes r s' → Came AtLogout notes (IsNextAt AtLogout s') r
 logout_handles s s' notes r at fair d =
     let counted = with_expected s 4 in
     let a = after_quiet LOGOUT s counted (step.Count 3) (step.Send Logout None ∷ step.Close (LoggedOut 3) ∷ step.Nothing ∷ []) notes r s' (count_quiet LOGOUT s 3) d in
-    elim (after_done LOGOUT counted (step.Send Logout None) (HasSent counted Logout) (step.Close (LoggedOut 3) ∷ step.Nothing ∷ []) notes r s' (send_done LOGOUT counted Logout None (low_of s.last 1 at.last (omega arith))) fair a) [
+    elim (after_done fair.link fair.app LOGOUT counted (step.Send Logout None) (HasSent counted Logout) (step.Close (LoggedOut 3) ∷ step.Nothing ∷ []) notes r s' (send_done fair.link fair.app LOGOUT counted Logout None (low_of s.last 1 at.last (omega arith)) (logout_fits counted fair.link at.last at.reading fair.written)) fair.rooms a) [
       | inl lost ↦ want AtLogout notes (IsNextAt AtLogout s') r lost
       | inr f ↦ logout_goes counted s' notes r at.last at.reading f
     ]
 
 -- ---- each of them
 
-pub handles : (p : Place) (s s' : State) (notes : List Note) (r : Result ⊤ Ending) → IsAt p s → IsFaultless notes → Handled SAMPLE_ID s (text_at p) notes r s' → Came p notes (IsNextAt p s') r
+pub handles : (p : Place) (s s' : State) (notes : List Note) (r : Result ⊤ Ending) → IsAt p s → IsFit p notes → Handled SAMPLE_ID s (text_at p) notes r s' → Came p notes (IsNextAt p s') r
 handles AtLogon s s' notes r at fair h = logon_handles s s' notes r at fair (subst (λ (xs : List Step). Carries LOGON s xs notes r s') (logon_answered s h.inbound at h.presents) h.carried)
 handles AtOrder s s' notes r at fair h = order_handles s s' notes r at fair (subst (λ (xs : List Step). Carries ORDER s xs notes r s') (order_answered s h.inbound at h.presents) h.carried)
 handles AtLogout s s' notes r at fair h = logout_handles s s' notes r at fair (subst (λ (xs : List Step). Carries LOGOUT s xs notes r s') (logout_answered s h.inbound at h.presents) h.carried)

@@ -4,11 +4,10 @@ use Rattle.std.proofs.lemmas.List.{length-append}
 use Rattle.fix_base.specs.declared.act.Act.{Act}
 use Rattle.fix_base.specs.declared.act.Act.TheVariants as act
 use Rattle.fix_base.specs.Says.{joined}
-use Rattle.fix_base.specs.Seen.{Note, Did, Failed, acts_of}
+use Rattle.fix_base.specs.Seen.{Note, acts_of}
 use Rattle.fix_base.proofs.SeenLemmas.{acts_of-append}
 use Rattle.fix_base.specs.Parts.{left_before}
 use Rattle.fix_engine.specs.InStep.{bytes_written}
-use Rattle.fix_engine.specs.Stated.{IsFaultless}
 use Rattle.fix_engine.specs.Turns.{reads_in}
 use Rattle.fix_top.specs.Sample.{LooksAt, ReadsPieces, handed_in}
 
@@ -38,7 +37,7 @@ handed_in-append (act.Opened ∷ xs) ys = handed_in-append xs ys
 handed_in-append (act.Now t ∷ xs) ys = handed_in-append xs ys
 handed_in-append (act.Kept r ∷ xs) ys = handed_in-append xs ys
 handed_in-append (act.KeepLost r ∷ xs) ys = handed_in-append xs ys
-handed_in-append (act.HandLost n marked body ∷ xs) ys = handed_in-append xs ys
+handed_in-append (act.HandLost n marked body ∷ xs) ys = ap (λ (w : List Act). act.HandLost n marked body ∷ w) (handed_in-append xs ys)
 handed_in-append (act.Cut ∷ xs) ys = handed_in-append xs ys
 handed_in-append (act.Stop ∷ xs) ys = handed_in-append xs ys
 
@@ -77,12 +76,7 @@ reads_over pieces (act.HandLost n marked body ∷ xs) ys none h = reads_over pie
 reads_over pieces (act.Cut ∷ xs) ys none h = reads_over pieces xs ys none h
 reads_over pieces (act.Stop ∷ xs) ys none h = reads_over pieces xs ys none h
 
-pub faultless_both : (xs ys : List Note) → IsFaultless (xs ++ ys) → IsFaultless xs × IsFaultless ys
-faultless_both [] ys h = (tt, h)
-faultless_both (Did x ∷ xs) ys h = faultless_both xs ys h
-faultless_both (Failed part ∷ xs) ys h = absurd h
-
--- what was written, and handed over
+-- what was written, and handed over, with none lost at that where none is among these
 pub record Tells (notes : List Note) (written : List ℕ) (handed : List Act) : Type 0 where
   pub wrote : bytes_written (acts_of notes) ≡ written
   pub gave : handed_in (acts_of notes) ≡ handed
@@ -93,22 +87,19 @@ tells-append xs ys v w g h t u = record {
   gave = ap handed_in (acts_of-append xs ys) ∙ handed_in-append (acts_of xs) (acts_of ys) ∙ ap (λ (z : List Act). z ++ handed_in (acts_of ys)) t.gave ∙ ap (λ (z : List Act). g ++ z) u.gave;
 }
 
--- no part failed, each look found this time, and the reads are those of these pieces, with these acts behind
+-- each look found this time, and the reads are those of these pieces, with these acts behind
 pub record IsFair (t : ℕ) (pieces : List (List ℕ)) (notes : List Note) (behind : List Act) : Type 0 where
-  pub faultless : IsFaultless notes
   pub looks : LooksAt t (acts_of notes)
   pub reads : ReadsPieces pieces (acts_of notes ++ behind)
 
 pub fair_first : (t : ℕ) (pieces : List (List ℕ)) (xs ys : List Note) (behind : List Act) → IsFair t pieces (xs ++ ys) behind → IsFair t pieces xs (acts_of ys ++ behind)
 fair_first t pieces xs ys behind h = record {
-  faultless = (faultless_both xs ys h.faultless).0;
   looks = (looks_of t xs ys h.looks).0;
   reads = subst (ReadsPieces pieces) (ap (λ (z : List Act). z ++ behind) (acts_of-append xs ys) ∙ append_assoc (acts_of xs) (acts_of ys) behind) h.reads;
 }
 
 pub fair_then : (t : ℕ) (pieces later : List (List ℕ)) (xs ys : List Note) (behind : List Act) → IsFair t pieces (xs ++ ys) behind → ReadsPieces later (acts_of ys ++ behind) → IsFair t later ys behind
 fair_then t pieces later xs ys behind h reads = record {
-  faultless = (faultless_both xs ys h.faultless).1;
   looks = (looks_of t xs ys h.looks).1;
   reads = reads;
 }

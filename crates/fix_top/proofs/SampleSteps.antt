@@ -1,9 +1,11 @@
--- What the steps of an answer come to, one after another, where no part failed.
-use Rattle.std.proofs.Common.{◌≡◌, ◌⊎◌, inl, inr, ℕ, ◌+◌, ◌<◌, Bool, List, [], ◌∷◌, ◌++◌, Result, Ok, Err, refl, sym, ap, subst, arith}
+-- What the steps of an answer come to, one after another, where the parts have room.
+use Rattle.std.proofs.Common.{◌≡◌, ◌⊎◌, inl, inr, ℕ, ◌+◌, ◌-◌, ◌<◌, ◌≤◌, Bool, List, [], ◌∷◌, ◌++◌, length, take, Result, Ok, Err, refl, sym, ap, subst, arith}
 use Rattle.std.specs.Prelude.{⊤, Option}
+use Rattle.std.proofs.lemmas.List.{length-take}
 use Rattle.fix_base.specs.declared.act.Act.TheVariants as act
 use Rattle.fix_base.specs.declared.entry.Record.TheVariants.{Push}
 use Rattle.fix_base.specs.Fields.{Field}
+use Rattle.fix_base.specs.Line.{line_text}
 use Rattle.fix_base.specs.Says.{HasFields, body_of}
 use Rattle.fix_base.specs.Seen.{Note, Did}
 use Rattle.fix_engine.specs.declared.state.State.{State}
@@ -19,8 +21,7 @@ use Rattle.fix_engine.specs.Fold as fold
 use Rattle.fix_engine.specs.Fold.{Each}
 use Rattle.fix_engine.specs.Answer as answer
 use Rattle.fix_engine.specs.Answer.{IsSaid, entry_of, Performed}
-use Rattle.fix_engine.specs.Stated.{IsFaultless}
-use Rattle.fix_top.specs.Sample.{SAMPLE_ID}
+use Rattle.fix_top.specs.Sample.{SAMPLE_ID, HasRooms}
 
 abbrev pub Carries : List ℕ → State → List Step → List Note → Result ⊤ Ending → State → Type 0
 Carries frame = Each (Performed SAMPLE_ID frame)
@@ -71,14 +72,14 @@ pub record Follows (frame : List ℕ) (Q : List Note → State → Type 0) (xs :
   pub did : Q first mid
   pub others : Carries frame mid xs more r s'
 
--- a step that only want of memory ends comes to Q
-pub record IsDone (frame : List ℕ) (s : State) (x : Step) (Q : List Note → State → Type 0) : Type 0 where
-  pub fails : (notes : List Note) (e : Ending) (s' : State) → IsFaultless notes → Performed SAMPLE_ID frame s x notes (Err e) s' → e ≡ ending.OutOfMemory
+-- a step that only want of memory ends comes to Q, where there is so much room
+pub record IsDone (link app : ℕ) (frame : List ℕ) (s : State) (x : Step) (Q : List Note → State → Type 0) : Type 0 where
+  pub fails : (notes : List Note) (e : Ending) (s' : State) → HasRooms link app notes → Performed SAMPLE_ID frame s x notes (Err e) s' → e ≡ ending.OutOfMemory
   pub goes : (notes : List Note) (s' : State) → Performed SAMPLE_ID frame s x notes (Ok tt) s' → Q notes s'
 
-pub after_done : (frame : List ℕ) (s : State) (x : Step) (Q : List Note → State → Type 0) (xs : List Step) (notes : List Note) (r : Result ⊤ Ending) (s' : State) → IsDone frame s x Q → IsFaultless notes → Carries frame s (x ∷ xs) notes r s' → (r ≡ Err ending.OutOfMemory) ⊎ Follows frame Q xs notes r s'
-after_done frame s x Q xs notes r s' h fair (fold.ends {e = e} d) = inl (ap Err (h.fails notes e s' fair d))
-after_done frame s x Q xs notes r s' h fair (fold.goes {mid = mid} {first = first} {more = more} d k) = inr (record { first = first; more = more; mid = mid; is = refl; did = h.goes first mid d; others = k })
+pub after_done : (link app : ℕ) (frame : List ℕ) (s : State) (x : Step) (Q : List Note → State → Type 0) (xs : List Step) (notes : List Note) (r : Result ⊤ Ending) (s' : State) → IsDone link app frame s x Q → HasRooms link app notes → Carries frame s (x ∷ xs) notes r s' → (r ≡ Err ending.OutOfMemory) ⊎ Follows frame Q xs notes r s'
+after_done link app frame s x Q xs notes r s' h fair (fold.ends {e = e} d) = inl (ap Err (h.fails notes e s' fair d))
+after_done link app frame s x Q xs notes r s' h fair (fold.goes {mid = mid} {first = first} {more = more} d k) = inr (record { first = first; more = more; mid = mid; is = refl; did = h.goes first mid d; others = k })
 
 -- a message was kept and written
 pub record HasSent (s : State) (say : Say) (notes : List Note) (to : State) : Type 0 where
@@ -87,18 +88,26 @@ pub record HasSent (s : State) (say : Say) (notes : List Note) (to : State) : Ty
   pub noted : notes ≡ Did (act.Kept (Push (entry_of s say))) ∷ Did (act.Wrote text) ∷ []
   pub state : to ≡ with_last s (s.last + 1)
 
-send_fails : (frame : List ℕ) (s : State) (say : Say) (n : Option ℕ) → s.last < 999999999 → (notes : List Note) (e : Ending) (s' : State) → IsFaultless notes → Performed SAMPLE_ID frame s (step.Send say n) notes (Err e) s' → e ≡ ending.OutOfMemory
-send_fails frame s say n low notes e s' fair (answer.spent y m high) = absurd (omega (arith, low, high))
-send_fails frame s say n low notes e s' fair (answer.keep_memory y m h) = refl
-send_fails frame s say n low notes e s' fair (answer.keep_lost y m h) = absurd fair
-send_fails frame s say n low notes e s' fair (answer.write_lost y m text k h said) = absurd fair
-send_fails frame s say n low notes e s' fair (answer.write_memory y m h) = refl
+-- each text that is said so fits into this room
+abbrev pub SaidFits : ℕ → State → Say → Type 0
+SaidFits link s say = (text : List ℕ) → IsSaid SAMPLE_ID (s.last + 1) s.reading say text → length text ≤ link
+
+-- what of it didn't go out had room
+unsent_fits : (link sent : ℕ) (text : List ℕ) → length text ≤ link → link - length (take sent text) < length text - sent → ⊥
+unsent_fits link sent text fits lost = omega (arith, length-take sent text)
+
+send_fails : (link app : ℕ) (frame : List ℕ) (s : State) (say : Say) (n : Option ℕ) → s.last < 999999999 → SaidFits link s say → (notes : List Note) (e : Ending) (s' : State) → HasRooms link app notes → Performed SAMPLE_ID frame s (step.Send say n) notes (Err e) s' → e ≡ ending.OutOfMemory
+send_fails link app frame s say n low fits notes e s' fair (answer.spent y m high) = absurd (omega (arith, low, high))
+send_fails link app frame s say n low fits notes e s' fair (answer.keep_memory y m h) = refl
+send_fails link app frame s say n low fits notes e s' fair (answer.keep_lost y m h) = absurd fair
+send_fails link app frame s say n low fits notes e s' fair (answer.write_lost y m text k h said) = absurd (unsent_fits link k text (fits text said) fair.0)
+send_fails link app frame s say n low fits notes e s' fair (answer.write_memory y m h) = refl
 
 send_goes : (frame : List ℕ) (s : State) (say : Say) (n : Option ℕ) (notes : List Note) (s' : State) → Performed SAMPLE_ID frame s (step.Send say n) notes (Ok tt) s' → HasSent s say notes s'
 send_goes frame s say n notes s' (answer.sent y m text h said) = record { text = text; said = said; noted = refl; state = refl }
 
-pub send_done : (frame : List ℕ) (s : State) (say : Say) (n : Option ℕ) → s.last < 999999999 → IsDone frame s (step.Send say n) (HasSent s say)
-send_done frame s say n low = record { fails = send_fails frame s say n low; goes = send_goes frame s say n }
+pub send_done : (link app : ℕ) (frame : List ℕ) (s : State) (say : Say) (n : Option ℕ) → s.last < 999999999 → SaidFits link s say → IsDone link app frame s (step.Send say n) (HasSent s say)
+send_done link app frame s say n low fits = record { fails = send_fails link app frame s say n low fits; goes = send_goes frame s say n }
 
 -- a message was handed over
 pub record HasHanded (frame : List ℕ) (s : State) (n : ℕ) (marked : Bool) (notes : List Note) (to : State) : Type 0 where
@@ -107,15 +116,22 @@ pub record HasHanded (frame : List ℕ) (s : State) (n : ℕ) (marked : Bool) (n
   pub noted : notes ≡ Did (act.Handed n marked (body_of fields)) ∷ []
   pub state : to ≡ s
 
-hand_fails : (frame : List ℕ) (s : State) (n : ℕ) (marked : Bool) (notes : List Note) (e : Ending) (s' : State) → IsFaultless notes → Performed SAMPLE_ID frame s (step.Hand n marked) notes (Err e) s' → e ≡ ending.OutOfMemory
-hand_fails frame s n marked notes e s' fair (answer.hand_lost k m fields has) = absurd fair
-hand_fails frame s n marked notes e s' fair (answer.hand_memory k m) = refl
+-- the line of the message fits into this room
+abbrev pub LineFits : ℕ → List ℕ → ℕ → Bool → Type 0
+LineFits app frame n marked = (fields : List Field) → HasFields frame fields → length (line_text n marked (body_of fields)) ≤ app
+
+line_fits : (app line : ℕ) → line ≤ app → app < line → ⊥
+line_fits app line fits lost = omega (arith, fits, lost)
+
+hand_fails : (link app : ℕ) (frame : List ℕ) (s : State) (n : ℕ) (marked : Bool) → LineFits app frame n marked → (notes : List Note) (e : Ending) (s' : State) → HasRooms link app notes → Performed SAMPLE_ID frame s (step.Hand n marked) notes (Err e) s' → e ≡ ending.OutOfMemory
+hand_fails link app frame s n marked fits notes e s' fair (answer.hand_lost k m fields has) = absurd (line_fits app (length (line_text n marked (body_of fields))) (fits fields has) fair.0)
+hand_fails link app frame s n marked fits notes e s' fair (answer.hand_memory k m) = refl
 
 hand_goes : (frame : List ℕ) (s : State) (n : ℕ) (marked : Bool) (notes : List Note) (s' : State) → Performed SAMPLE_ID frame s (step.Hand n marked) notes (Ok tt) s' → HasHanded frame s n marked notes s'
 hand_goes frame s n marked notes s' (answer.taken k m fields has) = record { fields = fields; has = has; noted = refl; state = refl }
 
-pub hand_done : (frame : List ℕ) (s : State) (n : ℕ) (marked : Bool) → IsDone frame s (step.Hand n marked) (HasHanded frame s n marked)
-hand_done frame s n marked = record { fails = hand_fails frame s n marked; goes = hand_goes frame s n marked }
+pub hand_done : (link app : ℕ) (frame : List ℕ) (s : State) (n : ℕ) (marked : Bool) → LineFits app frame n marked → IsDone link app frame s (step.Hand n marked) (HasHanded frame s n marked)
+hand_done link app frame s n marked fits = record { fails = hand_fails link app frame s n marked fits; goes = hand_goes frame s n marked }
 
 close_ok : (frame : List ℕ) (s : State) (why : Why) (notes : List Note) (mid : State) → Performed SAMPLE_ID frame s (step.Close why) notes (Ok tt) mid → ⊥
 close_ok frame s why notes mid d = elim d [ ]

@@ -1,11 +1,13 @@
 -- A sample session: a Logon, an order and a Logout come, and each gets its answer.
-use Rattle.std.specs.Prelude.{◌≡◌, ◌⊎◌, ◌==◌, if◌then◌else◌, codes, ℕ, List, [], ◌∷◌, ◌++◌, false, ⊤}
+use Rattle.std.specs.Prelude.{◌≡◌, ◌⊎◌, ◌==◌, ◌<◌, ◌-◌, if◌then◌else◌, codes, length, ℕ, List, [], ◌∷◌, ◌++◌, Option, Some, false, ⊤}
 use Rattle.fix_base.specs.declared.act.Act.{Act}
 use Rattle.fix_base.specs.declared.act.Act.TheVariants as act
 use Rattle.fix_base.specs.declared.identity.Identity.{Identity}
 use Rattle.fix_base.specs.declared.identity.Begin.TheVariants.{Fix42}
 use Rattle.fix_base.specs.Says.{joined}
+use Rattle.fix_base.specs.Line.{line_text}
 use Rattle.fix_base.specs.Parts.{left_before}
+use Rattle.fix_base.specs.Seen.{Note, Did, Failed, StorePart, LinkPart, AppPart}
 use Rattle.fix_engine.specs.InStep.{bytes_written}
 
 -- the text with an SOH for each bar
@@ -20,6 +22,10 @@ SAMPLE_ID = record { begin = Fix42; sender = codes "SELL"; target = codes "BUY" 
 -- 2024-01-02 10:00:00 in microseconds since 1970
 abbrev pub SAMPLE_TIME : ℕ
 SAMPLE_TIME = 1704189600000000
+
+-- parts in memory keep so many bytes that are written, and so many of lines
+abbrev pub ROOM : ℕ
+ROOM = 1000
 
 -- what comes: a Logon (A), an order (D) and a Logout (5)
 unfoldable pub LOGON : List ℕ
@@ -45,6 +51,10 @@ LOGOUT_ANSWER = wire (codes "8=FIX.4.2|9=50|35=5|34=2|49=SELL|52=20240102-10:00:
 -- the body of the order, which is handed over
 unfoldable pub BODY : List ℕ
 BODY = wire (codes "35=D|11=A1|21=1|55=XYZ|54=1|60=20240102-10:00:00|40=1|")
+
+-- the line of text that shows the order to an application
+unfoldable pub LINE : List ℕ
+LINE = codes "2 N 35=D|11=A1|21=1|55=XYZ|54=1|60=20240102-10:00:00|40=1|" ++ 10 ∷ []
 
 -- each look at the clock finds this time
 abbrev pub LooksAt : ℕ → List Act → Type 0
@@ -79,10 +89,31 @@ ReadsPieces pieces (act.HandLost n marked body ∷ acts) = ReadsPieces pieces ac
 ReadsPieces pieces (act.Cut ∷ acts) = ReadsPieces pieces acts
 ReadsPieces pieces (act.Stop ∷ acts) = ReadsPieces pieces acts
 
--- the messages that were handed over
+-- The store never fails, the connection fails only at a write that doesn't fit into its room, and the application only
+-- at a line that doesn't fit into its own: so many bytes at first, and less by what goes there.
+abbrev pub HasRooms : ℕ → ℕ → List Note → Type 0
+HasRooms link app [] = ⊤
+HasRooms link app (Did (act.Wrote b) ∷ notes) = HasRooms (link - length b) app notes
+HasRooms link app (Did (act.Handed n marked body) ∷ notes) = HasRooms link (app - length (line_text n marked body)) notes
+HasRooms link app (Did (act.HandLost n marked body) ∷ notes) = (app < length (line_text n marked body)) × HasRooms link app notes
+HasRooms link app (Did (act.KeepLost r) ∷ notes) = ⊥
+HasRooms link app (Did (act.Kept r) ∷ notes) = HasRooms link app notes
+HasRooms link app (Did (act.Now t) ∷ notes) = HasRooms link app notes
+HasRooms link app (Did (act.Read b) ∷ notes) = HasRooms link app notes
+HasRooms link app (Did act.Opened ∷ notes) = HasRooms link app notes
+HasRooms link app (Did act.Idle ∷ notes) = HasRooms link app notes
+HasRooms link app (Did act.Ended ∷ notes) = HasRooms link app notes
+HasRooms link app (Did act.Cut ∷ notes) = HasRooms link app notes
+HasRooms link app (Did act.Stop ∷ notes) = HasRooms link app notes
+HasRooms link app (Failed (LinkPart unsent) ∷ notes) = (link < unsent) × HasRooms link app notes
+HasRooms link app (Failed StorePart ∷ notes) = HasRooms link app notes
+HasRooms link app (Failed AppPart ∷ notes) = HasRooms link app notes
+
+-- the messages that were handed over, and those that may have been lost at that
 abbrev pub handed_in : List Act → List Act
 handed_in [] = []
 handed_in (act.Handed n marked body ∷ acts) = act.Handed n marked body ∷ handed_in acts
+handed_in (act.HandLost n marked body ∷ acts) = act.HandLost n marked body ∷ handed_in acts
 handed_in (act.Opened ∷ acts) = handed_in acts
 handed_in (act.Now t ∷ acts) = handed_in acts
 handed_in (act.Read b ∷ acts) = handed_in acts
@@ -91,11 +122,10 @@ handed_in (act.Ended ∷ acts) = handed_in acts
 handed_in (act.Wrote b ∷ acts) = handed_in acts
 handed_in (act.Kept r ∷ acts) = handed_in acts
 handed_in (act.KeepLost r ∷ acts) = handed_in acts
-handed_in (act.HandLost n marked body ∷ acts) = handed_in acts
 handed_in (act.Cut ∷ acts) = handed_in acts
 handed_in (act.Stop ∷ acts) = handed_in acts
 
--- the status 0, with these bytes written and these messages handed over
+-- the status 0, with these bytes written and these messages handed over, and none lost at that
 pub record IsServedSo (status : ℕ) (written : List ℕ) (handed : List Act) (acts : List Act) : Type 0 where
   pub done : status ≡ 0
   pub wrote : bytes_written acts ≡ written
@@ -105,3 +135,13 @@ pub record IsServedSo (status : ℕ) (written : List ℕ) (handed : List Act) (a
 -- refused
 abbrev pub ServesSample : ℕ → List Act → Type 0
 ServesSample status acts = (status ≡ 9) ⊎ IsServedSo status (LOGON_ANSWER ++ LOGOUT_ANSWER) (act.Handed 2 false BODY ∷ []) acts
+
+-- the status 0, with these bytes written on the connection and these lines handed to the application, and no others
+pub record HasWritten (status : ℕ) (written lines : Option (List ℕ)) : Type 0 where
+  pub done : status ≡ 0
+  pub wrote : written ≡ Some (LOGON_ANSWER ++ LOGOUT_ANSWER)
+  pub gave : lines ≡ Some LINE
+
+-- the same as `ServesSample`, by what was written on the connection and the lines that were handed over
+abbrev pub WritesSample : ℕ → Option (List ℕ) → Option (List ℕ) → Type 0
+WritesSample status written lines = (status ≡ 9) ⊎ HasWritten status written lines

@@ -1,11 +1,13 @@
 //! Serves a session over an Outside, by the words that a program is started with.
 #![tactic(auto)]
 
+mod sample;
 mod serve;
 mod status;
 #[cfg(test)]
 mod tests;
 mod words;
 
+pub use sample::{InMemory, Sampled, serve_sample};
 pub use serve::serve_stdio;
 pub use status::status_name;

@@ -1,3 +1,7 @@
+ghost use Rattle.std.specs.Prelude.{◌≡◌, IfOk};
+ghost use Rattle.fix_base.specs.Says.{joined};
+ghost use Rattle.fix_top.specs.Sample.{SAMPLE};
+
 use super::*;
 use fix_base::{Bytes, Status, Stored};
 use fix_disk::MemorySink;
@@ -251,5 +255,24 @@ fn turns_are_spent(rt: HostRuntime) -> Result<(), Fail> {
     let (status, _) = served(alloc, WORDS.as_slice(), pieces, NONE, 1)?;
     assert_eq!(rt; status_name(status), "Turns");
     assert_eq!(rt; status, Status(8));
+    Ok(())
+}
+
+// The sample in one piece.
+fn sample_at_once(alloc: Global) -> Result<Vec<Bytes>, Fail>
+    ensures { IfOk result (λ pieces. joined pieces.items ≡ SAMPLE) }
+{
+    let bytes =
+        b"8=FIX.4.2\x019=58\x0135=A\x0134=1\x0149=BUY\x0152=20240102-10:00:00\x0156=SELL\x0198=0\x01108=30\x0110=063\x018=FIX.4.2\x019=95\x0135=D\x0134=2\x0149=BUY\x0152=20240102-10:00:00\x0156=SELL\x0111=A1\x0121=1\x0155=XYZ\x0154=1\x0160=20240102-10:00:00\x0140=1\x0110=094\x018=FIX.4.2\x019=46\x0135=5\x0134=3\x0149=BUY\x0152=20240102-10:00:00\x0156=SELL\x0110=025\x01";
+    let mut pieces = Vec::new(alloc);
+    pieces.push(Bytes::copy(alloc, bytes)?)?;
+    Ok(pieces)
+}
+
+#[test]
+fn memory_suffices_for_the_sample(rt: HostRuntime) -> Result<(), Fail> {
+    let alloc = rt.alloc();
+    let served = serve_sample(alloc, sample_at_once(alloc)?)?;
+    assert_eq!(rt; served.status, Status(0));
     Ok(())
 }

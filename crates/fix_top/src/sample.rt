@@ -1,0 +1,62 @@
+ghost use Rattle.std.specs.Prelude.{◌≡◌, [], ◌∷◌, Some, IfOk};
+ghost use Rattle.fix_base.specs.Says.{joined};
+ghost use Rattle.fix_parts.specs.Memory.{link_of, sink_of, readings_of};
+ghost use Rattle.fix_engine.specs.Plain.{link_in, app_in, clock_in, store_in, store_from};
+ghost use Rattle.fix_top.specs.Sample.{SAMPLE, SAMPLE_TIME, ROOM as SAMPLE_ROOM, WritesSample};
+
+use crate::serve::serve_stdio;
+use fix_base::{Bytes, OutOfMemory, Status};
+use fix_engine::Plain;
+use fix_parts::{KeptTape, LineApp, MemoryClock, MemoryLink, MemorySink};
+use std::alloc::Global;
+
+/// So many bytes that are written are kept, and so many of lines.
+const ROOM: usize = 1000;
+/// 2024-01-02 10:00:00, in microseconds since 1970.
+const TIME: u64 = 1_704_189_600_000_000;
+
+/// The parts in memory over which the sample is served.
+pub type InMemory = Plain<MemoryLink, LineApp<MemorySink>, MemoryClock, KeptTape>;
+
+/// What came of serving the sample.
+#[derive(Drop)]
+pub struct Sampled {
+    pub status: Status,
+    /// The parts, with what was written and handed over.
+    pub outside: InMemory,
+}
+
+// The parts in memory, of which none fails before its room is spent.
+fn outside(alloc: Global, pieces: Vec<Bytes>) -> Result<InMemory, OutOfMemory>
+    ensures link { IfOk result (λ made. link_of (link_in made) ≡ record { to_come = Some pieces.items; written = Some []; room = Some SAMPLE_ROOM; faults = 0 }) }
+    ensures sink { IfOk result (λ made. sink_of (app_in made) ≡ record { written = Some []; room = Some SAMPLE_ROOM; faults = 0 }) }
+    ensures clock { IfOk result (λ made. readings_of (clock_in made) ≡ SAMPLE_TIME ∷ []) }
+    ensures store { IfOk result (λ made. store_in made ≡ store_from []) }
+{
+    let link = MemoryLink::new(alloc, pieces, ROOM, Vec::new(alloc))?;
+    let sink = MemorySink::new(alloc, ROOM, Vec::new(alloc))?;
+    Ok(Plain::new(
+        alloc,
+        link,
+        LineApp::new(alloc, sink),
+        MemoryClock::new(Vec::from_slice(alloc, &[TIME])?),
+        KeptTape::new(alloc),
+        Vec::new(alloc),
+    ))
+}
+
+/// Serves the sample session over parts in memory: a counterparty `BUY` sends a Logon, an order and
+/// a Logout of FIX.4.2 to this end, `SELL`, at 2024-01-02 10:00:00, cut into these pieces.
+///
+/// Nothing is assumed of the parts. The status is 0, the Logon and the Logout were answered on the
+/// connection, and the line of the order was handed over; or the status is 9, which says that memory
+/// was refused. Memory for the parts themselves may be refused too.
+pub fn serve_sample(alloc: Global, pieces: Vec<Bytes>) -> Result<Sampled, OutOfMemory>
+    requires { joined pieces.items ≡ SAMPLE }
+    ensures { IfOk result (λ made. WritesSample made.status.0 (link_of (link_in made.outside)).written (sink_of (app_in made.outside)).written) }
+{
+    let mut outside = outside(alloc, pieces)?;
+    let words = ["--stdio", "FIX.4.2", "SELL", "BUY"];
+    let status = serve_stdio(alloc, words.as_slice(), &mut outside, u64::MAX);
+    Ok(Sampled { status, outside })
+}
