@@ -3,7 +3,7 @@ use Rattle.std.proofs.Common.{◌≡◌, ◌+◌, List, [], ◌∷◌, ◌++◌,
 use Rattle.std.proofs.lemmas.List.{append-nil}
 use Rattle.fix_base.specs.declared.act.Act.{Act}
 use Rattle.fix_base.specs.End.{End}
-use Rattle.fix_base.specs.Parts.{Parts}
+use Rattle.fix_base.specs.Parts.{PartsSeen}
 use Rattle.fix_base.specs.Seen.{Stores, grown, StorePart, LinkPart, AppPart, Note, Did, Failed, acts_of, store_failures, link_failures, app_failures, Follows, Seen, Moves}
 
 pub grown-append : (t : Option (List Act)) (xs ys : List Act) → grown (grown t xs) ys ≡ grown t (xs ++ ys)
@@ -40,7 +40,7 @@ app_failures-append (Failed StorePart ∷ xs) ys = app_failures-append xs ys
 app_failures-append (Failed (LinkPart unsent) ∷ xs) ys = app_failures-append xs ys
 app_failures-append (Failed AppPart ∷ xs) ys = omega (arith, app_failures-append xs ys)
 
-pub Follows-append : (xs ys : List Note) (a b c : Parts) → Follows xs a b → Follows ys b c → Follows (xs ++ ys) a c
+pub Follows-append : (xs ys : List Note) (a b c : PartsSeen) → Follows xs a b → Follows ys b c → Follows (xs ++ ys) a c
 Follows-append [] ys a b c x y = rw (← x) y
 Follows-append (note ∷ xs) ys a b c x y = (x.0, x.1, Follows-append xs ys x.0 b c x.2 y)
 

@@ -4,7 +4,7 @@ use Rattle.fix_base.specs.Lists.{IsPrefixOf}
 use Rattle.fix_base.specs.Line.{line_text}
 use Rattle.fix_base.specs.Act.{Act, Opened, Now, Read, Idle, Ended, Wrote, Kept, KeepLost, Handed, HandLost, Cut, Stop}
 
-pub record Parts : Type 0 where
+pub record PartsSeen : Type 0 where
   pub to_come : Option (List (List ℕ))  -- the pieces that reads give yet; an empty one is Idle
   pub readings : Option (List ℕ)  -- of the clock
   pub written : Option (List ℕ)  -- the bytes that went out on the connection
@@ -68,23 +68,23 @@ abbrev pub LosesLine : List ℕ → Option (List ℕ) → Option (List ℕ) → 
 LosesLine line old new = (part : List ℕ) × IsPrefixOf part line × (new ≡ extended old part)
 
 -- the same parts but for what is named
-abbrev pub with_to_come : Parts → Option (List (List ℕ)) → Parts
+abbrev pub with_to_come : PartsSeen → Option (List (List ℕ)) → PartsSeen
 with_to_come p to_come = record { to_come = to_come; readings = p.readings; written = p.written; link_room = p.link_room; lines = p.lines; line_room = p.line_room; sure = p.sure }
 
-abbrev pub with_readings : Parts → Option (List ℕ) → Parts
+abbrev pub with_readings : PartsSeen → Option (List ℕ) → PartsSeen
 with_readings p readings = record { to_come = p.to_come; readings = readings; written = p.written; link_room = p.link_room; lines = p.lines; line_room = p.line_room; sure = p.sure }
 
-abbrev pub with_written : Parts → List ℕ → Parts
+abbrev pub with_written : PartsSeen → List ℕ → PartsSeen
 with_written p bytes = record { to_come = p.to_come; readings = p.readings; written = extended p.written bytes; link_room = less (length bytes) p.link_room; lines = p.lines; line_room = p.line_room; sure = p.sure }
 
-abbrev pub with_line : Parts → List ℕ → Parts
+abbrev pub with_line : PartsSeen → List ℕ → PartsSeen
 with_line p line = record { to_come = p.to_come; readings = p.readings; written = p.written; link_room = p.link_room; lines = extended p.lines line; line_room = less (length line) p.line_room; sure = p.sure }
 
-abbrev pub with_lines : Parts → Option (List ℕ) → Parts
+abbrev pub with_lines : PartsSeen → Option (List ℕ) → PartsSeen
 with_lines p lines = record { to_come = p.to_come; readings = p.readings; written = p.written; link_room = p.link_room; lines = lines; line_room = p.line_room; sure = p.sure }
 
 -- what an act does to what the parts tell
-abbrev pub ActMoves : Act → Parts → Parts → Type 0
+abbrev pub ActMoves : Act → PartsSeen → PartsSeen → Type 0
 ActMoves (Now t) old new = ClockReads t old.readings new.readings × (new ≡ with_readings old new.readings)
 ActMoves (Read b) old new = GivesBytes b old.to_come new.to_come × (new ≡ with_to_come old new.to_come)
 ActMoves Idle old new = GivesIdle old.to_come new.to_come × (new ≡ with_to_come old new.to_come)

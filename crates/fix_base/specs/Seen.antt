@@ -2,7 +2,7 @@
 -- often each part failed, and what the parts have yet to give and were given.
 use Rattle.std.specs.Prelude.{◌≡◌, ◌⊎◌, ℕ, suc, ◌+◌, ◌≤◌, min, List, [], ◌∷◌, ◌++◌, Option, Some, None}
 use Rattle.fix_base.specs.End.{Record, End, folded}
-use Rattle.fix_base.specs.Parts.{Parts, ActMoves, HasNoRoom}
+use Rattle.fix_base.specs.Parts.{PartsSeen, ActMoves, HasNoRoom}
 use Rattle.fix_base.specs.Act.{Act, Opened, Now, Read, Idle, Ended, Wrote, Kept, KeepLost, Handed, HandLost, Cut, Stop}
 
 abbrev pub option_folded : Option End → Record → Option End
@@ -100,23 +100,23 @@ pub record NoneRose (old new : Faults) : Type 0 where
   pub app : Rises 1 old.app new.app → ⊥
 
 -- what one thing that came of a call does to what the parts tell
-abbrev pub NoteMoves : Note → Parts → Parts → Type 0
+abbrev pub NoteMoves : Note → PartsSeen → PartsSeen → Type 0
 NoteMoves (Did act) old new = ActMoves act old new
 NoteMoves (Failed StorePart) old new = new ≡ old
 NoteMoves (Failed (LinkPart unsent)) old new = HasNoRoom unsent old.link_room × (new ≡ old)
 NoteMoves (Failed AppPart) old new = new ≡ old
 
 -- the same of several, one after another
-abbrev pub Follows : List Note → Parts → Parts → Type 0
+abbrev pub Follows : List Note → PartsSeen → PartsSeen → Type 0
 Follows [] old new = new ≡ old
-Follows (note ∷ notes) old new = (mid : Parts) × NoteMoves note old mid × Follows notes mid new
+Follows (note ∷ notes) old new = (mid : PartsSeen) × NoteMoves note old mid × Follows notes mid new
 
 -- what is seen from outside of an Outside
 pub record Seen : Type 0 where
   pub tape : Option (List Act)
   pub stored : Option End
   pub faults : Faults
-  pub parts : Parts
+  pub parts : PartsSeen
 
 -- this came of some calls, and nothing else
 pub record Moves (old new : Seen) (notes : List Note) : Type 0 where

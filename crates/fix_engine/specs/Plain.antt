@@ -4,7 +4,7 @@ use Rattle.std.specs.Prelude.{◌≡◌, ℕ, ◌+◌, ◌<◌, min, List, [], �
 use Rattle.fix_base.specs.declared.entry.Record.{Record}
 use Rattle.fix_base.specs.End.{End, new_end, folded}
 use Rattle.fix_base.specs.declared.act.Act.{Act}
-use Rattle.fix_base.specs.Parts.{Parts}
+use Rattle.fix_base.specs.Parts.{PartsSeen}
 use Rattle.fix_base.specs.Seen.{Seen, LAST_COUNT}
 use Rattle.fix_base.specs.declared.entry.Stored.{Stored}
 use Rattle.fix_parts.specs.Link.{LinkSeen}
@@ -81,7 +81,7 @@ abbrev pub store_in : {L A C T : Type 0} → Plain L A C T → StoreSeen
 store_in p = store_of p.store
 
 -- what is seen of the whole, from what is seen of the parts
-abbrev pub parts_of : StoreSeen → LinkSeen → AppSeen → Option (List ℕ) → Parts
+abbrev pub parts_of : StoreSeen → LinkSeen → AppSeen → Option (List ℕ) → PartsSeen
 parts_of store link app readings = record { to_come = link.to_come; readings = readings; written = link.written; link_room = link.room; lines = app.lines; line_room = app.room; sure = is_sure store.fail }
 
 abbrev pub seen_of : Option (List Act) → StoreSeen → LinkSeen → AppSeen → Option (List ℕ) → Seen

@@ -5,7 +5,7 @@ use Rattle.std.proofs.lemmas.List.{append-nil}
 use Rattle.fix_base.specs.declared.act.Act.{Act}
 use Rattle.fix_base.specs.declared.act.Act.TheVariants as act
 use Rattle.fix_base.specs.Line.{line_text}
-use Rattle.fix_base.specs.Parts.{Parts, extended, less, HasNoRoom, ClockReads, GivesBytes, GivesIdle, GivesEnd, later_readings, left_before}
+use Rattle.fix_base.specs.Parts.{PartsSeen, extended, less, HasNoRoom, ClockReads, GivesBytes, GivesIdle, GivesEnd, later_readings, left_before}
 use Rattle.fix_base.specs.Seen.{Note, Did, Failed, StorePart, LinkPart, AppPart, acts_of, Follows}
 use Rattle.fix_engine.specs.InStep.{bytes_written}
 use Rattle.fix_top.specs.Sample.{LooksAt, ReadsPieces, HasRooms, handed_in}
@@ -17,7 +17,7 @@ abbrev Rooms : Type 0
 Rooms = Option ℕ × Option ℕ × Bool
 
 -- the rooms that are told, and whether the store is sure
-abbrev pub told_rooms : Parts → Rooms
+abbrev pub told_rooms : PartsSeen → Rooms
 told_rooms p = (p.link_room, p.line_room, p.sure)
 
 no_room : (n : ℕ) (room : Option ℕ) (told : ℕ) → room ≡ Some told → HasNoRoom n room → told < n
@@ -26,7 +26,7 @@ no_room n room told e h = subst (HasNoRoom n) e h
 not_sure : (sure : Bool) → sure ≡ true → sure ≡ false → ⊥
 not_sure sure a b = cc
 
-pub rooms_told : (notes : List Note) (old new : Parts) (link app : ℕ) → told_rooms old ≡ (Some link, Some app, true) → Follows notes old new → HasRooms link app notes
+pub rooms_told : (notes : List Note) (old new : PartsSeen) (link app : ℕ) → told_rooms old ≡ (Some link, Some app, true) → Follows notes old new → HasRooms link app notes
 rooms_told [] old new link app h f = tt
 rooms_told (Did (act.Wrote b) ∷ notes) old new link app h f =
     rooms_told notes f.0 new (link - length b) app (ap told_rooms f.1 ∙ ap (λ (x : Rooms). (less (length b) x.0, x.1, x.2)) h) f.2
@@ -51,7 +51,7 @@ rooms_told (Failed AppPart ∷ notes) old new link app h f = rooms_told notes f.
 
 -- ---- the time
 
-abbrev readings_in : Parts → Option (List ℕ)
+abbrev readings_in : PartsSeen → Option (List ℕ)
 readings_in p = p.readings
 
 -- the last reading is given, and given again
@@ -64,7 +64,7 @@ last_again t u old new e h =
     let is = reads_last t u g.0 g.1 in
     (is.0, g.2 ∙ ap (λ (w : List ℕ). Some (later_readings u w)) is.1 ∙ ap (λ n. Some (n ∷ [])) is.0)
 
-pub looks_told : (t : ℕ) (notes : List Note) (old new : Parts) → old.readings ≡ Some (t ∷ []) → Follows notes old new → LooksAt t (acts_of notes)
+pub looks_told : (t : ℕ) (notes : List Note) (old new : PartsSeen) → old.readings ≡ Some (t ∷ []) → Follows notes old new → LooksAt t (acts_of notes)
 looks_told t [] old new h f = tt
 looks_told t (Did (act.Wrote b) ∷ notes) old new h f = looks_told t notes f.0 new (ap readings_in f.1 ∙ h) f.2
 looks_told t (Did (act.Handed n marked body) ∷ notes) old new h f = looks_told t notes f.0 new (ap readings_in f.1 ∙ h) f.2
@@ -86,10 +86,10 @@ looks_told t (Failed AppPart ∷ notes) old new h f = looks_told t notes f.0 new
 
 -- ---- the pieces
 
-abbrev come_in : Parts → Option (List (List ℕ))
+abbrev come_in : PartsSeen → Option (List (List ℕ))
 come_in p = p.to_come
 
-pub reads_told : (pieces : List (List ℕ)) (notes : List Note) (old new : Parts) → old.to_come ≡ Some pieces → Follows notes old new → ReadsPieces pieces (acts_of notes)
+pub reads_told : (pieces : List (List ℕ)) (notes : List Note) (old new : PartsSeen) → old.to_come ≡ Some pieces → Follows notes old new → ReadsPieces pieces (acts_of notes)
 reads_told pieces [] old new h f = tt
 reads_told pieces (Did (act.Wrote b) ∷ notes) old new h f = reads_told pieces notes f.0 new (ap come_in f.1 ∙ h) f.2
 reads_told pieces (Did (act.Handed n marked body) ∷ notes) old new h f = reads_told pieces notes f.0 new (ap come_in f.1 ∙ h) f.2
@@ -115,10 +115,10 @@ reads_told pieces (Failed AppPart ∷ notes) old new h f = reads_told pieces not
 
 -- ---- what was written
 
-abbrev written_in : Parts → Option (List ℕ)
+abbrev written_in : PartsSeen → Option (List ℕ)
 written_in p = p.written
 
-pub wrote_told : (w : List ℕ) (notes : List Note) (old new : Parts) → old.written ≡ Some w → Follows notes old new → new.written ≡ Some (w ++ bytes_written (acts_of notes))
+pub wrote_told : (w : List ℕ) (notes : List Note) (old new : PartsSeen) → old.written ≡ Some w → Follows notes old new → new.written ≡ Some (w ++ bytes_written (acts_of notes))
 wrote_told w [] old new h f = ap written_in f ∙ h ∙ ap Some (sym (append-nil w))
 wrote_told w (Did (act.Wrote b) ∷ notes) old new h f =
     wrote_told (w ++ b) notes f.0 new (ap written_in f.1 ∙ ap (λ (o : Option (List ℕ)). extended o b) h) f.2 ∙ ap Some (append_assoc w b (bytes_written (acts_of notes)))
@@ -139,7 +139,7 @@ wrote_told w (Failed AppPart ∷ notes) old new h f = wrote_told w notes f.0 new
 
 -- ---- the lines
 
-abbrev lines_of : Parts → Option (List ℕ)
+abbrev lines_of : PartsSeen → Option (List ℕ)
 lines_of p = p.lines
 
 -- none was lost
@@ -148,7 +148,7 @@ AreTaken [] = ⊤
 AreTaken (act.Handed n marked body ∷ acts) = AreTaken acts
 AreTaken (other ∷ acts) = ⊥
 
-pub lines_told : (w : List ℕ) (notes : List Note) (old new : Parts) → AreTaken (handed_in (acts_of notes)) → old.lines ≡ Some w → Follows notes old new → new.lines ≡ Some (w ++ lines_in (handed_in (acts_of notes)))
+pub lines_told : (w : List ℕ) (notes : List Note) (old new : PartsSeen) → AreTaken (handed_in (acts_of notes)) → old.lines ≡ Some w → Follows notes old new → new.lines ≡ Some (w ++ lines_in (handed_in (acts_of notes)))
 lines_told w [] old new t h f = ap lines_of f ∙ h ∙ ap Some (sym (append-nil w))
 lines_told w (Did (act.Wrote b) ∷ notes) old new t h f = lines_told w notes f.0 new t (ap lines_of f.1 ∙ h) f.2
 lines_told w (Did (act.Handed n marked body) ∷ notes) old new t h f =

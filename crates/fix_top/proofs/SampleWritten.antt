@@ -3,7 +3,7 @@ use Rattle.std.proofs.Common.{◌≡◌, ℕ, ◌+◌, ◌^◌, ◌<◌, ◌≤�
 use Rattle.std.proofs.lemmas.List.{append-nil}
 use Rattle.fix_base.specs.declared.act.Act.{Act}
 use Rattle.fix_base.specs.Line.{line_text, body_text}
-use Rattle.fix_base.specs.Parts.{Parts}
+use Rattle.fix_base.specs.Parts.{PartsSeen}
 use Rattle.fix_base.specs.Says.{joined}
 use Rattle.fix_base.specs.Seen.{Note, acts_of, Follows}
 use Rattle.fix_parts.specs.Link.{LinkSeen}
@@ -19,7 +19,7 @@ use Rattle.fix_top.proofs.SampleParts.{rooms_told, looks_told, reads_told, wrote
 use Rattle.fix_top.proofs.SampleLemmas.{ALL_LINES, sample_served}
 
 -- parts with these pieces to come and one reading, to which nothing was given and that fail only where this room is spent
-abbrev pub sample_parts : List (List ℕ) → Parts
+abbrev pub sample_parts : List (List ℕ) → PartsSeen
 sample_parts pieces = record { to_come = Some pieces; readings = Some (SAMPLE_TIME ∷ []); written = Some []; link_room = Some ROOM; lines = Some []; line_room = Some ROOM; sure = true }
 
 -- parts in memory that were just made
@@ -55,7 +55,7 @@ unfolding LOGON_ANSWER LOGOUT_ANSWER
 answers_long = lit≤ tt
 
 -- what such parts were given, by the acts
-told_so : (status : ℕ) (notes : List Note) (new : Parts) (pieces : List (List ℕ)) → Follows notes (sample_parts pieces) new → ServesSample status (acts_of notes) → WritesSample status new.written new.lines
+told_so : (status : ℕ) (notes : List Note) (new : PartsSeen) (pieces : List (List ℕ)) → Follows notes (sample_parts pieces) new → ServesSample status (acts_of notes) → WritesSample status new.written new.lines
 told_so status notes new pieces f (inl memory) = inl memory
 told_so status notes new pieces f (inr s) =
     let old = sample_parts pieces in
@@ -66,10 +66,10 @@ told_so status notes new pieces f (inr s) =
     })
 
 -- parts with the sample's bytes to come, and with so much room, are given the answers and the line of the order
-pub sample_written : (turns status : ℕ) (notes : List Note) (old new : Parts) (pieces : List (List ℕ)) → joined pieces ≡ SAMPLE → length pieces + length SAMPLE < turns → old ≡ sample_parts pieces → Served SAMPLE_ID turns status notes → Follows notes old new → WritesSample status new.written new.lines
+pub sample_written : (turns status : ℕ) (notes : List Note) (old new : PartsSeen) (pieces : List (List ℕ)) → joined pieces ≡ SAMPLE → length pieces + length SAMPLE < turns → old ≡ sample_parts pieces → Served SAMPLE_ID turns status notes → Follows notes old new → WritesSample status new.written new.lines
 sample_written turns status notes old new pieces bytes enough is served follows =
     let from = sample_parts pieces in
-    let f : Follows notes from new = subst (λ (p : Parts). Follows notes p new) is follows in
+    let f : Follows notes from new = subst (λ (p : PartsSeen). Follows notes p new) is follows in
     told_so status notes new pieces f
     (sample_served turns status notes pieces bytes enough served ROOM ROOM answers_long (omega (arith, ap length all_lines, line_long))
     (rooms_told notes from new ROOM ROOM refl f) (looks_told SAMPLE_TIME notes from new refl f) (reads_told pieces notes from new refl f))

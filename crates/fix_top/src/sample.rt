@@ -1,13 +1,15 @@
 ghost use Rattle.std.specs.Prelude.{◌≡◌, [], ◌∷◌, Some, IfOk};
 ghost use Rattle.fix_base.specs.Says.{joined};
-ghost use Rattle.fix_parts.specs.Memory.{link_of, sink_of, readings_of};
+ghost use Rattle.fix_disk.specs.MemorySink.{sink_of};
+ghost use Rattle.fix_parts.specs.Memory.{link_of, readings_of};
 ghost use Rattle.fix_engine.specs.Plain.{link_in, app_in, clock_in, store_in, store_from};
 ghost use Rattle.fix_top.specs.Sample.{SAMPLE, SAMPLE_TIME, ROOM as SAMPLE_ROOM, WritesSample};
 
 use crate::serve::serve_stdio;
 use fix_base::{Bytes, OutOfMemory, Status};
 use fix_engine::Plain;
-use fix_parts::{KeptTape, LineApp, MemoryClock, MemoryLink, MemorySink};
+use fix_disk::MemorySink;
+use fix_parts::{KeptTape, LineApp, MemoryClock, MemoryLink};
 use std::alloc::Global;
 
 /// So many bytes that are written are kept, and so many of lines.
