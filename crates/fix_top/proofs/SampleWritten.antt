@@ -7,7 +7,7 @@ use Rattle.fix_base.specs.Parts.{PartsSeen}
 use Rattle.fix_base.specs.Says.{joined}
 use Rattle.fix_base.specs.Seen.{Note, acts_of, Follows}
 use Rattle.fix_parts.specs.Link.{LinkSeen}
-use Rattle.fix_parts.specs.Sink.{SinkSeen}
+use Rattle.fix_disk.specs.Sink.{SinkSeen}
 use Rattle.fix_parts.specs.Line.{line_seen}
 use Rattle.fix_engine.specs.Plain.{StoreSeen, store_from, parts_of}
 use Rattle.fix_top.specs.Words.{IsForm}
