@@ -39,7 +39,7 @@ impl Model for Draft {
 impl Draft {
     /// The draft of a MsgType (35) and the fields behind it, or the first refusal: of the kind, of
     /// the fields in order, each for the first cause in the order of `DraftFault`, then of the
-    /// whole. The fields stay as they are. It reads each byte once.
+    /// whole. The fields stay as they are. It looks at each byte once and writes it once.
     pub fn new(alloc: Global, kind: &[u8], fields: &DraftFields) -> Result<Draft, DraftFault>
         ensures kind { IfOk result (λ draft. draft.kind ≡ kind.now) }
         ensures rest { IfOk result (λ draft. draft.rest ≡ fields_text fields.now) }

@@ -1,5 +1,6 @@
 //! Fields at the front of bytes: the step from a frame's body to its tags and values, and what the
-//! values say: times and numbers. Values are lent, and nothing is copied.
+//! values of each kind say. Values are lent, and nothing is copied but into a body or a draft, the
+//! message that an application asks an engine to send.
 #![tactic(auto)]
 
 mod dates;

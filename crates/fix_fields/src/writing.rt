@@ -1,4 +1,4 @@
-ghost use Rattle.std.specs.Prelude.{◌≡◌, ◌++◌, OnErr, OnOk};
+ghost use Rattle.std.specs.Prelude.{◌≡◌, ◌++◌, OnOk};
 ghost use Rattle.fix_base.specs.Payload.{field};
 ghost use Rattle.fix_base.specs.Says.{field_text};
 
@@ -6,7 +6,8 @@ use crate::scanning::SOH;
 use itoa::Buffer;
 use std::alloc::AllocError;
 
-/// Writes a field behind what is there: the tag, `=`, the value and SOH.
+/// Writes a field behind what is there: the tag, `=`, the value and SOH. Where memory is refused, a
+/// front of it may stand there.
 pub fn push_field(out: &mut Vec<u8>, tag: u32, value: &[u8]) -> Result<(), AllocError>
     ensures { OnOk result (out.new.items ≡ out.old.items ++ field_text (field tag value.now)) }
 {
