@@ -1,0 +1,40 @@
+-- What values that lend their texts are.
+use Rattle.std.specs.Prelude.{ℕ, ◌==◌, List, map, option_map}
+use Rattle.std.specs.List.{slice_split}
+use Rattle.fix_settings.specs.declared.line.PairRef.{PairRef}
+use Rattle.fix_settings.specs.declared.line.LineRef.{LineRef}
+use Rattle.fix_settings.specs.declared.line.LineRef.TheVariants as lent
+use Rattle.fix_settings.specs.declared.form.Value.{Value as ValueRef}
+use Rattle.fix_settings.specs.declared.form.Value.TheVariants as held
+use Rattle.fix_settings.specs.declared.table.Row.{Row}
+use Rattle.fix_settings.specs.Forms.{Value, Version, Number, Port, Clock, Day, Flag, Fine, Text, Types}
+use Rattle.fix_settings.specs.Table.{Rule}
+use Rattle.fix_settings.specs.Lines.{Pair, Line, Passed, Default, Session, Given, Wrong}
+
+abbrev pub pair_read : PairRef → Pair
+pair_read p = record { line = p.line; key = p.key.now; value = p.value.now }
+
+abbrev pub line_read : LineRef → Line
+line_read lent.Passed = Passed
+line_read lent.Default = Default
+line_read (lent.Session n) = Session n
+line_read (lent.Given p) = Given (pair_read p)
+line_read (lent.Wrong n) = Wrong n
+
+abbrev pub lines_read : List LineRef → List Line
+lines_read lines = map line_read lines
+
+abbrev pub value_read : ValueRef → Value
+value_read (held.Version begin) = Version begin
+value_read (held.Number n) = Number n
+value_read (held.Port n) = Port n
+value_read (held.Clock s) = Clock s
+value_read (held.Day day) = Day day
+value_read (held.Flag on) = Flag on
+value_read (held.Fine precision) = Fine precision
+value_read (held.Text text) = Text text.now
+value_read (held.Joined text) = Types (slice_split (λ b. b == 44) text.now)
+value_read (held.Types types) = Types types.now
+
+abbrev pub rule_read : Row → Rule
+rule_read r = record { name = r.name.now; form = r.form; required = r.required; standard = option_map value_read r.standard; beside = r.beside.now }

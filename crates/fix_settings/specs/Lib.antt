@@ -1,0 +1,5 @@
+pub mod Lines
+pub mod Forms
+pub mod Table
+pub mod Lent
+pub mod Reading

@@ -1,0 +1,141 @@
+-- What a settings text says of each session, and the first reason to refuse it.
+use Rattle.std.specs.Prelude.{◌≡◌, ℕ, ◌+◌, ◌&&◌, ◌||◌, nat_lt, nat_le, not, if◌then◌else◌, Bool, true, false, List, [], ◌∷◌, ◌++◌, length, map, filter, codes, bytes_eq, Option, Some, None, option_map, option_and_then, is_some}
+use Rattle.std.specs.List.{list_all, list_any}
+use Rattle.std.specs.Option.{option_or}
+use Rattle.fix_base.specs.Lists.{Among}
+use Rattle.fix_settings.specs.declared.key.Key.{Key}
+use Rattle.fix_settings.specs.declared.key.Key.TheVariants as key
+use Rattle.fix_settings.specs.declared.key.TheConstants.{KEYS}
+use Rattle.fix_settings.specs.declared.fault.SettingsFault.{SettingsFault}
+use Rattle.fix_settings.specs.declared.fault.SettingsCause.{SettingsCause}
+use Rattle.fix_settings.specs.declared.fault.SettingsCause.TheVariants as cause
+use Rattle.fix_settings.specs.declared.session_settings.SessionSettings.{SessionSettings}
+use Rattle.fix_settings.specs.Lines.{Line, Passed, Default, Session, Given, Wrong, Pair, Section, read_lines, run_of, defaults_of, sections_of, last_of}
+use Rattle.fix_settings.specs.Forms.{Value, value_in}
+use Rattle.fix_settings.specs.Table.{Rule, rule_of, name_of, setting_of}
+
+-- the first of the items at which something is found
+abbrev pub first_some : {A B : Type 0} → (A → Option B) → List A → Option B
+first_some f [] = None
+first_some f (x ∷ xs) = option_or (f x) (first_some f xs)
+
+-- ---- a session's value of a key
+
+-- the last pair with the key in the session's section, else the last one in all default sections
+abbrev pub pair_for : List Pair → List Pair → Key → Option Pair
+pair_for defaults own k = option_or (last_of (name_of k) own) (last_of (name_of k) defaults)
+
+-- what the pair says, else what the table has for a session without one
+abbrev pub value_from : Rule → Option Pair → Option Value
+value_from rule None = rule.standard
+value_from rule (Some pair) = value_in rule.form pair.value
+
+abbrev pub value_for : List Pair → List Pair → Key → Option Value
+value_for defaults own k = value_from (rule_of k) (pair_for defaults own k)
+
+-- ---- the refusals
+
+abbrev pub refused : ℕ → SettingsCause → Option SettingsFault
+refused line c = Some (record { line = line; cause = c })
+
+-- whether a pair asks for TLS
+abbrev pub asks_tls : Pair → Bool
+asks_tls p = list_any (bytes_eq p.key) (codes "SocketPrivateKeyFile" ∷ codes "SocketCertificateFile" ∷ codes "SocketCAFile" ∷ []) || (bytes_eq p.key (codes "SocketUseSSL") && bytes_eq p.value (codes "Y"))
+
+-- a key in no section, or one that asks for TLS; `in_section` says whether a heading stands before
+abbrev pub pair_refusal : Bool → Pair → Option SettingsFault
+pair_refusal false p = refused p.line cause.NoSection
+pair_refusal true p = if asks_tls p then refused p.line cause.TlsAsked else None
+
+-- line by line
+abbrev pub line_refusal : Bool → List Line → Option SettingsFault
+line_refusal in_section [] = None
+line_refusal in_section (Passed ∷ lines) = line_refusal in_section lines
+line_refusal in_section (Default ∷ lines) = line_refusal true lines
+line_refusal in_section (Session n ∷ lines) = line_refusal true lines
+line_refusal in_section (Given p ∷ lines) = option_or (pair_refusal in_section p) (line_refusal in_section lines)
+line_refusal in_section (Wrong n ∷ lines) = refused n cause.NotKeyValue
+
+-- no session, or more than 256
+abbrev pub count_refusal : List Section → Option SettingsFault
+count_refusal sections = if nat_lt 0 (length sections) && nat_le (length sections) 256 then None else refused 0 cause.NoSection
+
+-- whether the value is of its form, and the keys that belong beside it have values
+abbrev pub is_right : (Key → Option Pair) → Rule → Pair → Bool
+is_right pairs rule pair = is_some (value_in rule.form pair.value) && list_all (λ k. is_some (pairs k)) rule.beside
+
+-- a key of a session whose heading stands in this line
+abbrev pub key_refusal : ℕ → (Key → Option Pair) → Key → Option Pair → Option SettingsFault
+key_refusal line pairs k None = if (rule_of k).required then refused line (cause.Missing k) else None
+key_refusal line pairs k (Some pair) = if is_right pairs (rule_of k) pair then None else refused pair.line (cause.BadValue k)
+
+-- key by key, in the table's order
+abbrev pub keys_refusal : ℕ → (Key → Option Pair) → Option SettingsFault
+keys_refusal line pairs = first_some (λ k. key_refusal line pairs k (pairs k)) KEYS
+
+abbrev pub section_refusal : List Pair → Section → Option SettingsFault
+section_refusal defaults s = keys_refusal s.line (pair_for defaults s.pairs)
+
+-- who a session is between, as it is written: BeginString, SenderCompID and TargetCompID
+abbrev pub text_for : Option Pair → List ℕ
+text_for None = []
+text_for (Some pair) = pair.value
+
+pub record Party : Type 0 where
+  pub line : ℕ
+  pub begin : List ℕ
+  pub sender : List ℕ
+  pub target : List ℕ
+
+abbrev pub party_of : List Pair → Section → Party
+party_of defaults s = record {
+  line = s.line;
+  begin = text_for (pair_for defaults s.pairs key.BeginString);
+  sender = text_for (pair_for defaults s.pairs key.SenderCompID);
+  target = text_for (pair_for defaults s.pairs key.TargetCompID);
+}
+
+abbrev pub is_same : Party → Party → Bool
+is_same p q = bytes_eq p.begin q.begin && (bytes_eq p.sender q.sender && bytes_eq p.target q.target)
+
+-- the first session that is between the same as one before it
+abbrev pub same_refusal : List Party → List Party → Option SettingsFault
+same_refusal before [] = None
+same_refusal before (p ∷ ps) = if list_any (is_same p) before then refused p.line cause.SameIdentity else same_refusal (before ++ p ∷ []) ps
+
+abbrev pub sections_refusal : List Pair → List Section → Option SettingsFault
+sections_refusal defaults sections =
+    option_or (count_refusal sections)
+    (option_or (first_some (section_refusal defaults) sections)
+    (same_refusal [] (map (party_of defaults) sections)))
+
+abbrev pub lines_refusal : List Line → Option SettingsFault
+lines_refusal lines = option_or (line_refusal false lines) (sections_refusal (defaults_of lines) (sections_of lines))
+
+-- the first refusal of a text: line by line, the number of sessions, session by session and key by
+-- key, and two sessions between the same
+abbrev pub refusal_of : List ℕ → Option SettingsFault
+refusal_of text = lines_refusal (read_lines text)
+
+-- ---- what is read
+
+-- the keys that mean nothing here
+abbrev pub is_known : List ℕ → Bool
+is_known name = list_any (λ k. bytes_eq (name_of k) name) KEYS
+
+abbrev pub ignored_of : List Pair → List (List ℕ)
+ignored_of pairs = filter (λ name. not (is_known name)) (map (λ p. p.key) pairs)
+
+-- the session's settings are those of its section
+pub record IsSession (defaults : List Pair) (section : Section) (s : SessionSettings) : Type 0 where
+  pub each : (k : Key) → setting_of s k ≡ value_for defaults section.pairs k
+
+-- the sessions are those of the sections, in their order
+abbrev pub AreSessions : List Pair → List Section → List SessionSettings → Type 0
+AreSessions defaults [] sessions = sessions ≡ []
+AreSessions defaults (section ∷ sections) [] = ⊥
+AreSessions defaults (section ∷ sections) (s ∷ sessions) = IsSession defaults section s × AreSessions defaults sections sessions
+
+-- the sessions of a text
+abbrev pub AreSessionsOf : List ℕ → List SessionSettings → Type 0
+AreSessionsOf text sessions = AreSessions (defaults_of (read_lines text)) (sections_of (read_lines text)) sessions

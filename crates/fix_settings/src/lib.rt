@@ -1,0 +1,15 @@
+//! Settings as an operator writes them: read exactly, or refused with line and key; and printed
+//! back, so that one sees what holds.
+#![tactic(auto)]
+
+mod fault;
+mod form;
+mod key;
+mod line;
+mod section;
+mod session_settings;
+mod table;
+
+pub use fault::{SettingsCause, SettingsFault};
+pub use key::{KEYS, Key};
+pub use session_settings::SessionSettings;
