@@ -1,5 +1,5 @@
 -- Forms: numbers of digits.
-use Rattle.std.proofs.Common.{◌≡◌, ◌⊎◌, inl, inr, ℕ, ◌+◌, ◌*◌, ◌<◌, ◌≤◌, ◌&&◌, Bool, true, false, nat_lt, nat_le, if◌then◌else◌, ◌==◌, List, [], ◌∷◌, length, get_or, take, ap, Option, Some, None, refl, sym, ◌∙◌, arith}
+use Rattle.std.proofs.Common.{◌≡◌, ◌⊎◌, inl, inr, ℕ, ◌+◌, ◌*◌, ◌<◌, ◌≤◌, ◌&&◌, Bool, true, false, nat_lt, nat_le, if◌then◌else◌, ◌==◌, List, [], ◌∷◌, length, get_or, take, ap, ◌++◌, append_assoc, Option, Some, None, refl, sym, ◌∙◌, arith}
 use Rattle.std.specs.List.{slice_split, list_all}
 use Rattle.std.specs.Str.{all_ascii_digits}
 use Rattle.std.specs.Str.Parse.{digits_value, AllDigits}
@@ -122,3 +122,11 @@ and_true false = refl
 
 pub types_end : (rest text : List ℕ) (r : Bool) → cut_at 44 rest ≡ None → r ≡ is_type rest → list_all is_type (pieces_of rest) ≡ list_all is_type (pieces_of text) → r ≡ list_all is_type (pieces_of text)
 types_end rest text r h is inv = is ∙ and_true (is_type rest) ∙ sym (ap (list_all is_type) (one_piece rest h)) ∙ inv
+
+pub pieces_more : (made : List (List ℕ)) (rest piece behind : List ℕ) (all : List (List ℕ)) → IsPiece rest piece behind → made ++ pieces_of rest ≡ all → (made ++ piece ∷ []) ++ pieces_of behind ≡ all
+pieces_more made rest piece behind all p inv =
+    let e : made ++ piece ∷ pieces_of behind ≡ all = sym (ap (λ x. made ++ x) p.pieces) ∙ inv in
+    rw append_assoc e
+
+pub pieces_end : (made : List (List ℕ)) (rest : List ℕ) (all : List (List ℕ)) → cut_at 44 rest ≡ None → made ++ pieces_of rest ≡ all → made ++ rest ∷ [] ≡ all
+pieces_end made rest all h inv = sym (ap (λ x. made ++ x) (one_piece rest h)) ∙ inv

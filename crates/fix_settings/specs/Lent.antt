@@ -1,5 +1,6 @@
 -- What values that lend their texts are.
-use Rattle.std.specs.Prelude.{ℕ, ◌==◌, List, map, option_map}
+use Rattle.std.specs.Prelude.{ℕ, ◌==◌, List, map, slice_get, Option, option_map}
+use Rattle.std.specs.Option.{option_flatten}
 use Rattle.std.specs.List.{slice_split}
 use Rattle.fix_settings.specs.declared.line.PairRef.{PairRef}
 use Rattle.fix_settings.specs.declared.line.LineRef.{LineRef}
@@ -8,7 +9,8 @@ use Rattle.fix_settings.specs.declared.form.Value.{Value as ValueRef}
 use Rattle.fix_settings.specs.declared.form.Value.TheVariants as held
 use Rattle.fix_settings.specs.declared.table.Row.{Row}
 use Rattle.fix_settings.specs.Forms.{Value, Version, Number, Port, Clock, Day, Flag, Fine, Text, Types}
-use Rattle.fix_settings.specs.Table.{Rule}
+use Rattle.fix_settings.specs.declared.key.Key.{Key}
+use Rattle.fix_settings.specs.Table.{Rule, index_of}
 use Rattle.fix_settings.specs.Lines.{Pair, Line, Passed, Default, Session, Given, Wrong}
 
 abbrev pub pair_read : PairRef → Pair
@@ -34,7 +36,13 @@ value_read (held.Flag on) = Flag on
 value_read (held.Fine precision) = Fine precision
 value_read (held.Text text) = Text text.now
 value_read (held.Joined text) = Types (slice_split (λ b. b == 44) text.now)
-value_read (held.Types types) = Types types.now
 
 abbrev pub rule_read : Row → Rule
 rule_read r = record { name = r.name.now; form = r.form; required = r.required; standard = option_map value_read r.standard; beside = r.beside.now }
+
+abbrev pub pairs_read : List (Option PairRef) → List (Option Pair)
+pairs_read pairs = map (option_map pair_read) pairs
+
+-- the pair for a key, among those for all keys in the table's order
+abbrev pub pair_at : List (Option Pair) → Key → Option Pair
+pair_at pairs k = option_flatten (slice_get pairs (index_of k))

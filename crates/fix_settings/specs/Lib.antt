@@ -3,3 +3,4 @@ pub mod Forms
 pub mod Table
 pub mod Lent
 pub mod Reading
+pub mod Typed

@@ -94,3 +94,36 @@ setting_of s key.SocketAcceptPort = option_map Port s.socket_accept_port
 setting_of s key.FileStorePath = option_map Text s.file_store_path
 setting_of s key.TimeStampPrecision = Some (Fine s.time_stamp_precision)
 setting_of s key.AppTypes = option_map (λ types. Types types.items) s.app_types
+
+-- its place among the keys
+abbrev pub index_of : Key → ℕ
+index_of key.BeginString = 0
+index_of key.SenderCompID = 1
+index_of key.TargetCompID = 2
+index_of key.HeartBtInt = 3
+index_of key.StartTime = 4
+index_of key.EndTime = 5
+index_of key.StartDay = 6
+index_of key.EndDay = 7
+index_of key.TimeZone = 8
+index_of key.ZoneRule = 9
+index_of key.ReconnectInterval = 10
+index_of key.LogonTimeout = 11
+index_of key.LogoutTimeout = 12
+index_of key.ResetOnLogon = 13
+index_of key.ResetOnLogout = 14
+index_of key.ResetOnDisconnect = 15
+index_of key.ResendRequestChunkSize = 16
+index_of key.CheckLatency = 17
+index_of key.MaxLatency = 18
+index_of key.DataDictionary = 19
+index_of key.ValidateFieldsOutOfOrder = 20
+index_of key.RejectInvalidMessage = 21
+index_of key.PersistMessages = 22
+index_of key.SocketConnectHost = 23
+index_of key.SocketConnectPort = 24
+index_of key.SocketAcceptHost = 25
+index_of key.SocketAcceptPort = 26
+index_of key.FileStorePath = 27
+index_of key.TimeStampPrecision = 28
+index_of key.AppTypes = 29

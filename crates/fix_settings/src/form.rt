@@ -8,7 +8,7 @@ ghost use Rattle.fix_settings.specs.Lines.{is_blank as the_blank};
 ghost use Rattle.fix_settings.specs.Lent.{value_read};
 
 use crate::line::{cut_at, is_blank};
-use fix_base::{Begin, Bytes, Precision};
+use fix_base::{Begin, Precision};
 
 /// A form of values.
 #[derive(Clone, Copy, Debug, PartialEq, Eq)]
@@ -52,10 +52,8 @@ pub enum Value<'a> {
     Flag(bool),
     Fine(Precision),
     Text(&'a [u8]),
-    /// Types as they are written, joined by commas.
+    /// Types joined by commas.
     Joined(&'a [u8]),
-    /// Types as they are kept.
-    Types(&'a [Bytes]),
 }
 
 // BeginString (8).

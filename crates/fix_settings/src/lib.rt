@@ -6,6 +6,7 @@ mod fault;
 mod form;
 mod key;
 mod line;
+mod making;
 mod section;
 mod session_settings;
 mod table;
