@@ -8,10 +8,13 @@ use Rattle.fix_settings.specs.declared.line.LineRef.TheVariants as lent
 use Rattle.fix_settings.specs.declared.form.Value.{Value as ValueRef}
 use Rattle.fix_settings.specs.declared.form.Value.TheVariants as held
 use Rattle.fix_settings.specs.declared.table.Row.{Row}
+use Rattle.fix_settings.specs.declared.judging.PartyRef.{PartyRef}
+use Rattle.fix_settings.specs.declared.section.SectionRef.{SectionRef}
+use Rattle.fix_settings.specs.Reading.{Party}
 use Rattle.fix_settings.specs.Forms.{Value, Version, Number, Port, Clock, Day, Flag, Fine, Text, Types}
 use Rattle.fix_settings.specs.declared.key.Key.{Key}
 use Rattle.fix_settings.specs.Table.{Rule, index_of}
-use Rattle.fix_settings.specs.Lines.{Pair, Line, Passed, Default, Session, Given, Wrong}
+use Rattle.fix_settings.specs.Lines.{Section, run_of, Pair, Line, Passed, Default, Session, Given, Wrong}
 
 abbrev pub pair_read : PairRef → Pair
 pair_read p = record { line = p.line; key = p.key.now; value = p.value.now }
@@ -46,3 +49,9 @@ pairs_read pairs = map (option_map pair_read) pairs
 -- the pair for a key, among those for all keys in the table's order
 abbrev pub pair_at : List (Option Pair) → Key → Option Pair
 pair_at pairs k = option_flatten (slice_get pairs (index_of k))
+
+abbrev pub party_read : PartyRef → Party
+party_read p = record { line = p.line; begin = p.begin.now; sender = p.sender.now; target = p.target.now }
+
+abbrev pub section_read : SectionRef → Section
+section_read s = record { line = s.line; pairs = run_of (lines_read s.behind.now) }

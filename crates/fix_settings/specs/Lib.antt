@@ -1,6 +1,7 @@
 pub mod Lines
 pub mod Forms
 pub mod Table
-pub mod Lent
 pub mod Reading
+pub mod Lent
 pub mod Typed
+pub mod Read

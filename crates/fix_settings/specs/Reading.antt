@@ -10,7 +10,7 @@ use Rattle.fix_settings.specs.declared.fault.SettingsFault.{SettingsFault}
 use Rattle.fix_settings.specs.declared.fault.SettingsCause.{SettingsCause}
 use Rattle.fix_settings.specs.declared.fault.SettingsCause.TheVariants as cause
 use Rattle.fix_settings.specs.declared.session_settings.SessionSettings.{SessionSettings}
-use Rattle.fix_settings.specs.Lines.{Line, Passed, Default, Session, Given, Wrong, Pair, Section, read_lines, run_of, defaults_of, sections_of, last_of}
+use Rattle.fix_settings.specs.Lines.{Line, Passed, Default, Session, Given, Wrong, Pair, Section, read_lines, is_heading, run_of, defaults_of, sections_of, last_of}
 use Rattle.fix_settings.specs.Forms.{Value, value_in}
 use Rattle.fix_settings.specs.Table.{Rule, rule_of, name_of, setting_of}
 
@@ -38,23 +38,30 @@ value_for defaults own k = value_from (rule_of k) (pair_for defaults own k)
 abbrev pub refused : ℕ → SettingsCause → Option SettingsFault
 refused line c = Some (record { line = line; cause = c })
 
+-- the keys that are for TLS alone
+abbrev pub tls_keys : List (List ℕ)
+tls_keys = codes "SocketPrivateKeyFile" ∷ codes "SocketCertificateFile" ∷ codes "SocketCAFile" ∷ []
+
 -- whether a pair asks for TLS
 abbrev pub asks_tls : Pair → Bool
-asks_tls p = list_any (bytes_eq p.key) (codes "SocketPrivateKeyFile" ∷ codes "SocketCertificateFile" ∷ codes "SocketCAFile" ∷ []) || (bytes_eq p.key (codes "SocketUseSSL") && bytes_eq p.value (codes "Y"))
+asks_tls p = list_any (bytes_eq p.key) tls_keys || (bytes_eq p.key (codes "SocketUseSSL") && bytes_eq p.value (codes "Y"))
 
 -- a key in no section, or one that asks for TLS; `in_section` says whether a heading stands before
 abbrev pub pair_refusal : Bool → Pair → Option SettingsFault
 pair_refusal false p = refused p.line cause.NoSection
 pair_refusal true p = if asks_tls p then refused p.line cause.TlsAsked else None
 
+abbrev pub one_line_refusal : Bool → Line → Option SettingsFault
+one_line_refusal in_section Passed = None
+one_line_refusal in_section Default = None
+one_line_refusal in_section (Session n) = None
+one_line_refusal in_section (Given p) = pair_refusal in_section p
+one_line_refusal in_section (Wrong n) = refused n cause.NotKeyValue
+
 -- line by line
 abbrev pub line_refusal : Bool → List Line → Option SettingsFault
 line_refusal in_section [] = None
-line_refusal in_section (Passed ∷ lines) = line_refusal in_section lines
-line_refusal in_section (Default ∷ lines) = line_refusal true lines
-line_refusal in_section (Session n ∷ lines) = line_refusal true lines
-line_refusal in_section (Given p ∷ lines) = option_or (pair_refusal in_section p) (line_refusal in_section lines)
-line_refusal in_section (Wrong n ∷ lines) = refused n cause.NotKeyValue
+line_refusal in_section (line ∷ lines) = option_or (one_line_refusal in_section line) (line_refusal (in_section || is_heading line) lines)
 
 -- no session, or more than 256
 abbrev pub count_refusal : List Section → Option SettingsFault
@@ -87,13 +94,11 @@ pub record Party : Type 0 where
   pub sender : List ℕ
   pub target : List ℕ
 
+abbrev pub party_from : ℕ → (Key → Option Pair) → Party
+party_from line pairs = record { line = line; begin = text_for (pairs key.BeginString); sender = text_for (pairs key.SenderCompID); target = text_for (pairs key.TargetCompID) }
+
 abbrev pub party_of : List Pair → Section → Party
-party_of defaults s = record {
-  line = s.line;
-  begin = text_for (pair_for defaults s.pairs key.BeginString);
-  sender = text_for (pair_for defaults s.pairs key.SenderCompID);
-  target = text_for (pair_for defaults s.pairs key.TargetCompID);
-}
+party_of defaults s = party_from s.line (pair_for defaults s.pairs)
 
 abbrev pub is_same : Party → Party → Bool
 is_same p q = bytes_eq p.begin q.begin && (bytes_eq p.sender q.sender && bytes_eq p.target q.target)

@@ -4,13 +4,17 @@
 
 mod fault;
 mod form;
+mod judging;
 mod key;
 mod line;
 mod making;
+mod reading;
 mod section;
 mod session_settings;
+mod settings;
 mod table;
 
 pub use fault::{SettingsCause, SettingsFault};
 pub use key::{KEYS, Key};
 pub use session_settings::SessionSettings;
+pub use settings::Settings;
