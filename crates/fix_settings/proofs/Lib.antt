@@ -5,3 +5,4 @@ pub mod SectionLemmas
 pub mod ReadLemmas
 pub mod ShapeLemmas
 pub mod SessionsLemmas
+pub mod OrderLemmas

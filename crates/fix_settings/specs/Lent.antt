@@ -2,6 +2,7 @@
 use Rattle.std.specs.Prelude.{ℕ, ◌==◌, List, map, slice_get, Option, option_map}
 use Rattle.std.specs.Option.{option_flatten}
 use Rattle.std.specs.List.{slice_split}
+use denote.Ref.{Bor}
 use Rattle.fix_settings.specs.declared.line.PairRef.{PairRef}
 use Rattle.fix_settings.specs.declared.line.LineRef.{LineRef}
 use Rattle.fix_settings.specs.declared.line.LineRef.TheVariants as lent
@@ -55,3 +56,6 @@ party_read p = record { line = p.line; begin = p.begin.now; sender = p.sender.no
 
 abbrev pub section_read : SectionRef → Section
 section_read s = record { line = s.line; pairs = run_of (lines_read s.behind.now) }
+
+abbrev pub names_read : List (Bor (List ℕ)) → List (List ℕ)
+names_read names = map (λ name. name.now) names

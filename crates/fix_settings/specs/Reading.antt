@@ -1,7 +1,10 @@
 -- What a settings text says of each session, and the first reason to refuse it.
-use Rattle.std.specs.Prelude.{◌≡◌, ℕ, ◌+◌, ◌&&◌, ◌||◌, nat_lt, nat_le, not, if◌then◌else◌, Bool, true, false, List, [], ◌∷◌, ◌++◌, length, map, filter, codes, bytes_eq, Option, Some, None, option_map, option_and_then, is_some}
+use Rattle.std.specs.Prelude.{◌≡◌, ℕ, ◌+◌, ◌&&◌, ◌||◌, nat_lt, nat_le, not, if◌then◌else◌, Bool, true, false, List, [], ◌∷◌, ◌++◌, length, map, flat_map, codes, bytes_eq, Option, Some, None, option_map, option_and_then, is_some}
 use Rattle.std.specs.List.{list_all, list_any}
 use Rattle.std.specs.Option.{option_or}
+use Rattle.std.specs.Cmp.Lexicographic.{slice_cmp}
+use Rattle.std.specs.Ordering.{nat_cmp}
+use Rattle.std.specs.declared.cmp.Ordering.TheVariants.{Less}
 use Rattle.fix_base.specs.Lists.{Among}
 use Rattle.fix_settings.specs.declared.key.Key.{Key}
 use Rattle.fix_settings.specs.declared.key.Key.TheVariants as key
@@ -128,12 +131,45 @@ refusal_of text = lines_refusal (read_lines text)
 abbrev pub is_known : List ℕ → Bool
 is_known name = list_any (λ k. bytes_eq (name_of k) name) KEYS
 
-abbrev pub ignored_of : List Pair → List (List ℕ)
-ignored_of pairs = filter (λ name. not (is_known name)) (map (λ p. p.key) pairs)
+abbrev pub unknown_of : Pair → List (List ℕ)
+unknown_of p = if is_known p.key then [] else p.key ∷ []
 
--- the session's settings are those of its section
+abbrev pub unknown_in : Line → List (List ℕ)
+unknown_in Passed = []
+unknown_in Default = []
+unknown_in (Session n) = []
+unknown_in (Given p) = unknown_of p
+unknown_in (Wrong n) = []
+
+abbrev pub ignored_of : List Pair → List (List ℕ)
+ignored_of pairs = flat_map unknown_of pairs
+
+-- each is less than the next one, byte by byte
+abbrev pub IsAscending : List (List ℕ) → Type 0
+IsAscending [] = Unit {0}
+IsAscending (x ∷ []) = Unit {0}
+IsAscending (x ∷ y ∷ ys) = (slice_cmp nat_cmp x y ≡ Less) × IsAscending (y ∷ ys)
+
+-- the names in the order of their bytes, each once
+pub record AreInOrder (names made : List (List ℕ)) : Type 0 where
+  pub ascending : IsAscending made
+  pub each : (name : List ℕ) → Among name made → Among name names
+  pub all : (name : List ℕ) → Among name names → Among name made
+
+abbrev pub is_last : Option (List ℕ) → List ℕ → Bool
+is_last None name = false
+is_last (Some last) name = bytes_eq last name
+
+-- without those that are the same as the one before
+abbrev pub distinct : Option (List ℕ) → List (List ℕ) → List (List ℕ)
+distinct last [] = []
+distinct last (x ∷ xs) = if is_last last x then distinct last xs else x ∷ distinct (Some x) xs
+
+-- the session's settings are those of its section, and its ignored keys are those of its section
+-- and of the default ones
 pub record IsSession (defaults : List Pair) (section : Section) (s : SessionSettings) : Type 0 where
   pub each : (k : Key) → setting_of s k ≡ value_for defaults section.pairs k
+  pub ignored : AreInOrder (ignored_of (defaults ++ section.pairs)) s.ignored.items
 
 -- the sessions are those of the sections, in their order
 abbrev pub AreSessions : List Pair → List Section → List SessionSettings → Type 0

@@ -4,6 +4,7 @@
 
 mod fault;
 mod form;
+mod ignoring;
 mod judging;
 mod key;
 mod line;

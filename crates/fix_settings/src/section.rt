@@ -23,7 +23,8 @@ pub fn is_heading(line: &LineRef<'_>) -> bool
     }
 }
 
-fn is_default(line: &LineRef<'_>) -> bool
+/// Whether a default section begins here.
+pub fn is_default(line: &LineRef<'_>) -> bool
     ensures { result ≡ the_default (line_read line.now) }
 {
     match line {
