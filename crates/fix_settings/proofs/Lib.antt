@@ -6,3 +6,4 @@ pub mod ReadLemmas
 pub mod ShapeLemmas
 pub mod SessionsLemmas
 pub mod OrderLemmas
+pub mod PrintLemmas

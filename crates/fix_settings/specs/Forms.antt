@@ -1,6 +1,6 @@
 -- The forms of values: which texts they take, what these say, and how they are printed.
 use Rattle.std.specs.Prelude.{slice_index, ℕ, ◌+◌, ◌-◌, ◌*◌, ◌/◌, ◌%◌, ◌==◌, ◌&&◌, ◌||◌, nat_lt, nat_le, not, if◌then◌else◌, Bool, true, false, List, [], ◌∷◌, ◌++◌, length, take, codes, bytes_eq, find, decimal, Option, Some, None, option_map}
-use Rattle.std.specs.List.{list_all, slice_split, join_with_byte}
+use Rattle.std.specs.List.{list_all, slice_split, join_by}
 use Rattle.std.specs.Str.{str_eq_ignore_ascii_case}
 use Rattle.fix_base.specs.declared.identity.Begin.{Begin}
 use Rattle.fix_base.specs.declared.identity.Begin.TheVariants.{Fix42, Fix44}
@@ -48,9 +48,9 @@ is_clock text =
 abbrev pub clock_in : List ℕ → Option ℕ
 clock_in text = if is_clock text then Some (two_at 0 text * 3600 + two_at 3 text * 60 + two_at 6 text) else None
 
--- a number of two digits
+-- the last two digits of a number
 abbrev pub two_text : ℕ → List ℕ
-two_text n = (48 + n / 10) ∷ (48 + n % 10) ∷ []
+two_text n = (48 + n / 10 % 10) ∷ (48 + n % 10) ∷ []
 
 abbrev pub clock_text : ℕ → List ℕ
 clock_text s = two_text (s / 3600) ++ 58 ∷ two_text (s / 60 % 60) ++ 58 ∷ two_text (s % 60)
@@ -128,4 +128,4 @@ value_text (Day day) = day_name day
 value_text (Flag on) = flag_text on
 value_text (Fine precision) = precision_text precision
 value_text (Text text) = text
-value_text (Types types) = join_with_byte 44 types
+value_text (Types types) = join_by (λ t. t) (44 ∷ []) types

@@ -9,6 +9,8 @@ use Rattle.fix_settings.specs.declared.line.LineRef.TheVariants as lent
 use Rattle.fix_settings.specs.declared.form.Value.{Value as ValueRef}
 use Rattle.fix_settings.specs.declared.form.Value.TheVariants as held
 use Rattle.fix_settings.specs.declared.table.Row.{Row}
+use Rattle.fix_settings.specs.declared.table.Shown.{Shown}
+use Rattle.fix_settings.specs.declared.table.Shown.TheVariants as shown
 use Rattle.fix_settings.specs.declared.judging.PartyRef.{PartyRef}
 use Rattle.fix_settings.specs.declared.section.SectionRef.{SectionRef}
 use Rattle.fix_settings.specs.Reading.{Party}
@@ -59,3 +61,14 @@ section_read s = record { line = s.line; pairs = run_of (lines_read s.behind.now
 
 abbrev pub names_read : List (Bor (List ℕ)) → List (List ℕ)
 names_read names = map (λ name. name.now) names
+
+abbrev pub shown_read : Shown → Value
+shown_read (shown.Version begin) = Version begin
+shown_read (shown.Number n) = Number n
+shown_read (shown.Port n) = Port n
+shown_read (shown.Clock s) = Clock s
+shown_read (shown.Day day) = Day day
+shown_read (shown.Flag on) = Flag on
+shown_read (shown.Fine precision) = Fine precision
+shown_read (shown.Text text) = Text text.now
+shown_read (shown.Types types) = Types types.now

@@ -5,3 +5,4 @@ pub mod Reading
 pub mod Lent
 pub mod Typed
 pub mod Read
+pub mod Printing

@@ -9,11 +9,14 @@ mod judging;
 mod key;
 mod line;
 mod making;
+mod printing;
 mod reading;
 mod section;
 mod session_settings;
 mod settings;
 mod table;
+#[cfg(test)]
+mod tests;
 
 pub use fault::{SettingsCause, SettingsFault};
 pub use key::{KEYS, Key};

@@ -1,10 +1,13 @@
 ghost use Rattle.std.specs.Prelude.{◌≡◌, ◌<◌, ◌^◌, IfOk, IfErr, List, length};
 ghost use Rattle.fix_settings.specs.declared.session_settings.SessionSettings.{SessionSettings as TheSession};
+ghost use Rattle.fix_settings.specs.Printing.{settings_text};
 ghost use Rattle.fix_settings.specs.Read.{IsFaultOf, AreSettingsOf};
 
 use crate::SessionSettings;
 use crate::fault::{SettingsCause, SettingsFault};
+use crate::printing::put_sessions;
 use crate::reading::read_text;
+use fix_base::{Bytes, OutOfMemory};
 use std::alloc::Global;
 use std::marker::Model;
 
@@ -48,5 +51,15 @@ impl Settings {
         ensures { result.now ≡ self.now }
     {
         &self.sessions
+    }
+
+    /// The sessions as a settings text: for each `[SESSION]`, then a line `Key=Value` for each key
+    /// that has a value, in the table's order, then a line `# ignored KEY` for each ignored key.
+    pub fn print(&self, alloc: Global) -> Result<Bytes, OutOfMemory>
+        ensures { IfOk result (λ text. text ≡ settings_text self.now) }
+    {
+        let mut out = Vec::new(alloc);
+        put_sessions(&mut out, &self.sessions)?;
+        Ok(Bytes::from_vec(out))
     }
 }

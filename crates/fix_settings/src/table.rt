@@ -1,13 +1,15 @@
 //! The table of keys: the one place that knows what a key means. A new key is a row here, a field
-//! of `SessionSettings` with its line in `shown` and in `settings_from`, and a row of
+//! of `SessionSettings` with its line in `setting` and in `settings_from`, and a row of
 //! `specs/Table.antt`.
 ghost use Rattle.std.specs.Prelude.{◌≡◌, true, false, Some, None, option_map};
-ghost use Rattle.fix_settings.specs.Table.{needed as the_needed, unset as the_unset, standing as the_standing, rule_of};
-ghost use Rattle.fix_settings.specs.Lent.{rule_read, value_read};
+ghost use Rattle.fix_settings.specs.Table.{setting_of, needed as the_needed, unset as the_unset, standing as the_standing, rule_of};
+ghost use Rattle.fix_settings.specs.Forms.{Port, Clock, Day, Text, Types};
+ghost use Rattle.fix_settings.specs.Lent.{rule_read, value_read, shown_read};
 
+use crate::SessionSettings;
 use crate::form::{Form, Value};
 use crate::key::Key;
-use fix_base::Precision;
+use fix_base::{Begin, Bytes, Precision};
 
 /// What the table says of a key.
 #[derive(Clone, Copy)]
@@ -156,5 +158,108 @@ pub fn row_of(key: Key) -> Row
             Value::Fine(Precision::Millis),
         ),
         Key::AppTypes => unset(b"AppTypes", Form::Types, &[]),
+    }
+}
+
+/// What a session has for a key, without a copy.
+#[derive(Clone, Copy)]
+pub enum Shown<'a> {
+    Version(Begin),
+    Number(u32),
+    Port(u16),
+    Clock(u32),
+    Day(u8),
+    Flag(bool),
+    Fine(Precision),
+    Text(&'a [u8]),
+    Types(&'a [Bytes]),
+}
+
+fn port(value: Option<u16>) -> Option<Shown<'static>>
+    ensures { option_map shown_read result ≡ option_map Port value }
+{
+    match value {
+        None => None,
+        Some(port) => Some(Shown::Port(port)),
+    }
+}
+
+fn clock(value: Option<u32>) -> Option<Shown<'static>>
+    ensures { option_map shown_read result ≡ option_map Clock value }
+{
+    match value {
+        None => None,
+        Some(seconds) => Some(Shown::Clock(seconds)),
+    }
+}
+
+fn day(value: Option<u8>) -> Option<Shown<'static>>
+    ensures { option_map shown_read result ≡ option_map Day value }
+{
+    match value {
+        None => None,
+        Some(day) => Some(Shown::Day(day)),
+    }
+}
+
+fn text(value: &Bytes) -> Option<Shown<'_>>
+    ensures { option_map shown_read result ≡ Some (Text value.now) }
+{
+    Some(Shown::Text(value.as_slice()))
+}
+
+fn text_option(value: &Option<Bytes>) -> Option<Shown<'_>>
+    ensures { option_map shown_read result ≡ option_map Text value.now }
+{
+    match value {
+        None => None,
+        Some(text) => Some(Shown::Text(text.as_slice())),
+    }
+}
+
+fn types_option(value: &Option<Vec<Bytes>>) -> Option<Shown<'_>>
+    ensures { option_map shown_read result ≡ option_map (λ types. Types types.items) value.now }
+{
+    match value {
+        None => None,
+        Some(types) => Some(Shown::Types(types.as_slice())),
+    }
+}
+
+/// What a session has for a key, or None.
+pub fn setting(settings: &SessionSettings, key: Key) -> Option<Shown<'_>>
+    ensures { option_map shown_read result ≡ setting_of settings.now key }
+{
+    match key {
+        Key::BeginString => Some(Shown::Version(settings.begin_string)),
+        Key::SenderCompID => text(&settings.sender_comp_id),
+        Key::TargetCompID => text(&settings.target_comp_id),
+        Key::HeartBtInt => Some(Shown::Number(settings.heart_bt_int)),
+        Key::StartTime => clock(settings.start_time),
+        Key::EndTime => clock(settings.end_time),
+        Key::StartDay => day(settings.start_day),
+        Key::EndDay => day(settings.end_day),
+        Key::TimeZone => text(&settings.time_zone),
+        Key::ZoneRule => text_option(&settings.zone_rule),
+        Key::ReconnectInterval => Some(Shown::Number(settings.reconnect_interval)),
+        Key::LogonTimeout => Some(Shown::Number(settings.logon_timeout)),
+        Key::LogoutTimeout => Some(Shown::Number(settings.logout_timeout)),
+        Key::ResetOnLogon => Some(Shown::Flag(settings.reset_on_logon)),
+        Key::ResetOnLogout => Some(Shown::Flag(settings.reset_on_logout)),
+        Key::ResetOnDisconnect => Some(Shown::Flag(settings.reset_on_disconnect)),
+        Key::ResendRequestChunkSize => Some(Shown::Number(settings.resend_request_chunk_size)),
+        Key::CheckLatency => Some(Shown::Flag(settings.check_latency)),
+        Key::MaxLatency => Some(Shown::Number(settings.max_latency)),
+        Key::DataDictionary => text_option(&settings.data_dictionary),
+        Key::ValidateFieldsOutOfOrder => Some(Shown::Flag(settings.validate_fields_out_of_order)),
+        Key::RejectInvalidMessage => Some(Shown::Flag(settings.reject_invalid_message)),
+        Key::PersistMessages => Some(Shown::Flag(settings.persist_messages)),
+        Key::SocketConnectHost => text_option(&settings.socket_connect_host),
+        Key::SocketConnectPort => port(settings.socket_connect_port),
+        Key::SocketAcceptHost => text(&settings.socket_accept_host),
+        Key::SocketAcceptPort => port(settings.socket_accept_port),
+        Key::FileStorePath => text_option(&settings.file_store_path),
+        Key::TimeStampPrecision => Some(Shown::Fine(settings.time_stamp_precision)),
+        Key::AppTypes => types_option(&settings.app_types),
     }
 }
