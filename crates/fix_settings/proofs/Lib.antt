@@ -7,3 +7,4 @@ pub mod ShapeLemmas
 pub mod SessionsLemmas
 pub mod OrderLemmas
 pub mod PrintLemmas
+pub mod LawfulLemmas

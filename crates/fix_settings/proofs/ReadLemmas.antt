@@ -59,11 +59,11 @@ table_is pairs g h = λ i k. (ap (λ ps. pair_at ps k) h ∙ at_key g k) i
 
 -- ---- no key refused
 
-or_left : {A : Type 0} (a b : Option A) → option_or a b ≡ None → a ≡ None
+pub or_left : {A : Type 0} (a b : Option A) → option_or a b ≡ None → a ≡ None
 or_left None b h = refl
 or_left (Some x) b h = h
 
-or_right : {A : Type 0} (a b : Option A) → option_or a b ≡ None → b ≡ None
+pub or_right : {A : Type 0} (a b : Option A) → option_or a b ≡ None → b ≡ None
 or_right None b h = h
 or_right (Some x) b h = cc
 

@@ -63,7 +63,7 @@ has_no : (passes : Bool) → is_some (flag_if passes) ≡ true → Some (Flag (f
 has_no true h = refl
 has_no false h = cc
 
-right_pair : (line : ℕ) (b : Bool) (c : Option SettingsFault) (f : SettingsFault) → c ≡ Some f → (if b then None else c) ≡ None → b ≡ true
+pub right_pair : (line : ℕ) (b : Bool) (c : Option SettingsFault) (f : SettingsFault) → c ≡ Some f → (if b then None else c) ≡ None → b ≡ true
 right_pair line true c f e h = refl
 right_pair line false c f e h = cc
 

@@ -4,5 +4,6 @@ pub mod Table
 pub mod Reading
 pub mod Lent
 pub mod Typed
+pub mod Lawful
 pub mod Read
 pub mod Printing

@@ -1,6 +1,8 @@
 -- What was read of one section, and of all.
 use Rattle.std.specs.Prelude.{◌≡◌, ◌⊎◌, ℕ, List, [], ◌∷◌, map, Option, Some, None, Vec, Result, Ok, Err}
 use Rattle.std.specs.Option.{option_or}
+use Rattle.std.specs.List.{AllByRecursion}
+use Rattle.fix_settings.specs.Lawful.{IsLawful}
 use Rattle.fix_settings.specs.declared.key.TheConstants.{KEYS}
 use Rattle.fix_settings.specs.declared.line.LineRef.{LineRef}
 use Rattle.fix_settings.specs.declared.line.PairRef.{PairRef}
@@ -41,10 +43,11 @@ abbrev pub IsReadOf : {Z : Type 0} → List ℕ → Result (Vec SessionSettings 
 IsReadOf text (Err fault) = refusal_of text ≡ Some fault
 IsReadOf text (Ok sessions) = (refusal_of text ≡ None) × AreSessionsOf text sessions.items
 
--- the text is not refused, and these are its sessions
+-- the text is not refused, and these are its sessions, which are lawful
 pub record AreSettingsOf (text : List ℕ) (sessions : List SessionSettings) : Type 0 where
   pub right : refusal_of text ≡ None
   pub sessions_are : AreSessionsOf text sessions
+  pub lawful : AllByRecursion IsLawful sessions
 
 -- the text's first refusal, or memory was refused
 abbrev pub IsFaultOf : List ℕ → SettingsFault → Type 0
