@@ -1,0 +1,10 @@
+pub mod LineLemmas
+pub mod FormLemmas
+pub mod MadeLemmas
+pub mod SectionLemmas
+pub mod ReadLemmas
+pub mod ShapeLemmas
+pub mod SessionsLemmas
+pub mod OrderLemmas
+pub mod PrintLemmas
+pub mod LawfulLemmas

@@ -1,0 +1,74 @@
+-- What values that lend their texts are.
+use Rattle.std.specs.Prelude.{ℕ, ◌==◌, List, map, slice_get, Option, option_map}
+use Rattle.std.specs.Option.{option_flatten}
+use Rattle.std.specs.List.{slice_split}
+use denote.Ref.{Bor}
+use Rattle.fix_settings.specs.declared.line.PairRef.{PairRef}
+use Rattle.fix_settings.specs.declared.line.LineRef.{LineRef}
+use Rattle.fix_settings.specs.declared.line.LineRef.TheVariants as lent
+use Rattle.fix_settings.specs.declared.form.Value.{Value as ValueRef}
+use Rattle.fix_settings.specs.declared.form.Value.TheVariants as held
+use Rattle.fix_settings.specs.declared.table.Row.{Row}
+use Rattle.fix_settings.specs.declared.table.Shown.{Shown}
+use Rattle.fix_settings.specs.declared.table.Shown.TheVariants as shown
+use Rattle.fix_settings.specs.declared.judging.PartyRef.{PartyRef}
+use Rattle.fix_settings.specs.declared.section.SectionRef.{SectionRef}
+use Rattle.fix_settings.specs.Reading.{Party}
+use Rattle.fix_settings.specs.Forms.{Value, Version, Number, Port, Clock, Day, Flag, Fine, Text, Types}
+use Rattle.fix_settings.specs.declared.key.Key.{Key}
+use Rattle.fix_settings.specs.Table.{Rule, index_of}
+use Rattle.fix_settings.specs.Lines.{Section, run_of, Pair, Line, Passed, Default, Session, Given, Wrong}
+
+abbrev pub pair_read : PairRef → Pair
+pair_read p = record { line = p.line; key = p.key.now; value = p.value.now }
+
+abbrev pub line_read : LineRef → Line
+line_read lent.Passed = Passed
+line_read lent.Default = Default
+line_read (lent.Session n) = Session n
+line_read (lent.Given p) = Given (pair_read p)
+line_read (lent.Wrong n) = Wrong n
+
+abbrev pub lines_read : List LineRef → List Line
+lines_read lines = map line_read lines
+
+abbrev pub value_read : ValueRef → Value
+value_read (held.Version begin) = Version begin
+value_read (held.Number n) = Number n
+value_read (held.Port n) = Port n
+value_read (held.Clock s) = Clock s
+value_read (held.Day day) = Day day
+value_read (held.Flag on) = Flag on
+value_read (held.Fine precision) = Fine precision
+value_read (held.Text text) = Text text.now
+value_read (held.Joined text) = Types (slice_split (λ b. b == 44) text.now)
+
+abbrev pub rule_read : Row → Rule
+rule_read r = record { name = r.name.now; form = r.form; required = r.required; standard = option_map value_read r.standard; beside = r.beside.now }
+
+abbrev pub pairs_read : List (Option PairRef) → List (Option Pair)
+pairs_read pairs = map (option_map pair_read) pairs
+
+-- the pair for a key, among those for all keys in the table's order
+abbrev pub pair_at : List (Option Pair) → Key → Option Pair
+pair_at pairs k = option_flatten (slice_get pairs (index_of k))
+
+abbrev pub party_read : PartyRef → Party
+party_read p = record { line = p.line; begin = p.begin.now; sender = p.sender.now; target = p.target.now }
+
+abbrev pub section_read : SectionRef → Section
+section_read s = record { line = s.line; pairs = run_of (lines_read s.behind.now) }
+
+abbrev pub names_read : List (Bor (List ℕ)) → List (List ℕ)
+names_read names = map (λ name. name.now) names
+
+abbrev pub shown_read : Shown → Value
+shown_read (shown.Version begin) = Version begin
+shown_read (shown.Number n) = Number n
+shown_read (shown.Port n) = Port n
+shown_read (shown.Clock s) = Clock s
+shown_read (shown.Day day) = Day day
+shown_read (shown.Flag on) = Flag on
+shown_read (shown.Fine precision) = Fine precision
+shown_read (shown.Text text) = Text text.now
+shown_read (shown.Types types) = Types types.now

@@ -1,0 +1,24 @@
+//! Settings as an operator writes them: read exactly, or refused with line and key; and printed
+//! back, so that one sees what holds.
+#![tactic(auto)]
+
+mod fault;
+mod form;
+mod ignoring;
+mod judging;
+mod key;
+mod line;
+mod making;
+mod printing;
+mod reading;
+mod section;
+mod session_settings;
+mod settings;
+mod table;
+#[cfg(test)]
+mod tests;
+
+pub use fault::{SettingsCause, SettingsFault};
+pub use key::{KEYS, Key};
+pub use session_settings::SessionSettings;
+pub use settings::Settings;
