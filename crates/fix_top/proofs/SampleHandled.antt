@@ -80,8 +80,8 @@ logon_fits s link at room text said =
     omega (arith, ap length same, length-append LOGON_ANSWER LOGOUT_ANSWER, room)
 
 logon_handles : (s s' : State) (notes : List Note) (r : Result ⊤ Ending) → IsAt AtLogon s → IsFit AtLogon notes → Carries LOGON s (logon_steps 1 30) notes r s' → Came AtLogon notes (IsNextAt AtLogon s') r
-logon_handles s s' notes r at fair d =
-    elim (after_done fair.link fair.app LOGON s (step.Send (Logon 30) (Some 1)) (HasSent s (Logon 30)) (step.GoUp ∷ step.Count 1 ∷ step.Nothing ∷ []) notes r s' (send_done fair.link fair.app LOGON s (Logon 30) (Some 1) (low_of s.last 0 at.last (omega arith)) (logon_fits s fair.link at fair.written)) fair.rooms d) [
+logon_handles s s' notes r at fit d =
+    elim (after_done fit.link fit.app LOGON s (step.Send (Logon 30) (Some 1)) (HasSent s (Logon 30)) (step.GoUp ∷ step.Count 1 ∷ step.Nothing ∷ []) notes r s' (send_done fit.link fit.app LOGON s (Logon 30) (Some 1) (low_of s.last 0 at.last (omega arith)) (logon_fits s fit.link at fit.written)) fit.rooms d) [
       | inl lost ↦ want AtLogon notes (IsNextAt AtLogon s') r lost
       | inr f ↦ logon_goes s s' notes r at f
     ]
@@ -117,8 +117,8 @@ order_fits app room fields has =
     omega (arith, ap (λ (b : List ℕ). length (line_text 2 false b)) body, length-append line [], room)
 
 order_handles : (s s' : State) (notes : List Note) (r : Result ⊤ Ending) → IsAt AtOrder s → IsFit AtOrder notes → Carries ORDER s (app_answer 2) notes r s' → Came AtOrder notes (IsNextAt AtOrder s') r
-order_handles s s' notes r at fair d =
-    elim (after_done fair.link fair.app ORDER s (step.Hand 2 false) (HasHanded ORDER s 2 false) (step.Count 2 ∷ step.Nothing ∷ step.Nothing ∷ []) notes r s' (hand_done fair.link fair.app ORDER s 2 false (order_fits fair.app fair.handed)) fair.rooms d) [
+order_handles s s' notes r at fit d =
+    elim (after_done fit.link fit.app ORDER s (step.Hand 2 false) (HasHanded ORDER s 2 false) (step.Count 2 ∷ step.Nothing ∷ step.Nothing ∷ []) notes r s' (hand_done fit.link fit.app ORDER s 2 false (order_fits fit.app fit.handed)) fit.rooms d) [
       | inl lost ↦ want AtOrder notes (IsNextAt AtOrder s') r lost
       | inr f ↦ order_goes s s' notes r at f
     ]
@@ -136,10 +136,10 @@ logout_fits : (s : State) (link : ℕ) → s.last ≡ 1 → s.reading ≡ SAMPLE
 logout_fits s link last reading room text said = omega (arith, ap length (logout_said text (said_there s Logout 1 text last reading said)), room)
 
 logout_handles : (s s' : State) (notes : List Note) (r : Result ⊤ Ending) → IsAt AtLogout s → IsFit AtLogout notes → Carries LOGOUT s (logout_answer 3) notes r s' → Came AtLogout notes (IsNextAt AtLogout s') r
-logout_handles s s' notes r at fair d =
+logout_handles s s' notes r at fit d =
     let counted = with_expected s 4 in
     let a = after_quiet LOGOUT s counted (step.Count 3) (step.Send Logout None ∷ step.Close (LoggedOut 3) ∷ step.Nothing ∷ []) notes r s' (count_quiet LOGOUT s 3) d in
-    elim (after_done fair.link fair.app LOGOUT counted (step.Send Logout None) (HasSent counted Logout) (step.Close (LoggedOut 3) ∷ step.Nothing ∷ []) notes r s' (send_done fair.link fair.app LOGOUT counted Logout None (low_of s.last 1 at.last (omega arith)) (logout_fits counted fair.link at.last at.reading fair.written)) fair.rooms a) [
+    elim (after_done fit.link fit.app LOGOUT counted (step.Send Logout None) (HasSent counted Logout) (step.Close (LoggedOut 3) ∷ step.Nothing ∷ []) notes r s' (send_done fit.link fit.app LOGOUT counted Logout None (low_of s.last 1 at.last (omega arith)) (logout_fits counted fit.link at.last at.reading fit.written)) fit.rooms a) [
       | inl lost ↦ want AtLogout notes (IsNextAt AtLogout s') r lost
       | inr f ↦ logout_goes counted s' notes r at.last at.reading f
     ]
@@ -147,6 +147,6 @@ logout_handles s s' notes r at fair d =
 -- ---- each of them
 
 pub handles : (p : Place) (s s' : State) (notes : List Note) (r : Result ⊤ Ending) → IsAt p s → IsFit p notes → Handled SAMPLE_ID s (text_at p) notes r s' → Came p notes (IsNextAt p s') r
-handles AtLogon s s' notes r at fair h = logon_handles s s' notes r at fair (subst (λ (xs : List Step). Carries LOGON s xs notes r s') (logon_answered s h.inbound at h.presents) h.carried)
-handles AtOrder s s' notes r at fair h = order_handles s s' notes r at fair (subst (λ (xs : List Step). Carries ORDER s xs notes r s') (order_answered s h.inbound at h.presents) h.carried)
-handles AtLogout s s' notes r at fair h = logout_handles s s' notes r at fair (subst (λ (xs : List Step). Carries LOGOUT s xs notes r s') (logout_answered s h.inbound at h.presents) h.carried)
+handles AtLogon s s' notes r at fit h = logon_handles s s' notes r at fit (subst (λ (xs : List Step). Carries LOGON s xs notes r s') (logon_answered s h.inbound at h.presents) h.carried)
+handles AtOrder s s' notes r at fit h = order_handles s s' notes r at fit (subst (λ (xs : List Step). Carries ORDER s xs notes r s') (order_answered s h.inbound at h.presents) h.carried)
+handles AtLogout s s' notes r at fit h = logout_handles s s' notes r at fit (subst (λ (xs : List Step). Carries LOGOUT s xs notes r s') (logout_answered s h.inbound at h.presents) h.carried)

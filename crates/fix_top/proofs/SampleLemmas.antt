@@ -43,22 +43,22 @@ record Rests (more : List ℕ) (l : Live) (p : Place) : Type 0 where
 -- ---- the frames of a read
 
 Taken-came : (more : List ℕ) (l : Live) (notes : List Note) (r : Result ⊤ Ending) (to : Live) → Taken SAMPLE_ID l notes r to → (p : Place) → IsFit p notes → Stands more l p → Came p notes (Rests more to) r
-Taken-came more l notes r to (turn.no_more {s = s} {a = a} {b = b} gives) p fair h =
+Taken-came more l notes r to (turn.no_more {s = s} {a = a} {b = b} gives) p fit h =
     let still = none_given a b more (text_at p) (rest_at p) (whole_at p) h.ahead gives in
     on p (record { stands = record { state = h.state; ahead = still.0 }; none = still.1 }) [] [] (record { wrote = refl; gave = refl }) refl refl
-Taken-came more l notes r to (turn.ends {s = s} {s' = s'} {a = a} {b = b} {e = e} frame gives d) p fair h =
+Taken-came more l notes r to (turn.ends {s = s} {s' = s'} {a = a} {b = b} {e = e} frame gives d) p fit h =
     let is = given a b frame more (text_at p) (rest_at p) (whole_at p) h.ahead gives in
-    came_err p notes (IsNextAt p s') (Rests more to) e (handles p s s' notes (Err e) h.state fair (subst (λ (f : List ℕ). Handled SAMPLE_ID s f notes (Err e) s') is.0 d))
-Taken-came more l notes r to (turn.goes {s = s} {mid = mid} {a = a} {b = b} {first = first} {more = others} frame gives d k) p fair h =
+    came_err p notes (IsNextAt p s') (Rests more to) e (handles p s s' notes (Err e) h.state fit (subst (λ (f : List ℕ). Handled SAMPLE_ID s f notes (Err e) s') is.0 d))
+Taken-came more l notes r to (turn.goes {s = s} {mid = mid} {a = a} {b = b} {first = first} {more = others} frame gives d k) p fit h =
     let is = given a b frame more (text_at p) (rest_at p) (whole_at p) h.ahead gives in
-    came_bind p first others (IsNextAt p mid) (Rests more to) r fair
-    (λ q next fit. Taken-came more (live mid b) others r to k q fit (record { state = next.state; ahead = subst (IsAhead b more) next.text is.1 }))
-    (handles p s mid first (Ok tt) h.state (fit_first p first others fair) (subst (λ (f : List ℕ). Handled SAMPLE_ID s f first (Ok tt) mid) is.0 d))
+    came_bind p first others (IsNextAt p mid) (Rests more to) r fit
+    (λ q next fits. Taken-came more (live mid b) others r to k q fits (record { state = next.state; ahead = subst (IsAhead b more) next.text is.1 }))
+    (handles p s mid first (Ok tt) h.state (fit_first p first others fit) (subst (λ (f : List ℕ). Handled SAMPLE_ID s f first (Ok tt) mid) is.0 d))
 
 Fed-came : (more b : List ℕ) (l : Live) (notes : List Note) (r : Result ⊤ Ending) (to : Live) → Fed SAMPLE_ID b l notes r to → (p : Place) → IsFit p notes → Stands (b ++ more) l p → Came p notes (Rests more to) r
-Fed-came more b l notes r to (turn.fed_frames d) p fair h =
-    Taken-came more (live l.state (fed l.ahead b)) notes r to d p fair (record { state = h.state; ahead = record { mark = h.ahead.mark; bytes = append_assoc l.ahead.bytes b more ∙ h.ahead.bytes } })
-Fed-came more b l notes r to turn.fed_memory p fair h = no_memory
+Fed-came more b l notes r to (turn.fed_frames d) p fit h =
+    Taken-came more (live l.state (fed l.ahead b)) notes r to d p fit (record { state = h.state; ahead = record { mark = h.ahead.mark; bytes = append_assoc l.ahead.bytes b more ∙ h.ahead.bytes } })
+Fed-came more b l notes r to turn.fed_memory p fit h = no_memory
 
 -- ---- one turn
 

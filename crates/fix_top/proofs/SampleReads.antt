@@ -104,10 +104,6 @@ fair_then t pieces later xs ys behind h reads = record {
   reads = reads;
 }
 
--- notes without a read leave the pieces to come
-pub fair_over : (t : ℕ) (pieces : List (List ℕ)) (notes : List Note) (behind : List Act) → reads_in (acts_of notes) ≡ 0 → IsFair t pieces notes behind → ReadsPieces pieces behind
-fair_over t pieces notes behind none h = reads_over pieces (acts_of notes) behind none h.reads
-
 -- ---- how much is to come
 
 abbrev pub to_come : List (List ℕ) → ℕ

@@ -78,8 +78,8 @@ pub record IsDone (link app : ℕ) (frame : List ℕ) (s : State) (x : Step) (Q 
   pub goes : (notes : List Note) (s' : State) → Performed SAMPLE_ID frame s x notes (Ok tt) s' → Q notes s'
 
 pub after_done : (link app : ℕ) (frame : List ℕ) (s : State) (x : Step) (Q : List Note → State → Type 0) (xs : List Step) (notes : List Note) (r : Result ⊤ Ending) (s' : State) → IsDone link app frame s x Q → HasRooms link app notes → Carries frame s (x ∷ xs) notes r s' → (r ≡ Err ending.OutOfMemory) ⊎ Follows frame Q xs notes r s'
-after_done link app frame s x Q xs notes r s' h fair (fold.ends {e = e} d) = inl (ap Err (h.fails notes e s' fair d))
-after_done link app frame s x Q xs notes r s' h fair (fold.goes {mid = mid} {first = first} {more = more} d k) = inr (record { first = first; more = more; mid = mid; is = refl; did = h.goes first mid d; others = k })
+after_done link app frame s x Q xs notes r s' h rooms (fold.ends {e = e} d) = inl (ap Err (h.fails notes e s' rooms d))
+after_done link app frame s x Q xs notes r s' h rooms (fold.goes {mid = mid} {first = first} {more = more} d k) = inr (record { first = first; more = more; mid = mid; is = refl; did = h.goes first mid d; others = k })
 
 -- a message was kept and written
 pub record HasSent (s : State) (say : Say) (notes : List Note) (to : State) : Type 0 where
@@ -97,11 +97,11 @@ unsent_fits : (link sent : ℕ) (text : List ℕ) → length text ≤ link → l
 unsent_fits link sent text fits lost = omega (arith, length-take sent text)
 
 send_fails : (link app : ℕ) (frame : List ℕ) (s : State) (say : Say) (n : Option ℕ) → s.last < 999999999 → SaidFits link s say → (notes : List Note) (e : Ending) (s' : State) → HasRooms link app notes → Performed SAMPLE_ID frame s (step.Send say n) notes (Err e) s' → e ≡ ending.OutOfMemory
-send_fails link app frame s say n low fits notes e s' fair (answer.spent y m high) = absurd (omega (arith, low, high))
-send_fails link app frame s say n low fits notes e s' fair (answer.keep_memory y m h) = refl
-send_fails link app frame s say n low fits notes e s' fair (answer.keep_lost y m h) = absurd fair
-send_fails link app frame s say n low fits notes e s' fair (answer.write_lost y m text k h said) = absurd (unsent_fits link k text (fits text said) fair.0)
-send_fails link app frame s say n low fits notes e s' fair (answer.write_memory y m h) = refl
+send_fails link app frame s say n low fits notes e s' rooms (answer.spent y m high) = absurd (omega (arith, low, high))
+send_fails link app frame s say n low fits notes e s' rooms (answer.keep_memory y m h) = refl
+send_fails link app frame s say n low fits notes e s' rooms (answer.keep_lost y m h) = absurd rooms
+send_fails link app frame s say n low fits notes e s' rooms (answer.write_lost y m text k h said) = absurd (unsent_fits link k text (fits text said) rooms.0)
+send_fails link app frame s say n low fits notes e s' rooms (answer.write_memory y m h) = refl
 
 send_goes : (frame : List ℕ) (s : State) (say : Say) (n : Option ℕ) (notes : List Note) (s' : State) → Performed SAMPLE_ID frame s (step.Send say n) notes (Ok tt) s' → HasSent s say notes s'
 send_goes frame s say n notes s' (answer.sent y m text h said) = record { text = text; said = said; noted = refl; state = refl }
@@ -124,8 +124,8 @@ line_fits : (app line : ℕ) → line ≤ app → app < line → ⊥
 line_fits app line fits lost = omega (arith, fits, lost)
 
 hand_fails : (link app : ℕ) (frame : List ℕ) (s : State) (n : ℕ) (marked : Bool) → LineFits app frame n marked → (notes : List Note) (e : Ending) (s' : State) → HasRooms link app notes → Performed SAMPLE_ID frame s (step.Hand n marked) notes (Err e) s' → e ≡ ending.OutOfMemory
-hand_fails link app frame s n marked fits notes e s' fair (answer.hand_lost k m fields has) = absurd (line_fits app (length (line_text n marked (body_of fields))) (fits fields has) fair.0)
-hand_fails link app frame s n marked fits notes e s' fair (answer.hand_memory k m) = refl
+hand_fails link app frame s n marked fits notes e s' rooms (answer.hand_lost k m fields has) = absurd (line_fits app (length (line_text n marked (body_of fields))) (fits fields has) rooms.0)
+hand_fails link app frame s n marked fits notes e s' rooms (answer.hand_memory k m) = refl
 
 hand_goes : (frame : List ℕ) (s : State) (n : ℕ) (marked : Bool) (notes : List Note) (s' : State) → Performed SAMPLE_ID frame s (step.Hand n marked) notes (Ok tt) s' → HasHanded frame s n marked notes s'
 hand_goes frame s n marked notes s' (answer.taken k m fields has) = record { fields = fields; has = has; noted = refl; state = refl }
