@@ -5,3 +5,7 @@ pub mod Faulty
 pub mod Lined
 pub mod Noted
 pub mod Header
+pub mod Shapes
+pub mod Members
+pub mod Falls
+pub mod NoTwice

@@ -4,6 +4,7 @@
 
 mod field;
 mod header;
+mod layout;
 mod lines;
 mod list;
 mod noted;
@@ -19,6 +20,7 @@ mod value;
 
 pub use field::{FieldRef, due_after, field_at, is_body, is_body_field};
 pub use header::Envelope;
+pub use layout::{Layout, Member};
 pub use lines::body_fields;
 pub use list::{FieldFault, FieldList, fields};
 pub use number::{boolean, int};

@@ -1,0 +1,12 @@
+pub mod Tagged
+pub mod Looked
+pub mod Runs
+pub mod Misfits
+pub mod Open
+pub mod Nodes
+pub mod NodesOf
+pub mod TreeFalls
+pub mod Flat
+pub mod Fits
+pub mod Instances
+pub mod Split
