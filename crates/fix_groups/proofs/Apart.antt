@@ -109,7 +109,7 @@ not_owned t g off = unowned_with t g (owner t g) refl off
 
 -- ---- a group's part of the layout, and what stands behind it
 
-off_inside : (t : ℕ) (inner ms : Shapes) → ((u : ℕ) → has_tag u inner ≡ true → has_tag u ms ≡ false) → has_tag t ms ≡ true → has_tag t inner ≡ false
+pub off_inside : (t : ℕ) (inner ms : Shapes) → ((u : ℕ) → has_tag u inner ≡ true → has_tag u ms ≡ false) → has_tag t ms ≡ true → has_tag t inner ≡ false
 off_inside t inner ms apart on = off_if (has_tag t inner) (λ e. true_false (sym on ∙ apart t e))
 
 pub in_inner : (t d : ℕ) (r : Bool) (inner ms : Shapes) → HasNoTwice (group d r inner ms) → has_tag t inner ≡ true → group_at t (group d r inner ms) ≡ group_at t inner

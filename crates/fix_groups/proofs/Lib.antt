@@ -8,3 +8,7 @@ pub mod Building
 pub mod Members
 pub mod Wholes
 pub mod Collecting
+pub mod WholeIsRight
+pub mod Splitting
+pub mod ToldLemmas
+pub mod PlainCounts

@@ -14,7 +14,7 @@ use Rattle.fix_groups.proofs.Apart.{on_right, on_left, both_off, off_if, some_sa
 pub false_true : false ≡ true → ⊥
 false_true h = true_false (sym h)
 
-same_here : (d : ℕ) → (d == d) ≡ true
+pub same_here : (d : ℕ) → (d == d) ≡ true
 same_here d = search rules
 
 -- ---- the owner

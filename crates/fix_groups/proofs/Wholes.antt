@@ -59,7 +59,7 @@ within_cases root h before f c at on = elim (or_cases (f.tag == c) (is_within ro
   | inr e ↦ inr (let p = and_both _ _ e in (p.0, sym (in_group root h c f.tag at) ∙ p.1))
 ]
 
-within-append : (root : Shapes) (c : ℕ) (inside_ : Bool) (a b : List Tagged) → is_within root c inside_ (a ++ b) ≡ is_within root c (is_within root c inside_ a) b
+pub within-append : (root : Shapes) (c : ℕ) (inside_ : Bool) (a b : List Tagged) → is_within root c inside_ (a ++ b) ≡ is_within root c (is_within root c inside_ a) b
 within-append root c inside_ [] b = refl
 within-append root c inside_ (f ∷ a) b = within-append root c (f.tag == c || (inside_ && is_in root c f.tag)) a b
 

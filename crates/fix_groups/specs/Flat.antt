@@ -1,5 +1,5 @@
 -- The fields of a tree.
-use Rattle.std.specs.Prelude.{ℕ, List, [], ◌∷◌, ◌++◌, Option, Some, None}
+use Rattle.std.specs.Prelude.{ℕ, ◌≡◌, List, [], ◌∷◌, ◌++◌, length, get_or, Option, Some, None}
 use Rattle.std.specs.Fmt.{decimal}
 use Rattle.fix_base.specs.Fields.{Field}
 use Rattle.fix_fields.specs.Shapes.{Shapes}
@@ -36,3 +36,11 @@ plain_value (Some g) v = plain_number (count_in v) v
 abbrev pub plainly : Shapes → List Field → List Field
 plainly root [] = []
 plainly root (f ∷ fs) = record { tag = f.tag; value = plain_value (group_at f.tag root) f.value } ∷ plainly root fs
+
+-- no count of a group has leading zeros
+abbrev pub IsPlainNumber : List ℕ → Type 0
+IsPlainNumber v = get_or v 0 0 ≡ 48 → length v ≡ 1
+
+abbrev pub HasPlainCounts : Shapes → List Field → Type 0
+HasPlainCounts root [] = Unit {0}
+HasPlainCounts root (f ∷ fs) = ((g : Shapes) → group_at f.tag root ≡ Some g → IsPlainNumber f.value) × HasPlainCounts root fs

@@ -1,5 +1,6 @@
 pub mod Tagged
 pub mod Looked
+pub mod Told
 pub mod Runs
 pub mod Misfits
 pub mod Open

@@ -1,0 +1,168 @@
+use crate::{GroupFault, flatten, has_no_twice, split};
+use fix_base::Tag;
+use fix_fields::{Layout, Member, fields};
+use std::alloc::{AllocError, Global};
+
+#[derive(Clone, Copy)]
+enum Want<'a> {
+    Gives(&'a [u8]),
+    Count(u32),
+    Order(u32),
+}
+
+fn gives(out: &[u8], want: Want<'_>) -> bool {
+    match want {
+        Want::Gives(text) => out == text,
+        Want::Count(_) => false,
+        Want::Order(_) => false,
+    }
+}
+
+fn is_fault(fault: GroupFault, want: Want<'_>) -> bool {
+    match (fault, want) {
+        (GroupFault::CountWrong(tag), Want::Count(wanted)) => tag.get() == wanted,
+        (GroupFault::OrderWrong(tag), Want::Order(wanted)) => tag.get() == wanted,
+        _ => false,
+    }
+}
+
+fn push_plain(members: &mut Vec<Member>, tag: u32) -> Result<(), AllocError> {
+    if let Some(tag) = Tag::new(tag) {
+        let member = Member::Plain {
+            tag,
+            required: false,
+        };
+        members.push(member)?;
+    }
+    Ok(())
+}
+
+fn push_group(members: &mut Vec<Member>, count: u32, inner: Layout) -> Result<(), AllocError> {
+    if let Some(count) = Tag::new(count) {
+        let member = Member::Group {
+            count,
+            required: false,
+            inner,
+        };
+        members.push(member)?;
+    }
+    Ok(())
+}
+
+// NoPartyIDs (453) of FIX 4.4 with NoPartySubIDs (802) inside it, among fields of an order.
+fn layout(alloc: Global) -> Result<Layout, AllocError> {
+    let mut subs = Vec::new(alloc);
+    push_plain(&mut subs, 523)?;
+    push_plain(&mut subs, 803)?;
+    let mut parties = Vec::new(alloc);
+    push_plain(&mut parties, 448)?;
+    push_plain(&mut parties, 447)?;
+    push_group(&mut parties, 802, Layout { members: subs })?;
+    push_plain(&mut parties, 452)?;
+    let mut members = Vec::new(alloc);
+    push_plain(&mut members, 11)?;
+    push_group(&mut members, 453, Layout { members: parties })?;
+    push_plain(&mut members, 55)?;
+    Ok(Layout { members })
+}
+
+fn answers(alloc: Global, text: &[u8], want: Want<'_>) -> bool {
+    let Ok(layout) = layout(alloc) else {
+        return false;
+    };
+    if !has_no_twice(&layout) {
+        return false;
+    }
+    let Ok(list) = fields(text) else {
+        return false;
+    };
+    match split(alloc, list, &layout) {
+        Ok(tree) => match flatten(alloc, &tree) {
+            Ok(out) => gives(out.as_slice(), want),
+            Err(_) => false,
+        },
+        Err(fault) => is_fault(fault, want),
+    }
+}
+
+#[test]
+fn instances_are_split_and_given_back(rt: HostRuntime) {
+    let one = b"453=1\x01448=P1\x01".as_slice();
+    assert!(rt; answers(rt.alloc(), one, Want::Gives(one)));
+    let none = b"11=A\x01453=0\x0155=X\x01".as_slice();
+    assert!(rt; answers(rt.alloc(), none, Want::Gives(none)));
+    let twice = b"453=1\x01448=A\x01453=1\x01448=B\x01".as_slice();
+    assert!(rt; answers(rt.alloc(), twice, Want::Gives(twice)));
+}
+
+#[test]
+fn leading_zeros_of_a_count_go(rt: HostRuntime) {
+    let text = b"453=02\x01448=A\x01448=B\x01";
+    let plain = b"453=2\x01448=A\x01448=B\x01";
+    assert!(rt; answers(rt.alloc(), text, Want::Gives(plain)));
+}
+
+#[test]
+fn groups_inside_are_split_and_given_back(rt: HostRuntime) {
+    let text =
+        b"453=2\x01448=P\x01447=D\x01802=2\x01523=a\x01803=1\x01523=b\x01452=3\x01448=Q\x0155=X\x01".as_slice();
+    assert!(rt; answers(rt.alloc(), text, Want::Gives(text)));
+}
+
+#[test]
+fn a_wrong_number_names_its_count(rt: HostRuntime) {
+    assert!(rt; answers(rt.alloc(), b"453=2\x01448=P1\x01", Want::Count(453)));
+    assert!(rt;
+        answers(
+            rt.alloc(),
+            b"453=2\x01448=P\x01802=5\x01523=a\x01",
+            Want::Count(453)
+        )
+    );
+    assert!(rt;
+        answers(
+            rt.alloc(),
+            b"453=1\x01448=P\x01802=5\x01523=a\x01",
+            Want::Count(802)
+        )
+    );
+}
+
+#[test]
+fn a_count_is_one_to_nine_digits(rt: HostRuntime) {
+    assert!(rt; answers(rt.alloc(), b"453=x\x01448=P\x01", Want::Count(453)));
+    assert!(rt; answers(rt.alloc(), b"453=0000000001\x01448=P\x01", Want::Count(453)));
+    assert!(rt; answers(rt.alloc(), b"453=\x0155=X\x01", Want::Count(453)));
+}
+
+#[test]
+fn a_wrong_order_names_its_count(rt: HostRuntime) {
+    assert!(rt;
+        answers(
+            rt.alloc(),
+            b"453=1\x01447=D\x01448=P1\x01",
+            Want::Order(453)
+        )
+    );
+    assert!(rt; answers(rt.alloc(), b"453=0\x01447=D\x01", Want::Order(453)));
+    assert!(rt;
+        answers(
+            rt.alloc(),
+            b"453=1\x01448=P\x01447=D\x01447=E\x01",
+            Want::Order(453)
+        )
+    );
+}
+
+#[test]
+fn a_member_outside_every_run_is_out_of_order(rt: HostRuntime) {
+    assert!(rt; answers(rt.alloc(), b"11=A\x01447=D\x01", Want::Order(453)));
+    assert!(rt;
+        answers(
+            rt.alloc(),
+            b"453=2\x01448=P\x01802=1\x01523=a\x01448=Q\x01523=b\x01",
+            Want::Order(802)
+        )
+    );
+    assert!(rt; answers(rt.alloc(), b"802=1\x01523=a\x01", Want::Order(453)));
+}
