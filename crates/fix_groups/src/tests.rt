@@ -3,26 +3,17 @@ use fix_base::Tag;
 use fix_fields::{Layout, Member, fields};
 use std::alloc::{AllocError, Global};
 
-#[derive(Clone, Copy)]
-enum Want<'a> {
-    Gives(&'a [u8]),
-    Count(u32),
-    Order(u32),
-}
-
-fn gives(out: &[u8], want: Want<'_>) -> bool {
-    match want {
-        Want::Gives(text) => out == text,
-        Want::Count(_) => false,
-        Want::Order(_) => false,
+fn count_wrong(count: u32) -> Option<GroupFault> {
+    match Tag::new(count) {
+        Some(tag) => Some(GroupFault::CountWrong(tag)),
+        None => None,
     }
 }
 
-fn is_fault(fault: GroupFault, want: Want<'_>) -> bool {
-    match (fault, want) {
-        (GroupFault::CountWrong(tag), Want::Count(wanted)) => tag.get() == wanted,
-        (GroupFault::OrderWrong(tag), Want::Order(wanted)) => tag.get() == wanted,
-        _ => false,
+fn order_wrong(count: u32) -> Option<GroupFault> {
+    match Tag::new(count) {
+        Some(tag) => Some(GroupFault::OrderWrong(tag)),
+        None => None,
     }
 }
 
@@ -66,7 +57,8 @@ fn layout(alloc: Global) -> Result<Layout, AllocError> {
     Ok(Layout { members })
 }
 
-fn answers(alloc: Global, text: &[u8], want: Want<'_>) -> bool {
+// The text is split into a tree that gives the other text back.
+fn gives(alloc: Global, text: &[u8], wanted: &[u8]) -> bool {
     let Ok(layout) = layout(alloc) else {
         return false;
     };
@@ -78,91 +70,105 @@ fn answers(alloc: Global, text: &[u8], want: Want<'_>) -> bool {
     };
     match split(alloc, list, &layout) {
         Ok(tree) => match flatten(alloc, &tree) {
-            Ok(out) => gives(out.as_slice(), want),
+            Ok(out) => out.as_slice() == wanted,
             Err(_) => false,
         },
-        Err(fault) => is_fault(fault, want),
+        Err(_) => false,
     }
+}
+
+// The text is refused with this fault.
+fn fails(alloc: Global, text: &[u8], wanted: Option<GroupFault>) -> bool {
+    let Ok(layout) = layout(alloc) else {
+        return false;
+    };
+    if !has_no_twice(&layout) {
+        return false;
+    }
+    let Ok(list) = fields(text) else {
+        return false;
+    };
+    split(alloc, list, &layout).err() == wanted
 }
 
 #[test]
 fn instances_are_split_and_given_back(rt: HostRuntime) {
     let one = b"453=1\x01448=P1\x01".as_slice();
-    assert!(rt; answers(rt.alloc(), one, Want::Gives(one)));
+    assert!(rt; gives(rt.alloc(), one, one));
     let none = b"11=A\x01453=0\x0155=X\x01".as_slice();
-    assert!(rt; answers(rt.alloc(), none, Want::Gives(none)));
+    assert!(rt; gives(rt.alloc(), none, none));
     let twice = b"453=1\x01448=A\x01453=1\x01448=B\x01".as_slice();
-    assert!(rt; answers(rt.alloc(), twice, Want::Gives(twice)));
+    assert!(rt; gives(rt.alloc(), twice, twice));
 }
 
 #[test]
 fn leading_zeros_of_a_count_go(rt: HostRuntime) {
     let text = b"453=02\x01448=A\x01448=B\x01";
     let plain = b"453=2\x01448=A\x01448=B\x01";
-    assert!(rt; answers(rt.alloc(), text, Want::Gives(plain)));
+    assert!(rt; gives(rt.alloc(), text, plain));
 }
 
 #[test]
 fn groups_inside_are_split_and_given_back(rt: HostRuntime) {
     let text =
         b"453=2\x01448=P\x01447=D\x01802=2\x01523=a\x01803=1\x01523=b\x01452=3\x01448=Q\x0155=X\x01".as_slice();
-    assert!(rt; answers(rt.alloc(), text, Want::Gives(text)));
+    assert!(rt; gives(rt.alloc(), text, text));
 }
 
 #[test]
 fn a_wrong_number_names_its_count(rt: HostRuntime) {
-    assert!(rt; answers(rt.alloc(), b"453=2\x01448=P1\x01", Want::Count(453)));
+    assert!(rt; fails(rt.alloc(), b"453=2\x01448=P1\x01", count_wrong(453)));
     assert!(rt;
-        answers(
+        fails(
             rt.alloc(),
             b"453=2\x01448=P\x01802=5\x01523=a\x01",
-            Want::Count(453)
+            count_wrong(453)
         )
     );
     assert!(rt;
-        answers(
+        fails(
             rt.alloc(),
             b"453=1\x01448=P\x01802=5\x01523=a\x01",
-            Want::Count(802)
+            count_wrong(802)
         )
     );
 }
 
 #[test]
 fn a_count_is_one_to_nine_digits(rt: HostRuntime) {
-    assert!(rt; answers(rt.alloc(), b"453=x\x01448=P\x01", Want::Count(453)));
-    assert!(rt; answers(rt.alloc(), b"453=0000000001\x01448=P\x01", Want::Count(453)));
-    assert!(rt; answers(rt.alloc(), b"453=\x0155=X\x01", Want::Count(453)));
+    assert!(rt; fails(rt.alloc(), b"453=x\x01448=P\x01", count_wrong(453)));
+    assert!(rt; fails(rt.alloc(), b"453=0000000001\x01448=P\x01", count_wrong(453)));
+    assert!(rt; fails(rt.alloc(), b"453=\x0155=X\x01", count_wrong(453)));
 }
 
 #[test]
 fn a_wrong_order_names_its_count(rt: HostRuntime) {
     assert!(rt;
-        answers(
+        fails(
             rt.alloc(),
             b"453=1\x01447=D\x01448=P1\x01",
-            Want::Order(453)
+            order_wrong(453)
         )
     );
-    assert!(rt; answers(rt.alloc(), b"453=0\x01447=D\x01", Want::Order(453)));
+    assert!(rt; fails(rt.alloc(), b"453=0\x01447=D\x01", order_wrong(453)));
     assert!(rt;
-        answers(
+        fails(
             rt.alloc(),
             b"453=1\x01448=P\x01447=D\x01447=E\x01",
-            Want::Order(453)
+            order_wrong(453)
         )
     );
 }
 
 #[test]
 fn a_member_outside_every_run_is_out_of_order(rt: HostRuntime) {
-    assert!(rt; answers(rt.alloc(), b"11=A\x01447=D\x01", Want::Order(453)));
+    assert!(rt; fails(rt.alloc(), b"11=A\x01447=D\x01", order_wrong(453)));
     assert!(rt;
-        answers(
+        fails(
             rt.alloc(),
             b"453=2\x01448=P\x01802=1\x01523=a\x01448=Q\x01523=b\x01",
-            Want::Order(802)
+            order_wrong(802)
         )
     );
-    assert!(rt; answers(rt.alloc(), b"802=1\x01523=a\x01", Want::Order(453)));
+    assert!(rt; fails(rt.alloc(), b"802=1\x01523=a\x01", order_wrong(453)));
 }
