@@ -191,7 +191,7 @@ zeros : (n : ℕ) → AllDigits 10 (replicate n 48)
 zeros zero = tt
 zeros (suc n) = (lit< tt, zeros n)
 
-digits-append : (a b : List ℕ) → AllDigits 10 a → AllDigits 10 b → AllDigits 10 (a ++ b)
+pub digits-append : (a b : List ℕ) → AllDigits 10 a → AllDigits 10 b → AllDigits 10 (a ++ b)
 digits-append [] b p q = q
 digits-append (x ∷ a) b p q = (p.0, digits-append a b p.1 q)
 

@@ -40,7 +40,7 @@ pub use stream_laws::{
     a_longer_stream_reads_on, a_stream_has_one_reading, a_text_has_one_list_of_fields,
     frames_of_a_front,
 };
-pub use tags::{DATA_PAIRS, SESSION_TAGS};
+pub use tags::{DATA_PAIRS, ENGINE_TAGS, HEADER_TAGS, SESSION_TAGS, TRAILER_TAGS};
 pub use world_laws::{
     a_message_arrives, a_message_comes_again, a_reader_keeps_up, what_a_writer_keeps_true,
     world_agrees,

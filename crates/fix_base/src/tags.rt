@@ -22,3 +22,17 @@ pub const DATA_PAIRS: [(u32, u32); 16] = [
 /// The header tags that the engine writes itself beside 8, 9 and 35, in the order in which it
 /// writes them. They are no part of a message's body.
 pub const SESSION_TAGS: [u32; 6] = [34, 43, 49, 52, 56, 122];
+
+/// The tags of a message's header (FIX 4.2 and 4.4, "Standard Message Header"). One list serves
+/// both versions.
+pub const HEADER_TAGS: [u32; 31] = [
+    8, 9, 34, 35, 43, 49, 50, 52, 56, 57, 90, 91, 97, 115, 116, 122, 128, 129, 142, 143, 144, 145,
+    212, 213, 347, 369, 370, 627, 628, 629, 630,
+];
+
+/// The tags of a message's trailer (FIX, "Standard Message Trailer").
+pub const TRAILER_TAGS: [u32; 3] = [10, 89, 93];
+
+/// The tags that the engine alone writes, or that belong to its frame, to signatures or to
+/// encryption: a message that an application gives may carry none of them.
+pub const ENGINE_TAGS: [u32; 14] = [8, 9, 10, 34, 35, 43, 49, 52, 56, 89, 90, 91, 93, 122];

@@ -1,6 +1,10 @@
 pub mod NumberLemmas
 pub mod TimedLemmas
-pub mod WritingLemmas
+pub mod ValueLemmas
+pub mod PriceLemmas
 pub mod FieldsLeft
 pub mod EnvelopeLemmas
 pub mod ListLemmas
+pub mod DraftLemmas
+pub mod DraftBodies
+pub mod WritingLemmas

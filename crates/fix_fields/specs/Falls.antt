@@ -1,4 +1,4 @@
--- Each child is smaller than what holds it.
+-- A layout inside a group is smaller than the one around it.
 use Rattle.std.specs.Prelude.{◌≤◌, List, [], ◌∷◌, max}
 use Rattle.std.proofs.Common.{arith}
 use denote.Param.Weighed.{most}
@@ -10,5 +10,5 @@ use Rattle.fix_fields.specs.declared.layout.Layout.TheDeep.{deep-Member}
 
 pub layout_falls : (ms : List Member) → max (most deep-Member ms) 0 ≤ shapes_size (shapes_of ms)
 layout_falls [] = omega arith
-layout_falls (Plain t r ∷ ms) = omega (arith, layout_falls ms)
-layout_falls (Group c r inner ∷ ms) = omega (arith, layout_falls ms)
+layout_falls (Plain tag required ∷ ms) = omega (arith, layout_falls ms)
+layout_falls (Group count required inner ∷ ms) = omega (arith, layout_falls ms)

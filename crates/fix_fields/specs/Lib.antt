@@ -1,10 +1,14 @@
 pub mod Lent
 pub mod Value
+pub mod Parts
+pub mod Kinds
 pub mod Timed
 pub mod Faulty
 pub mod Lined
 pub mod Noted
 pub mod Header
+pub mod Drafts
+pub mod Drafted
 pub mod Shapes
 pub mod Members
 pub mod Falls

@@ -1,24 +1,25 @@
 use fix_base::Tag;
 use std::marker::Model;
 
-/// The members of a message, a header, a trailer or an instance of a repeating group, in their
-/// order. Contracts see it as `Shapes`.
+/// The fields of a message, of a header or of a group, in order: the form that a dictionary gives
+/// it. Contracts see it as the list of its members (`Shapes`), with those of the groups inside.
 #[cycle(layout)]
 #[derive(Drop)]
 pub struct Layout {
     pub members: Vec<Member>,
 }
 
-/// A field of a layout, or a repeating group.
+/// A field of a layout, or a repeating group (FIX, "Repeating Groups").
 #[cycle(layout)]
 #[derive(Drop)]
 pub enum Member {
-    /// A field of its own.
+    /// A field with this tag.
     Plain {
         tag: Tag,
         required: bool,
     },
-    /// A repeating group: the NumInGroup field that counts its instances, and what an instance has.
+    /// A group: `count` is the tag of its NumInGroup field, and each of its instances is of the
+    /// layout `inner`, beginning with its first member.
     Group {
         count: Tag,
         required: bool,

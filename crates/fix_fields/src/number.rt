@@ -1,5 +1,6 @@
-ghost use Rattle.std.specs.Prelude.{◌≡◌, ℕ, List, ◌∷◌, Bool, MatchOption, IfSome, Some, ℤ};
+ghost use Rattle.std.specs.Prelude.{◌≡◌, ℕ, ◌^◌, ◌<◌, List, ◌∷◌, Bool, MatchOption, IfSome, Some, ℤ};
 ghost use Rattle.fix_fields.specs.Value.{IsDigitsOf, IsInt, boolean_text};
+ghost use Rattle.fix_fields.specs.Parts.{IsDigitsAfter};
 
 // One more than the greatest size of an `int`: numbers of up to 15 digits are read.
 const SIZES: u64 = 1_000_000_000_000_000;
@@ -55,7 +56,17 @@ pub fn digits_of(value: &[u8]) -> Option<u64>
     if value.is_empty() {
         return None;
     }
-    let mut number: u64 = 0;
+    digits_after(0, value)
+}
+
+// The number that the digits write when they follow those of a number.
+pub fn digits_after(front: u64, value: &[u8]) -> Option<u64>
+    requires { front < 10 ^ 15 }
+    ensures { MatchOption result
+        ((number : ℕ) → IsDigitsAfter front number value.now → ⊥)
+        (λ number. IsDigitsAfter front number value.now) }
+{
+    let mut number = front;
     for digit in value {
         if !digit.is_ascii_digit() {
             return None;

@@ -1,9 +1,10 @@
 ghost use Rattle.std.specs.Prelude.{◌≡◌, ℕ, List, MatchOption};
 ghost use Rattle.fix_base.specs.Front.{Begins};
 ghost use Rattle.fix_base.specs.Fields.{IsTag};
+ghost use Rattle.fix_base.specs.Tags as tags;
 ghost use Rattle.fix_base.specs.Tags.{data_tag};
 
-use fix_base::{DATA_PAIRS, Tag};
+use fix_base::{DATA_PAIRS, ENGINE_TAGS, HEADER_TAGS, TRAILER_TAGS, Tag};
 
 /// The most digits of a tag.
 const MOST_DIGITS: usize = 9;
@@ -54,4 +55,36 @@ pub fn paired(tag: Tag) -> Option<u32>
         }
     }
     None
+}
+
+/// Whether the tag is one of data, which a length tag announces, as RawData (96).
+pub fn is_data_tag(tag: Tag) -> bool
+    ensures { result ≡ tags.is_data_tag tag }
+{
+    let number = tag.get();
+    DATA_PAIRS.iter().any(|pair| pair.1 == number)
+}
+
+/// Whether the tag is one of the header.
+pub fn is_header_tag(tag: Tag) -> bool
+    ensures { result ≡ tags.is_header_tag tag }
+{
+    let number = tag.get();
+    HEADER_TAGS.iter().any(|t| *t == number)
+}
+
+/// Whether the tag is one of the trailer.
+pub fn is_trailer_tag(tag: Tag) -> bool
+    ensures { result ≡ tags.is_trailer_tag tag }
+{
+    let number = tag.get();
+    TRAILER_TAGS.iter().any(|t| *t == number)
+}
+
+/// Whether only the engine writes the tag, so that no draft may carry it.
+pub fn is_engine_tag(tag: Tag) -> bool
+    ensures { result ≡ tags.is_engine_tag tag }
+{
+    let number = tag.get();
+    ENGINE_TAGS.iter().any(|t| *t == number)
 }

@@ -1,5 +1,5 @@
-use crate::{FieldFault, boolean, fields, int, time_text, utc_time};
-use fix_base::Precision;
+use crate::{FieldFault, Layout, Member, boolean, fields, int, time_text, utc_time};
+use fix_base::{OutOfMemory, Precision, Tag};
 
 #[test]
 fn timestamps_say_their_times(rt: HostRuntime) {
@@ -57,4 +57,28 @@ fn a_fault_is_where_no_field_begins(rt: HostRuntime) {
     assert_eq!(rt; at(b"35=0\x01x"), Some(5));
     assert_eq!(rt; at(b"95=3\x0196=a\x01b\x01"), None);
     assert_eq!(rt; at(b"95=2\x0196=a\x01b\x01"), Some(5));
+}
+
+#[test]
+fn a_layout_has_a_group(rt: HostRuntime) -> Result<(), OutOfMemory> {
+    let (Some(count), Some(first)) = (Tag::new(453), Tag::new(448)) else {
+        return Err(OutOfMemory);
+    };
+    let mut members = Vec::new(rt.alloc());
+    let pushed = members.push(Member::Plain {
+        tag: first,
+        required: true,
+    });
+    assert!(rt; pushed.is_ok());
+    let inner = Layout { members };
+    let group = Member::Group {
+        count,
+        required: false,
+        inner,
+    };
+    let Member::Group { count, inner, .. } = &group else {
+        return Err(OutOfMemory);
+    };
+    assert!(rt; count.get() == 453 && inner.members.len() == 1);
+    Ok(())
 }

@@ -130,7 +130,7 @@ fn ones(number: u32) -> u8
     b'0' + (number % 10) as u8
 }
 
-fn two_at(bytes: &[u8]) -> Option<(u8, &[u8])>
+pub fn two_at(bytes: &[u8]) -> Option<(u8, &[u8])>
     ensures { MatchOption result
         ((number : ℕ) (rest : List ℕ) → HasTwo number bytes.now rest → ⊥)
         (λ x. HasTwo x.0 bytes.now x.1.now) }
@@ -145,7 +145,7 @@ fn two_at(bytes: &[u8]) -> Option<(u8, &[u8])>
 }
 
 // The number of a day that exists, from 1970-01-01.
-fn day_at(bytes: &[u8]) -> Option<(i32, &[u8])>
+pub fn day_at(bytes: &[u8]) -> Option<(i32, &[u8])>
     ensures bound { IfSome result (λ x. IsEpochDay x.0) }
     ensures value { MatchOption result
         ((number : ℤ) (rest : List ℕ) → HasDay number bytes.now rest → ⊥)
@@ -163,7 +163,7 @@ fn day_at(bytes: &[u8]) -> Option<(i32, &[u8])>
 }
 
 // The second of the day.
-fn clock_at(bytes: &[u8]) -> Option<(u32, &[u8])>
+pub fn clock_at(bytes: &[u8]) -> Option<(u32, &[u8])>
     ensures bound { IfSome result (λ x. x.0 ≤ 86400) }
     ensures value { MatchOption result
         ((number : ℕ) (rest : List ℕ) → HasClock number bytes.now rest → ⊥)
@@ -182,7 +182,7 @@ fn clock_at(bytes: &[u8]) -> Option<(u32, &[u8])>
 }
 
 // The microseconds that the point and its digits say.
-fn fraction_of(bytes: &[u8]) -> Option<u64>
+pub fn fraction_of(bytes: &[u8]) -> Option<u64>
     ensures bound { IfSome result (λ number. number < 1000000) }
     ensures value { MatchOption result
         ((number : ℕ) → HasFraction number bytes.now → ⊥)

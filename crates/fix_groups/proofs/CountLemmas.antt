@@ -8,7 +8,8 @@ use Rattle.std.proofs.lemmas.Str.Parse.{IsNumeralModel, numerals_by_value, tells
 use Rattle.fix_base.proofs.Digits.{numerals}
 use Rattle.fix_groups.specs.Tagged.{count_in}
 
-ascii : IsNumeralModel (λ ds. all_ascii_digits ds ≡ true) (digits_value 10)
+-- digits, as they are tried one by one
+pub ascii : IsNumeralModel (λ ds. all_ascii_digits ds ≡ true) (digits_value 10)
 ascii = numerals_by_value (λ ds. all_ascii_digits ds ≡ true) tells_all_ascii_digits
 
 pub count_is : (v : List ℕ) → 0 < length v → length v ≤ 9 → AllDigits 10 v → count_in v ≡ Some (digits_value 10 v)

@@ -101,7 +101,7 @@ two_ifs x y true true h = (refl, refl)
 two_ifs x y true false h = absurd (none_some h)
 two_ifs x y false q h = absurd (none_some h)
 
-both_true : (p q : Bool) → (p && q) ≡ true → (p ≡ true) × (q ≡ true)
+pub both_true : (p q : Bool) → (p && q) ≡ true → (p ≡ true) × (q ≡ true)
 both_true true q h = (refl, h)
 both_true false q h = absurd (search (rules, h))
 

@@ -9,7 +9,7 @@ use Rattle.fix_groups.specs.Fits.{IsAllOf}
 use Rattle.fix_groups.specs.Flat.{mark}
 use Rattle.fix_groups.specs.Instances.{Instances, Stands, end, pass_plain, pass_group, takes_plain, takes_group, HasGroup, here, behind_plain, behind_group}
 use Rattle.fix_groups.proofs.OpenRuns.{none_some, same_tag, true_false}
-use Rattle.fix_groups.proofs.Apart.{on_right, on_left, both_off, off_if, some_same, level_tag, level_off, found_tag, owned_tag, in_inner, in_rest, owner_inner, owner_rest, differ, inside}
+use Rattle.fix_groups.proofs.Apart.{on_right, on_left, both_off, off_if, off_by, not_found, some_same, level_tag, level_off, found_tag, owned_tag, in_inner, in_rest, owner_inner, owner_rest, differ, inside}
 
 pub false_true : false ≡ true → ⊥
 false_true h = true_false (sym h)
@@ -129,14 +129,10 @@ IsKnown root no_more = Unit {0}
 IsKnown root (plain t r ms) = (group_at t root ≡ None) × IsKnown root ms
 IsKnown root (group c r inner ms) = (group_at c root ≡ Some inner) × IsKnown root ms
 
-none_with : (t : ℕ) (ms : Shapes) (o : Option Shapes) → group_at t ms ≡ o → has_tag t ms ≡ false → o ≡ None
-none_with t ms None is off = refl
-none_with t ms (Some h) is off = absurd (true_false (sym (found_tag t ms h is) ∙ off))
-
 pub known_part : (root g : Shapes) → HasNoTwice g → ((t : ℕ) → has_tag t g ≡ true → group_at t root ≡ group_at t g) → IsKnown root g
 known_part root no_more twice found = tt
 known_part root (plain u r ms) twice found = (
-  found u (on_left (u == u) (has_tag u ms) (same_here u)) ∙ none_with u ms (group_at u ms) refl twice.0,
+  found u (on_left (u == u) (has_tag u ms) (same_here u)) ∙ not_found u ms twice.0,
   known_part root ms twice.1 (λ t on. found t (on_right (t == u) (has_tag t ms) on)),
 )
 known_part root (group d r inner ms) twice found = (
@@ -214,18 +210,14 @@ behind_none no_more t h = refl
 behind_none (plain u r more) t h = let p = both_off (t == u) (at_level t more) h in rw p.0 (behind_none more t p.1)
 behind_none (group c r inner more) t h = let p = both_off (t == c) (at_level t more) h in rw p.0 (behind_none more t p.1)
 
-not_if : (x y : Bool) → (x ≡ true → y ≡ true) → y ≡ false → x ≡ false
-not_if true y h off = absurd (true_false (sym (h refl) ∙ off))
-not_if false y h off = refl
-
 pub not_lead : (g : Shapes) (t : ℕ) → at_level (lead g) g ≡ true → at_level t g ≡ false → (t == lead g) ≡ false
-not_lead g t on off = not_if (t == lead g) (at_level t g) (λ e. subst (λ x. at_level x g ≡ true) (sym (same_tag t (lead g) e)) on) off
+not_lead g t on off = off_by (t == lead g) (at_level t g) (λ e. subst (λ x. at_level x g ≡ true) (sym (same_tag t (lead g) e)) on) off
 
 pub order_skip : (g h ms : Shapes) (a b : List Tagged) → at_level (lead g) g ≡ true → ((u : ℕ) → has_tag u h ≡ true → at_level u g ≡ false) → ((u : ℕ) → at_level u ms ≡ true → at_level u g ≡ true) → IsAllOf h a → in_order g ms (a ++ b) ≡ in_order g ms b
 order_skip g h ms [] b on apart sub all = refl
 order_skip g h ms (f ∷ a) b on apart sub all =
     let off : at_level f.tag g ≡ false = apart f.tag all.0 in
-    rw (not_lead g f.tag on off, behind_none ms f.tag (not_if (at_level f.tag ms) (at_level f.tag g) (sub f.tag) off), off) (order_skip g h ms a b on apart sub all.1)
+    rw (not_lead g f.tag on off, behind_none ms f.tag (off_by (at_level f.tag ms) (at_level f.tag g) (sub f.tag) off), off) (order_skip g h ms a b on apart sub all.1)
 
 -- ---- fields in order are so in front and behind
 

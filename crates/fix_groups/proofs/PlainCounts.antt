@@ -4,27 +4,22 @@ use Rattle.std.specs.Fmt.{decimal}
 use Rattle.std.specs.Str.{all_ascii_digits}
 use Rattle.std.specs.Str.Parse.{digits_value}
 use Rattle.std.proofs.lemmas.Fmt.{decimal-digits_value}
-use Rattle.std.proofs.lemmas.Str.Parse.{IsNumeralModel, numerals_by_value, tells_all_ascii_digits, digits_value_short}
+use Rattle.std.proofs.lemmas.Str.Parse.{digits_value_short}
 use Rattle.fix_base.specs.Fields.{Field}
 use Rattle.fix_base.specs.Says.{fields_text}
 use Rattle.fix_fields.specs.Shapes.{Shapes}
 use Rattle.fix_groups.specs.Looked.{group_at}
 use Rattle.fix_groups.specs.Nodes.{Nodes}
 use Rattle.fix_groups.specs.Fits.{IsTreeOf}
+use Rattle.fix_groups.proofs.CountLemmas.{ascii}
+use Rattle.fix_groups.proofs.Fronts.{both_true}
 use Rattle.fix_groups.specs.Flat.{flat, plainly, plain_value, plain_number, IsPlainNumber, HasPlainCounts}
-
-ascii : IsNumeralModel (λ ds. all_ascii_digits ds ≡ true) (digits_value 10)
-ascii = numerals_by_value (λ ds. all_ascii_digits ds ≡ true) tells_all_ascii_digits
-
-both : (a b : Bool) → (a && b) ≡ true → (a ≡ true) × (b ≡ true)
-both true b h = (refl, h)
-both false b h = absurd (search (rules, h))
 
 number_with : (v : List ℕ) (b : Bool) → (all_ascii_digits v && (nat_lt 0 (length v) && nat_le (length v) 9)) ≡ b → IsPlainNumber v → plain_number (if b then Some (digits_value 10 v) else None) v ≡ v
 number_with v false is plain = refl
 number_with v true is plain =
-    let p = both (all_ascii_digits v) (nat_lt 0 (length v) && nat_le (length v) 9) is in
-    let q = both (nat_lt 0 (length v)) (nat_le (length v) 9) p.1 in
+    let p = both_true (all_ascii_digits v) (nat_lt 0 (length v) && nat_le (length v) 9) is in
+    let q = both_true (nat_lt 0 (length v)) (nat_le (length v) 9) p.1 in
     let some : 0 < length v = search (rules, q.0) in
     let few : length v ≤ 9 = search (rules, q.1) in
     let small : digits_value 10 v < 10 ^ 9 = digits_value_short ascii v 9 p.0 few in

@@ -64,11 +64,8 @@ no_owner root before fs f own = ap (λ o. or_else (stray_at root before o) (stra
 no_count : (root : Shapes) (fs : List Tagged) (f : Tagged) → group_at f.tag root ≡ None → count_misfit root (f ∷ fs) ≡ count_misfit root fs
 no_count root fs f at = ap (λ o. or_else (judged_at f fs o) (count_misfit root fs)) at
 
-same_number : (k : ℕ) → (k == k) ≡ true
-same_number k = search rules
-
 judged_right : (c k : ℕ) (g : Shapes) (run : List Tagged) → starts g run ≡ k → begins_well g run ≡ true → in_order g g run ≡ true → judged c (Some k) g run ≡ None
-judged_right c k g run count begins ordered = rw (count, same_number k, begins, ordered) refl
+judged_right c k g run count begins ordered = rw (count, same_here k, begins, ordered) refl
 
 right_count : (root g : Shapes) (c k : ℕ) (run fs : List Tagged) → group_at c root ≡ Some g → run_of g fs ≡ run → starts g run ≡ k → begins_well g run ≡ true → in_order g g run ≡ true → count_misfit root (mark c (Some k) ∷ fs) ≡ count_misfit root fs
 right_count root g c k run fs at is count begins ordered =

@@ -13,9 +13,9 @@ use Rattle.fix_groups.specs.Instances.{Instances, none, one, Stands, end, IsWhol
 use Rattle.fix_groups.specs.declared.misfit.Misfit.TheVariants.{Order}
 use Rattle.fix_groups.proofs.OpenRuns.{none_some, same_tag, true_false, within-more}
 use Rattle.fix_groups.proofs.Apart.{IsApart, apart, on_right, or_nones, some_same, found_tag, inside}
-use Rattle.fix_groups.proofs.Fronts.{IsOut, AreOut, fault_front, fault_back, all_front, all_back, run_all, run_ends, out_within, out_behind, out_next, IsRight}
+use Rattle.fix_groups.proofs.Fronts.{IsOut, AreOut, fault_front, fault_back, all_front, all_back, run_all, run_ends, out_within, out_behind, out_next, IsRight, both_true}
 use Rattle.fix_groups.proofs.Building.{right_of}
-use Rattle.fix_groups.proofs.Members.{false_true, deep_owned, owner_has, top_group, IsPart, root_part, group_part, IsKnown, known_part, known_next, level_next, member_next, stands_plain, stands_group, order_skip, order_front, order_back, starts_none, starts_back}
+use Rattle.fix_groups.proofs.Members.{false_true, same_here, deep_owned, owner_has, top_group, IsPart, root_part, group_part, IsKnown, known_part, known_next, level_next, member_next, stands_plain, stands_group, order_skip, order_front, order_back, starts_none, starts_back}
 
 -- ---- strays in front and behind
 
@@ -48,15 +48,11 @@ or_cases : (a b : Bool) → (a || b) ≡ true → (a ≡ true) ⊎ (b ≡ true)
 or_cases true b h = inl refl
 or_cases false b h = inr h
 
-and_both : (a b : Bool) → (a && b) ≡ true → (a ≡ true) × (b ≡ true)
-and_both true b h = (refl, h)
-and_both false b h = absurd (false_true h)
-
 -- a run goes on behind a field: it began there, or was open and has the tag
 pub within_cases : (root h : Shapes) (before : List Tagged) (f : Tagged) (c : ℕ) → group_at c root ≡ Some h → is_within root c false (before ++ f ∷ []) ≡ true → (f.tag ≡ c) ⊎ ((is_within root c false before ≡ true) × (has_tag f.tag h ≡ true))
 within_cases root h before f c at on = elim (or_cases (f.tag == c) (is_within root c false before && is_in root c f.tag) (sym (within-more root c false before f) ∙ on)) [
   | inl e ↦ inl (same_tag f.tag c e)
-  | inr e ↦ inr (let p = and_both _ _ e in (p.0, sym (in_group root h c f.tag at) ∙ p.1))
+  | inr e ↦ inr (let p = both_true _ _ e in (p.0, sym (in_group root h c f.tag at) ∙ p.1))
 ]
 
 pub within-append : (root : Shapes) (c : ℕ) (inside_ : Bool) (a b : List Tagged) → is_within root c inside_ (a ++ b) ≡ is_within root c (is_within root c inside_ a) b
@@ -70,7 +66,7 @@ within_all root h c inside_ (f ∷ run) all on = elim (within_all root h c (f.ta
   | inr e ↦ inr e
   | inl e ↦ elim (or_cases (f.tag == c) (inside_ && is_in root c f.tag) e) [
     | inl s ↦ inr (subst (λ x. has_tag x h ≡ true) (same_tag f.tag c s) all.0)
-    | inr s ↦ inl (and_both inside_ (is_in root c f.tag) s).0
+    | inr s ↦ inl (both_true inside_ (is_in root c f.tag) s).0
   ]
 ]
 
@@ -244,9 +240,7 @@ less : (f : Tagged) (fs : List Tagged) (n : ℕ) → length (f ∷ fs) ≤ suc n
 less f fs n h = omega (arith, h)
 
 lead_level : (u : ℕ) (r : Bool) (ms : Shapes) → at_level u (plain u r ms) ≡ true
-lead_level u r ms = ap (λ b. b || at_level u ms) (same_one u) where
-  same_one : (u : ℕ) → (u == u) ≡ true
-  same_one u = search rules
+lead_level u r ms = ap (λ b. b || at_level u ms) (same_here u)
 
 one_more : (g : Shapes) (u : ℕ) (r : Bool) (ms : Shapes) (f : Tagged) (fs stretch more : List Tagged) → f.tag ≡ u → (f.tag == u) ≡ true → stretch ++ more ≡ fs → starts (plain u r ms) fs ≡ starts (plain u r ms) more → Stands ms stretch → Instances (plain u r ms) more (starts (plain u r ms) more)
     → Instances (plain u r ms) (f ∷ fs) (starts (plain u r ms) (f ∷ fs))

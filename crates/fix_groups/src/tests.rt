@@ -172,3 +172,43 @@ fn a_member_outside_every_run_is_out_of_order(rt: HostRuntime) {
     );
     assert!(rt; fails(rt.alloc(), b"802=1\x01523=a\x01", order_wrong(453)));
 }
+
+// Eight groups, each inside the one before.
+fn nested(alloc: Global) -> Result<Layout, AllocError> {
+    let mut inner = Vec::new(alloc);
+    push_plain(&mut inner, 908)?;
+    let mut layout = Layout { members: inner };
+    for depth in 0..8u32 {
+        let mut members = Vec::new(alloc);
+        push_plain(&mut members, 907 - depth)?;
+        push_group(&mut members, 808 - depth, layout)?;
+        layout = Layout { members };
+    }
+    Ok(layout)
+}
+
+fn nested_gives(alloc: Global, text: &[u8]) -> bool {
+    let Ok(layout) = nested(alloc) else {
+        return false;
+    };
+    if !has_no_twice(&layout) {
+        return false;
+    }
+    let Ok(list) = fields(text) else {
+        return false;
+    };
+    match split(alloc, list, &layout) {
+        Ok(tree) => match flatten(alloc, &tree) {
+            Ok(out) => out.as_slice() == text,
+            Err(_) => false,
+        },
+        Err(_) => false,
+    }
+}
+
+#[test]
+fn groups_nest_eight_deep(rt: HostRuntime) {
+    let text =
+        b"900=a\x01801=1\x01901=b\x01802=1\x01902=c\x01803=1\x01903=d\x01804=1\x01904=e\x01805=1\x01905=f\x01806=1\x01906=g\x01807=1\x01907=h\x01808=2\x01908=i\x01908=j\x01";
+    assert!(rt; nested_gives(rt.alloc(), text));
+}

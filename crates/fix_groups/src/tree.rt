@@ -4,12 +4,10 @@ ghost use Rattle.fix_base.specs.Payload.{field};
 ghost use Rattle.fix_groups.specs.Flat.{flat};
 
 use fix_base::{Bytes, OutOfMemory, Tag};
+use fix_fields::push_field;
 use itoa::Buffer;
 use std::alloc::{AllocError, Global};
 use std::marker::Model;
-
-/// The byte behind each field.
-const SOH: u8 = 1;
 
 /// The fields of a message, or of one instance of a group, with the groups that stand among them.
 /// Contracts see it as `Nodes`.
@@ -48,24 +46,12 @@ impl Model for Tree {
     ghost size_decreases = { λ a h. tree_falls a.nodes.items };
 }
 
-// Writes a field behind what is there.
-fn push_field(out: &mut Vec<u8>, tag: Tag, value: &[u8]) -> Result<(), AllocError>
-    ensures { OnOk result (out.new.items ≡ out.old.items ++ field_text (field tag value.now)) }
-{
-    let mut digits = Buffer::new();
-    out.extend_from_slice(digits.format(tag.get()).as_bytes())?;
-    out.push(b'=')?;
-    out.extend_from_slice(value)?;
-    out.push(SOH)?;
-    Ok(())
-}
-
 // Writes a group's count behind what is there.
 fn push_count(out: &mut Vec<u8>, tag: Tag, count: usize) -> Result<(), AllocError>
     ensures { OnOk result (out.new.items ≡ out.old.items ++ field_text (field tag (decimal count))) }
 {
     let mut digits = Buffer::new();
-    push_field(out, tag, digits.format(count).as_bytes())
+    push_field(out, tag.get(), digits.format(count).as_bytes())
 }
 
 fn flatten_into(tree: &Tree, out: &mut Vec<u8>) -> Result<(), AllocError>
@@ -73,7 +59,7 @@ fn flatten_into(tree: &Tree, out: &mut Vec<u8>) -> Result<(), AllocError>
 {
     for node in &tree.nodes {
         match node {
-            Node::Plain { tag, value } => push_field(out, *tag, value.as_slice())?,
+            Node::Plain { tag, value } => push_field(out, tag.get(), value.as_slice())?,
             Node::Group { count, items } => {
                 push_count(out, *count, items.len())?;
                 for item in items {

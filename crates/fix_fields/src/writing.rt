@@ -1,0 +1,19 @@
+ghost use Rattle.std.specs.Prelude.{◌≡◌, ◌++◌, OnErr, OnOk};
+ghost use Rattle.fix_base.specs.Payload.{field};
+ghost use Rattle.fix_base.specs.Says.{field_text};
+
+use crate::scanning::SOH;
+use itoa::Buffer;
+use std::alloc::AllocError;
+
+/// Writes a field behind what is there: the tag, `=`, the value and SOH.
+pub fn push_field(out: &mut Vec<u8>, tag: u32, value: &[u8]) -> Result<(), AllocError>
+    ensures { OnOk result (out.new.items ≡ out.old.items ++ field_text (field tag value.now)) }
+{
+    let mut digits = Buffer::new();
+    out.extend_from_slice(digits.format(tag).as_bytes())?;
+    out.push(b'=')?;
+    out.extend_from_slice(value)?;
+    out.push(SOH)?;
+    Ok(())
+}
