@@ -1,12 +1,12 @@
 -- Counts without leading zeros stay as they are.
-use Rattle.std.proofs.Common.{◌≡◌, ℕ, ◌^◌, ◌<◌, ◌≤◌, Bool, true, false, ◌&&◌, nat_lt, nat_le, if◌then◌else◌, List, [], ◌∷◌, length, Option, Some, None, refl, ap, sym, ◌∙◌, rules, arith}
+use Rattle.std.proofs.Common.{◌≡◌, ℕ, ◌^◌, ◌<◌, ◌≤◌, Bool, true, false, ◌&&◌, nat_lt, nat_le, if◌then◌else◌, List, [], ◌∷◌, ◌++◌, length, Option, Some, None, refl, ap, sym, ◌∙◌, rules, arith}
 use Rattle.std.specs.Fmt.{decimal}
 use Rattle.std.specs.Str.{all_ascii_digits}
 use Rattle.std.specs.Str.Parse.{digits_value}
 use Rattle.std.proofs.lemmas.Fmt.{decimal-digits_value}
 use Rattle.std.proofs.lemmas.Str.Parse.{digits_value_short}
-use Rattle.fix_base.specs.Fields.{Field}
-use Rattle.fix_base.specs.Says.{fields_text}
+use Rattle.fix_base.specs.Fields.{Field, FieldsAfter, data_after}
+use Rattle.fix_base.specs.Says.{field_text, fields_text}
 use Rattle.fix_fields.specs.Shapes.{Shapes}
 use Rattle.fix_groups.specs.Looked.{group_at}
 use Rattle.fix_groups.specs.Nodes.{Nodes}
@@ -33,5 +33,10 @@ pub plainly_same : (root : Shapes) (fs : List Field) → HasPlainCounts root fs 
 plainly_same root [] plain = refl
 plainly_same root (f ∷ fs) plain = ap (λ v. record { tag = f.tag; value = v } ∷ plainly root fs) (value_with f.value (group_at f.tag root) plain.0) ∙ ap (λ l. f ∷ l) (plainly_same root fs plain.1)
 
-pub plain_text : (root : Shapes) (fs : List Field) (tree : Nodes) → IsTreeOf root fs tree → HasPlainCounts root fs → fields_text (flat tree) ≡ fields_text fs
-plain_text root fs tree t plain = ap fields_text (t.spelled ∙ plainly_same root fs plain)
+-- the bytes are what the fields spell
+fields_spell : (due : Option (ℕ × ℕ)) (bytes : List ℕ) (fs : List Field) → FieldsAfter due bytes fs → bytes ≡ fields_text fs
+fields_spell due bytes [] are = are
+fields_spell due bytes (f ∷ fs) are = are.3 ∙ ap (λ (t : List ℕ). t ++ are.1) are.2.spelled ∙ ap (λ (r : List ℕ). field_text f ++ r) (fields_spell (data_after f) are.1 fs are.4)
+
+pub plain_text : (root : Shapes) (bytes : List ℕ) (fs : List Field) (tree : Nodes) → FieldsAfter None bytes fs → IsTreeOf root fs tree → HasPlainCounts root fs → fields_text (flat tree) ≡ bytes
+plain_text root bytes fs tree are t plain = ap fields_text (t.spelled ∙ plainly_same root fs plain) ∙ sym (fields_spell None bytes fs are)

@@ -1,5 +1,5 @@
-ghost use Rattle.std.specs.Prelude.{◌≡◌, ◌↔◌, List, None};
-ghost use Rattle.fix_base.specs.Fields.{Field};
+ghost use Rattle.std.specs.Prelude.{◌≡◌, ◌↔◌, ℕ, List, None};
+ghost use Rattle.fix_base.specs.Fields.{Field, FieldsAfter};
 ghost use Rattle.fix_base.specs.Says.{fields_text};
 ghost use Rattle.fix_fields.specs.Shapes.{Shapes};
 ghost use Rattle.fix_fields.specs.NoTwice.{HasNoTwice};
@@ -22,7 +22,7 @@ pub fn a_split_is_given_back()
     ensures { (root : Shapes) (fs : List Field) (tree : Nodes) → IsTreeOf root fs tree → fields_text (flat tree) ≡ fields_text (plainly root fs) }
 {}
 
-/// Fields whose counts have no leading zeros are given back as they are.
+/// Bytes whose fields' counts have no leading zeros are given back as they are.
 pub fn plain_counts_are_given_back()
-    ensures { (root : Shapes) (fs : List Field) (tree : Nodes) → IsTreeOf root fs tree → HasPlainCounts root fs → fields_text (flat tree) ≡ fields_text fs }
+    ensures { (root : Shapes) (bytes : List ℕ) (fs : List Field) (tree : Nodes) → FieldsAfter None bytes fs → IsTreeOf root fs tree → HasPlainCounts root fs → fields_text (flat tree) ≡ bytes }
 {}
