@@ -4,7 +4,6 @@ use Rattle.fix_fields.specs.Shapes.{Shapes, no_more, plain, group}
 use Rattle.fix_fields.specs.NoTwice.{has_tag, IsLed, HasNoTwice}
 use Rattle.fix_groups.specs.Looked.{or_else, group_at, at_level, owner}
 use Rattle.fix_groups.specs.Runs.{lead}
-use Rattle.fix_groups.specs.Instances.{HasGroup, here, behind_plain, behind_group}
 use Rattle.fix_groups.proofs.OpenRuns.{none_some, same_tag, true_false}
 
 -- ---- truth values

@@ -1,11 +1,11 @@
 -- The steps of building a tree.
-use Rattle.std.proofs.Common.{◌≡◌, ℕ, ◌+◌, ◌*◌, ◌<◌, ◌≤◌, ◌==◌, Bool, true, false, length, ◌++◌, List, [], ◌∷◌, take, drop, get_or, append_assoc, append-nil, arith, refl, ap, sym, subst, ◌∙◌, Option, Some, None, if◌then◌else◌, Vec, Global}
+use Rattle.std.proofs.Common.{◌≡◌, ℕ, ◌+◌, ◌*◌, ◌<◌, ◌≤◌, ◌==◌, Bool, true, false, length, ◌++◌, List, [], ◌∷◌, take, drop, get_or, append_assoc, append-nil, arith, refl, ap, sym, subst, ◌∙◌, Some, None, if◌then◌else◌, Vec, Global}
 use Rattle.std.specs.Fmt.{decimal}
 use Rattle.std.proofs.lemmas.List.{take-append-drop}
 use Rattle.std.proofs.lemmas.Grind.{common_steps}
 use Rattle.fix_base.specs.Fields.{Field}
 use Rattle.fix_fields.specs.Shapes.{Shapes}
-use Rattle.fix_fields.specs.NoTwice.{has_tag, HasNoTwice}
+use Rattle.fix_fields.specs.NoTwice.{HasNoTwice}
 use Rattle.fix_groups.specs.Tagged.{Tagged, tagged, all_tagged, count_in}
 use Rattle.fix_groups.specs.Looked.{group_at}
 use Rattle.fix_groups.specs.Runs.{run_of, starts, begins_well, lead}

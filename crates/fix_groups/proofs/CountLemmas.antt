@@ -1,5 +1,5 @@
 -- Reading the number of a count.
-use Rattle.std.proofs.Common.{◌≡◌, ℕ, ◌+◌, ◌*◌, ◌^◌, ◌<◌, ◌≤◌, true, false, nat_lt, nat_le, ◌&&◌, if◌then◌else◌, List, length, get_or, take, refl, ap, arith, Some, None}
+use Rattle.std.proofs.Common.{◌≡◌, ℕ, ◌^◌, ◌<◌, ◌≤◌, true, nat_lt, nat_le, ◌&&◌, if◌then◌else◌, List, length, get_or, take, ap, arith, Some, None}
 use Rattle.std.specs.Str.{all_ascii_digits}
 use Rattle.std.specs.Str.Parse.{digits_value, AllDigits}
 use Rattle.std.proofs.lemmas.Bool.{and_from, and_left, lt-ltb, le-leb, false_from_ne_true}

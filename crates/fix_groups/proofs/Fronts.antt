@@ -1,15 +1,14 @@
 -- Runs and what stands behind them: where a front of fields has no fault at its counts.
-use Rattle.std.proofs.Common.{◌≡◌, ℕ, ◌==◌, Bool, true, false, length, ◌++◌, List, [], ◌∷◌, drop, rules, refl, ap, sym, subst, ◌∙◌, Option, Some, None, if◌then◌else◌, ◌&&◌}
+use Rattle.std.proofs.Common.{◌≡◌, ℕ, ◌==◌, Bool, true, false, ◌++◌, List, [], ◌∷◌, drop, rules, refl, ap, sym, subst, ◌∙◌, Option, Some, None, if◌then◌else◌, ◌&&◌}
 use Rattle.fix_fields.specs.Shapes.{Shapes}
 use Rattle.fix_fields.specs.NoTwice.{has_tag}
 use Rattle.fix_groups.specs.Tagged.{Tagged}
-use Rattle.fix_groups.specs.Looked.{or_else, group_at}
+use Rattle.fix_groups.specs.Looked.{group_at}
 use Rattle.fix_groups.specs.Runs.{run_of, starts, begins_well, in_order, lead}
 use Rattle.fix_groups.specs.Misfits.{judged, judged_at, count_misfit}
 use Rattle.fix_groups.specs.Fits.{IsAllOf}
-use Rattle.fix_groups.specs.declared.misfit.Misfit.{Misfit}
 use Rattle.fix_groups.specs.declared.misfit.Misfit.TheVariants.{Count, Order}
-use Rattle.fix_groups.proofs.OpenRuns.{none_some, true_false}
+use Rattle.fix_groups.proofs.OpenRuns.{none_some}
 use Rattle.fix_groups.proofs.Apart.{IsApart, or_nones, off_by}
 
 -- the first tag, if there is one, is not of the group

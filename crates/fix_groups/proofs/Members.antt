@@ -1,15 +1,15 @@
 -- Members of a group: who owns them, and how they come in order.
 use Rattle.std.proofs.Common.{◌≡◌, ℕ, ◌+◌, Bool, true, false, ◌||◌, ◌==◌, if◌then◌else◌, List, [], ◌∷◌, ◌++◌, Option, Some, None, refl, sym, ap, subst, ◌∙◌, rules, arith}
 use Rattle.fix_fields.specs.Shapes.{Shapes, no_more, plain, group}
-use Rattle.fix_fields.specs.NoTwice.{has_tag, IsLed, HasNoTwice}
+use Rattle.fix_fields.specs.NoTwice.{has_tag, HasNoTwice}
 use Rattle.fix_groups.specs.Tagged.{Tagged}
 use Rattle.fix_groups.specs.Looked.{or_else, group_at, at_level, owner}
 use Rattle.fix_groups.specs.Runs.{lead, behind_lead, starts, behind, left_after, if_some, in_order}
 use Rattle.fix_groups.specs.Fits.{IsAllOf}
 use Rattle.fix_groups.specs.Flat.{mark}
-use Rattle.fix_groups.specs.Instances.{Instances, Stands, end, pass_plain, pass_group, takes_plain, takes_group, HasGroup, here, behind_plain, behind_group}
+use Rattle.fix_groups.specs.Instances.{Instances, Stands, pass_plain, pass_group, takes_plain, takes_group, HasGroup, here, behind_plain, behind_group}
 use Rattle.fix_groups.proofs.OpenRuns.{none_some, same_tag, true_false}
-use Rattle.fix_groups.proofs.Apart.{on_right, on_left, both_off, off_if, off_by, not_found, some_same, level_tag, level_off, found_tag, owned_tag, in_inner, in_rest, owner_inner, owner_rest, differ, inside}
+use Rattle.fix_groups.proofs.Apart.{on_right, on_left, both_off, off_by, not_found, some_same, level_tag, found_tag, owned_tag, in_inner, in_rest, owner_inner, owner_rest, inside}
 
 pub false_true : false ≡ true → ⊥
 false_true h = true_false (sym h)

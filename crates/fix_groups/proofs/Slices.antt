@@ -1,12 +1,12 @@
 -- Slices of fields, and the tags and numbers that they say.
-use Rattle.std.proofs.Common.{◌≡◌, ℕ, ◌+◌, ◌<◌, ◌≤◌, List, [], ◌∷◌, ◌++◌, length, take, drop, get_or, append_assoc, append-nil, true, false, if◌then◌else◌, refl, ap, sym, ◌∙◌, arith}
+use Rattle.std.proofs.Common.{◌≡◌, ℕ, ◌+◌, ◌<◌, List, [], ◌∷◌, ◌++◌, length, take, drop, get_or, append_assoc, append-nil, true, false, if◌then◌else◌, refl, ap, sym, ◌∙◌, arith}
 use Rattle.std.proofs.Math.Seq.{take-add}
 use Rattle.std.proofs.lemmas.Grind.{common_steps}
 use Rattle.fix_base.specs.Fields.{Field}
 use Rattle.fix_fields.specs.Shapes.{Shapes}
 use Rattle.fix_fields.specs.NoTwice.{has_tag}
 use Rattle.fix_groups.specs.Runs.{run_of}
-use Rattle.fix_groups.specs.Tagged.{Tagged, tagged, all_tagged}
+use Rattle.fix_groups.specs.Tagged.{tagged, all_tagged}
 
 pub tagged-append : (a b : List Field) → all_tagged (a ++ b) ≡ all_tagged a ++ all_tagged b
 tagged-append [] b = refl

@@ -1,5 +1,5 @@
 -- What is answered of fields that are split.
-use Rattle.std.proofs.Common.{◌≡◌, List, Option, Some, None, Err, sym, ap, subst, ◌∙◌}
+use Rattle.std.proofs.Common.{◌≡◌, List, Some, None, Err, sym, ap, subst, ◌∙◌}
 use Rattle.fix_base.specs.Fields.{Field}
 use Rattle.fix_base.specs.Says.{fields_text}
 use Rattle.fix_fields.specs.Shapes.{Shapes}

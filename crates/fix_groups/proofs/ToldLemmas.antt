@@ -1,5 +1,5 @@
 -- What is tried of a layout is that no tag stands twice.
-use Rattle.std.proofs.Common.{◌≡◌, ℕ, Bool, true, false, ◌||◌, ◌==◌, if◌then◌else◌, refl, sym, ap, subst, ◌∙◌, rules}
+use Rattle.std.proofs.Common.{◌≡◌, ℕ, Bool, true, false, ◌||◌, ◌==◌, if◌then◌else◌, refl, ap, ◌∙◌}
 use Rattle.fix_fields.specs.Shapes.{Shapes, no_more, plain, group}
 use Rattle.fix_fields.specs.NoTwice.{has_tag, IsLed, HasNoTwice}
 use Rattle.fix_groups.specs.Told.{meets, is_led, told}

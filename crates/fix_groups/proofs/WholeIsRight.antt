@@ -1,22 +1,20 @@
 -- Where each group is of its instances, and no member stands outside, nothing is wrong.
-use Rattle.std.proofs.Common.{◌≡◌, ℕ, ◌+◌, Bool, true, false, ◌||◌, ◌&&◌, ◌==◌, if◌then◌else◌, List, [], ◌∷◌, ◌++◌, Option, Some, None, refl, sym, ap, subst, ◌∙◌, rules, arith, append_assoc, append-nil}
-use Rattle.std.proofs.lemmas.Grind.{common_steps}
-use Rattle.fix_fields.specs.Shapes.{Shapes, no_more, plain, group}
-use Rattle.fix_fields.specs.NoTwice.{has_tag, IsLed, HasNoTwice}
+use Rattle.std.proofs.Common.{◌≡◌, ℕ, ◌+◌, Bool, true, false, ◌||◌, ◌&&◌, ◌==◌, if◌then◌else◌, List, [], ◌∷◌, ◌++◌, Option, Some, None, refl, sym, ap, subst, ◌∙◌, arith, append_assoc, append-nil}
+use Rattle.fix_fields.specs.Shapes.{Shapes, plain, group}
+use Rattle.fix_fields.specs.NoTwice.{has_tag, HasNoTwice}
 use Rattle.fix_groups.specs.Tagged.{Tagged}
 use Rattle.fix_groups.specs.Looked.{or_else, some_has, group_at, at_level, owner, is_in}
-use Rattle.fix_groups.specs.Runs.{run_of, lead, behind_lead, behind, left_after, if_some, starts, begins_well, in_order}
+use Rattle.fix_groups.specs.Runs.{run_of, lead, behind_lead, behind, if_some, starts, begins_well, in_order}
 use Rattle.fix_groups.specs.Misfits.{judged, judged_at, count_misfit, is_within, stray_at, stray, first_misfit}
 use Rattle.fix_groups.specs.Fits.{IsAllOf}
 use Rattle.fix_groups.specs.Flat.{mark}
 use Rattle.fix_groups.specs.Instances.{Instances, none, one, Stands, end, pass_plain, pass_group, takes_plain, takes_group, HasGroup, here, behind_plain, behind_group, IsWhole, over, other, grouped}
-use Rattle.fix_groups.specs.declared.misfit.Misfit.{Misfit}
-use Rattle.fix_groups.specs.declared.misfit.Misfit.TheVariants.{Count, Order}
-use Rattle.fix_groups.proofs.OpenRuns.{none_some, same_tag, true_false}
-use Rattle.fix_groups.proofs.Apart.{IsApart, apart, on_right, on_left, off_if, off_by, differ, off_inside, level_tag, level_off, not_owned, in_inner, in_rest, owner_rest, inside}
+use Rattle.fix_groups.specs.declared.misfit.Misfit.TheVariants.{Order}
+use Rattle.fix_groups.proofs.OpenRuns.{none_some, true_false}
+use Rattle.fix_groups.proofs.Apart.{apart, on_right, on_left, off_if, differ, off_inside, level_tag, level_off, not_owned, in_rest, owner_rest, inside}
 use Rattle.fix_groups.proofs.Fronts.{IsOut, AreOut, run_front, out_behind, out_next}
 use Rattle.fix_groups.proofs.Building.{starts-append}
-use Rattle.fix_groups.proofs.Members.{false_true, same_here, deep_owned, IsPart, group_part, IsKnown, known_part, order_skip}
+use Rattle.fix_groups.proofs.Members.{same_here, deep_owned, group_part, IsKnown, known_part, order_skip}
 use Rattle.fix_groups.proofs.Wholes.{within-append}
 
 -- ---- lists whose tags are all of a group

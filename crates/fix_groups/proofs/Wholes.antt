@@ -1,21 +1,21 @@
 -- Where nothing is wrong, every group is of its instances, and no member stands outside.
-use Rattle.std.proofs.Common.{◌≡◌, ℕ, zero, suc, ◌+◌, ◌≤◌, Bool, true, false, ◌||◌, ◌&&◌, ◌==◌, if◌then◌else◌, length, List, [], ◌∷◌, ◌++◌, drop, Option, Some, None, refl, sym, ap, subst, ◌∙◌, rules, arith, append_assoc, ◌⊎◌, inl, inr}
+use Rattle.std.proofs.Common.{◌≡◌, ℕ, zero, suc, ◌+◌, ◌≤◌, Bool, true, false, ◌||◌, ◌&&◌, ◌==◌, if◌then◌else◌, length, List, [], ◌∷◌, ◌++◌, drop, Option, Some, None, refl, sym, ap, subst, ◌∙◌, arith, append_assoc, ◌⊎◌, inl, inr}
 use Rattle.std.proofs.lemmas.Grind.{common_steps}
 use Rattle.fix_fields.specs.Shapes.{Shapes, no_more, plain, group}
 use Rattle.fix_fields.specs.NoTwice.{has_tag, IsLed, HasNoTwice}
 use Rattle.fix_groups.specs.Tagged.{Tagged}
-use Rattle.fix_groups.specs.Looked.{or_else, some_has, group_at, at_level, owner, is_in}
-use Rattle.fix_groups.specs.Runs.{run_of, lead, behind_lead, behind, starts, begins_well, in_order}
+use Rattle.fix_groups.specs.Looked.{some_has, group_at, at_level, owner, is_in}
+use Rattle.fix_groups.specs.Runs.{run_of, lead, behind, starts, begins_well, in_order}
 use Rattle.fix_groups.specs.Misfits.{count_misfit, is_within, stray_at, stray, first_misfit}
 use Rattle.fix_groups.specs.Fits.{IsAllOf}
 use Rattle.fix_groups.specs.Flat.{mark}
 use Rattle.fix_groups.specs.Instances.{Instances, none, one, Stands, end, IsWhole, over, other, grouped}
 use Rattle.fix_groups.specs.declared.misfit.Misfit.TheVariants.{Order}
 use Rattle.fix_groups.proofs.OpenRuns.{none_some, same_tag, true_false, within-more}
-use Rattle.fix_groups.proofs.Apart.{IsApart, apart, on_right, or_nones, some_same, found_tag, inside}
-use Rattle.fix_groups.proofs.Fronts.{IsOut, AreOut, fault_front, fault_back, all_front, all_back, run_all, run_ends, out_within, out_behind, out_next, IsRight, both_true}
+use Rattle.fix_groups.proofs.Apart.{apart, on_right, or_nones, some_same, found_tag, inside}
+use Rattle.fix_groups.proofs.Fronts.{IsOut, AreOut, fault_front, fault_back, all_front, all_back, run_all, run_ends, out_within, out_behind, out_next, both_true}
 use Rattle.fix_groups.proofs.Building.{right_of}
-use Rattle.fix_groups.proofs.Members.{false_true, same_here, deep_owned, owner_has, top_group, IsPart, root_part, group_part, IsKnown, known_part, known_next, level_next, member_next, stands_plain, stands_group, order_skip, order_front, order_back, starts_none, starts_back}
+use Rattle.fix_groups.proofs.Members.{false_true, same_here, deep_owned, owner_has, top_group, IsPart, group_part, IsKnown, known_part, known_next, level_next, member_next, stands_plain, stands_group, order_skip, order_front, order_back, starts_none, starts_back}
 
 -- ---- strays in front and behind
 

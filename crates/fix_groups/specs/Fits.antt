@@ -1,5 +1,5 @@
 -- What makes a tree that of its fields.
-use Rattle.std.specs.Prelude.{ℕ, ◌≡◌, true, List, [], ◌∷◌, Some, None}
+use Rattle.std.specs.Prelude.{◌≡◌, true, List, [], ◌∷◌, Some, None}
 use Rattle.fix_base.specs.Fields.{Field}
 use Rattle.fix_fields.specs.Shapes.{Shapes}
 use Rattle.fix_fields.specs.NoTwice.{has_tag}

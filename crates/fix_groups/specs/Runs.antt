@@ -1,5 +1,5 @@
 -- The run of a group, and what is asked of it.
-use Rattle.std.specs.Prelude.{ℕ, ◌+◌, Bool, true, false, ◌||◌, ◌==◌, if◌then◌else◌, List, [], ◌∷◌, Option, Some, None}
+use Rattle.std.specs.Prelude.{ℕ, ◌+◌, Bool, true, false, ◌==◌, if◌then◌else◌, List, [], ◌∷◌, Option, Some, None}
 use Rattle.fix_fields.specs.Shapes.{Shapes, no_more, plain, group}
 use Rattle.fix_fields.specs.NoTwice.{has_tag}
 use Rattle.fix_groups.specs.Looked.{or_else, at_level}

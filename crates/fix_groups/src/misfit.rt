@@ -1,5 +1,4 @@
-use fix_base::{OutOfMemory, Tag};
-use std::alloc::AllocError;
+use fix_base::Tag;
 
 /// What is wrong with the groups of a list of fields. Both name the tag of the group's count.
 #[derive(Clone, Copy, Debug, PartialEq, Eq)]
@@ -20,16 +19,4 @@ pub enum GroupFault {
     OrderWrong(Tag),
     /// Memory was refused.
     OutOfMemory,
-}
-
-impl From<OutOfMemory> for GroupFault {
-    fn from(_: OutOfMemory) -> Self {
-        GroupFault::OutOfMemory
-    }
-}
-
-impl From<AllocError> for GroupFault {
-    fn from(_: AllocError) -> Self {
-        GroupFault::OutOfMemory
-    }
 }

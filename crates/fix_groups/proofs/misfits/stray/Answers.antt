@@ -1,4 +1,4 @@
-use Rattle.std.proofs.Common.{arith, sym, ap, ◌∙◌, refl}
+use Rattle.std.proofs.Common.{sym, ◌∙◌}
 use Rattle.fix_groups.proofs.OpenRuns.{stray_stop, stray_step}
 use Rattle.fix_groups.proofs.misfits.stray.Goals as goal
 
