@@ -12,3 +12,4 @@ pub mod Drafted
 pub mod Shapes
 pub mod Members
 pub mod Falls
+pub mod NoTwice

@@ -1,0 +1,13 @@
+pub mod Tagged
+pub mod Looked
+pub mod Told
+pub mod Runs
+pub mod Misfits
+pub mod Open
+pub mod Nodes
+pub mod NodesOf
+pub mod TreeFalls
+pub mod Flat
+pub mod Fits
+pub mod Instances
+pub mod Split

@@ -1,0 +1,144 @@
+ghost use Rattle.std.specs.Prelude.{◌≡◌, [], IfOk, OnOk};
+ghost use Rattle.fix_groups.specs.Tagged.{all_tagged, tagged};
+ghost use Rattle.fix_groups.specs.Looked.{group_at, owner};
+ghost use Rattle.fix_groups.specs.Misfits.{judged, judged_at, count_misfit, stray, first_misfit};
+ghost use Rattle.fix_groups.specs.Open.{kept, contains, passed, left_out};
+
+use crate::lent::Lent;
+use crate::look::{group_at, is_in, owner};
+use crate::misfit::Misfit;
+use crate::number::count_number;
+use crate::runs::{begins_well, in_order, run_length, starts};
+use fix_base::{OutOfMemory, Tag};
+use fix_fields::Layout;
+use std::alloc::{AllocError, Global};
+
+fn judge(count: Tag, number: Option<u64>, group: &Layout, run: &[Lent<'_>]) -> Option<Misfit>
+    ensures { result ≡ judged count number group.now (all_tagged run.now) }
+{
+    let Some(number) = number else {
+        return Some(Misfit::Count(count));
+    };
+    if starts(group, run) != number {
+        return Some(Misfit::Count(count));
+    }
+    if begins_well(group, run) && in_order(group, run) {
+        None
+    } else {
+        Some(Misfit::Order(count))
+    }
+}
+
+/// The fault of the group whose count the field is, with the fields behind it.
+fn judge_at(field: &Lent<'_>, behind: &[Lent<'_>], root: &Layout) -> Option<Misfit>
+    ensures { result ≡ judged_at (tagged field.now) (all_tagged behind.now) (group_at field.now.tag root.now) }
+{
+    match group_at(root, field.tag()) {
+        Some(group) => {
+            let n = run_length(behind, group);
+            judge(
+                field.tag(),
+                count_number(field.value()),
+                group,
+                &behind[..n],
+            )
+        }
+        None => None,
+    }
+}
+
+/// The first fault of a group at its count.
+fn count_misfit(fields: &[Lent<'_>], root: &Layout) -> Option<Misfit>
+    ensures { result ≡ count_misfit root.now (all_tagged fields.now) }
+{
+    for i in 0..fields.len() {
+        let fault = judge_at(&fields[i], &fields[i + 1..], root);
+        if fault.is_some() {
+            return fault;
+        }
+    }
+    None
+}
+
+fn contains(counts: &[Tag], count: Tag) -> bool
+    ensures { result ≡ contains count counts.now }
+{
+    for tag in counts {
+        if count == *tag {
+            return true;
+        }
+    }
+    false
+}
+
+/// Ends the runs that a field with this tag isn't of.
+fn keep(counts: &mut Vec<Tag>, root: &Layout, tag: Tag)
+    ensures { counts.new.items ≡ kept root.now tag counts.old.items }
+{
+    let mut i = 0;
+    while i < counts.len() {
+        if is_in(root, counts[i], tag) {
+            i += 1;
+        } else {
+            counts.remove(i);
+        }
+    }
+}
+
+/// Ends and begins runs as a field with this tag does.
+fn pass(counts: &mut Vec<Tag>, root: &Layout, tag: Tag) -> Result<(), AllocError>
+    ensures { OnOk result (counts.new.items ≡ passed root.now tag counts.old.items) }
+{
+    keep(counts, root, tag);
+    if group_at(root, tag).is_some() {
+        counts.push(tag)?;
+    }
+    Ok(())
+}
+
+/// The count of the group that has the tag as a member, where no run of it goes on.
+fn left_out(counts: &[Tag], root: &Layout, tag: Tag) -> Option<Tag>
+    ensures { result ≡ left_out (owner tag root.now) counts.now }
+{
+    match owner(root, tag) {
+        Some(count) => {
+            if contains(counts, count) {
+                None
+            } else {
+                Some(count)
+            }
+        }
+        None => None,
+    }
+}
+
+/// The first member that stands outside every run of its group.
+fn stray(alloc: Global, fields: &[Lent<'_>], root: &Layout) -> Result<Option<Misfit>, AllocError>
+    ensures { IfOk result (λ fault. fault ≡ stray root.now [] (all_tagged fields.now)) }
+{
+    let mut counts = Vec::new(alloc);
+    for i in 0..fields.len() {
+        let tag = fields[i].tag();
+        if let Some(count) = left_out(&counts, root, tag) {
+            return Ok(Some(Misfit::Order(count)));
+        }
+        pass(&mut counts, root, tag)?;
+    }
+    Ok(None)
+}
+
+/// What is wrong first with the groups of a list of fields, or None. Each group is judged whole at
+/// its count, in the order of the counts: first the number of its instances, then their order.
+/// Behind all of them come the members that stand outside every run of their group.
+pub fn first_misfit(
+    alloc: Global,
+    fields: &[Lent<'_>],
+    root: &Layout,
+) -> Result<Option<Misfit>, OutOfMemory>
+    ensures { IfOk result (λ fault. fault ≡ first_misfit root.now (all_tagged fields.now)) }
+{
+    if let Some(fault) = count_misfit(fields, root) {
+        return Ok(Some(fault));
+    }
+    Ok(stray(alloc, fields, root)?)
+}
