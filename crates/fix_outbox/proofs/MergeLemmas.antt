@@ -93,7 +93,7 @@ goes_from x xs before after apart rest =
       (omega arith),
       (λ full. subst (λ ls. Merge ls (x ∷ xs)) (sym (parts_at x xs before after early late))
           (from_one (parts_of before xs) (parts_of after xs) x (of x.sender xs) xs
-              (subst (λ ls. Merge ls xs) (parts_with xs x.sender before after) (rest.1 (omega arith))))),
+          (subst (λ ls. Merge ls xs) (parts_with xs x.sender before after) (rest.1 (omega arith))))),
     )
 
 goes : (ns : List ℕ) (all : List Item) → AreApart ns → Goes ns all
