@@ -1,0 +1,5 @@
+pub mod TotalLemmas
+pub mod MergeLemmas
+pub mod OrderLemmas
+pub mod ShutLemmas
+pub mod SettleLemmas

@@ -1,0 +1,4 @@
+pub mod Merge
+pub mod Line
+pub mod Shut
+pub mod Passes
