@@ -1,6 +1,7 @@
 -- What is seen of the adapters: how often they failed, and nothing else.
-use Rattle.std.specs.Prelude.{ℕ, List, None}
+use Rattle.std.specs.Prelude.{ℕ, Option, Some, None, Result, Ok, Err}
 use Rattle.fix_disk.specs.declared.file_disk.FileDisk.{FileDisk}
+use Rattle.fix_disk.specs.declared.file_disk.FileRefusal.{FileRefusal}
 use Rattle.fix_disk.specs.Disk.{DiskSeen, IsLawful}
 
 -- a disk that tells nothing
@@ -30,3 +31,11 @@ untold_lawful faults = record {
 
 pub lawful : (d : FileDisk) → IsLawful (file_disk_of d)
 lawful d = untold_lawful d.faults
+
+-- why a file can't be used, if it can't
+abbrev pub refused : {F : Type 0} → Result F FileRefusal → Option FileRefusal
+refused (Ok file) = None
+refused (Err refusal) = Some refusal
+
+abbrev pub refusal_of : FileDisk → Option FileRefusal
+refusal_of d = refused d.file

@@ -1,5 +1,5 @@
-ghost use Rattle.std.specs.Prelude.{◌≡◌, ◌↔◌, min, ◌+◌, IsErr};
-ghost use Rattle.fix_base.specs.Seen.{LAST_COUNT, Rises};
+ghost use Rattle.std.specs.Prelude.{◌≡◌, length, IsErr, OnErr};
+ghost use Rattle.fix_base.specs.Seen.{Rises};
 ghost use Rattle.fix_disk.specs.Disk.{failures};
 
 use crate::{Disk, DiskFailed};
@@ -31,7 +31,7 @@ pub struct FileDisk {
 }
 
 impl FileDisk {
-    ghost use Rattle.fix_disk.specs.FileDisk.{file_disk_of};
+    ghost use Rattle.fix_disk.specs.FileDisk.{file_disk_of, refusal_of};
 
     /// Opens the file at the path, for reading and writing, and makes it where it is missing.
     pub fn open(rt: &HostRuntime, path: &str) -> FileDisk
@@ -44,7 +44,9 @@ impl FileDisk {
     }
 
     /// Why the file can't be used, if it can't.
-    pub fn refusal(&self) -> Option<FileRefusal> {
+    pub fn refusal(&self) -> Option<FileRefusal>
+        ensures { result ≡ refusal_of self.now }
+    {
         match &self.file {
             Ok(_) => None,
             Err(refusal) => Some(*refusal),
@@ -86,7 +88,9 @@ fn settle(rt: &HostRuntime, path: &str, file: &File) -> io::Result<()> {
 
 const LAST_PLACE: u64 = (1 << 63) - 1;
 
-fn length(file: &Result<File, FileRefusal>) -> Result<u64, DiskFailed> {
+fn length(file: &Result<File, FileRefusal>) -> Result<u64, DiskFailed>
+    ensures { IsErr file.now → IsErr result }
+{
     match file {
         Ok(file) => match file.metadata() {
             Ok(found) => Ok(found.len()),
@@ -96,28 +100,36 @@ fn length(file: &Result<File, FileRefusal>) -> Result<u64, DiskFailed> {
     }
 }
 
-fn read_from(file: &Result<File, FileRefusal>, at: u64, room: &mut [u8]) -> Result<(), DiskFailed> {
+fn read_from(file: &Result<File, FileRefusal>, at: u64, room: &mut [u8]) -> Result<(), DiskFailed>
+    ensures { IsErr file.now → IsErr result }
+{
+    let Ok(open) = file else {
+        return Err(DiskFailed);
+    };
     if at > LAST_PLACE - room.len() as u64 || at + room.len() as u64 > length(file)? {
         return Err(DiskFailed);
     }
-    match file {
-        Ok(file) => file.read_exact_at(room, at).map_err(|_| DiskFailed),
-        Err(_) => Err(DiskFailed),
-    }
+    open.read_exact_at(room, at).map_err(|_| DiskFailed)
 }
 
-fn write_to(file: &Result<File, FileRefusal>, at: u64, bytes: &[u8]) -> Result<(), DiskFailed> {
+fn write_to(file: &Result<File, FileRefusal>, at: u64, bytes: &[u8]) -> Result<(), DiskFailed>
+    ensures { IsErr file.now → IsErr result }
+{
+    let Ok(open) = file else {
+        return Err(DiskFailed);
+    };
     if at > LAST_PLACE - bytes.len() as u64 || at > length(file)? {
         return Err(DiskFailed);
     }
-    match file {
-        Ok(file) => file.write_all_at(bytes, at).map_err(|_| DiskFailed),
-        Err(_) => Err(DiskFailed),
-    }
+    open.write_all_at(bytes, at).map_err(|_| DiskFailed)
 }
 
 // A sync that fails ends the file's use.
-fn sync_file(file: &mut Result<File, FileRefusal>) -> Result<(), DiskFailed> {
+fn sync_file(file: &mut Result<File, FileRefusal>) -> Result<(), DiskFailed>
+    ensures refused { IsErr file.old → IsErr result }
+    ensures same { IsErr file.old → file.new ≡ file.old }
+    ensures ends { OnErr result (IsErr file.new) }
+{
     let synced = match file {
         Ok(file) => file.sync_data().is_ok(),
         Err(_) => return Err(DiskFailed),
@@ -141,25 +153,47 @@ fn counted<T: Drop>(answer: Result<T, DiskFailed>, faults: &mut u64) -> Result<T
 }
 
 impl Disk for FileDisk {
-    ghost use Rattle.fix_disk.specs.FileDisk.{file_disk_of, lawful};
+    ghost use Rattle.std.specs.Prelude.{IsSome};
+    ghost use Rattle.fix_disk.specs.Disk.{DiskMeasures, DiskReads, DiskWrites, DiskSyncs, HasRange};
+    ghost use Rattle.fix_disk.specs.FileDisk.{file_disk_of, refusal_of, lawful};
 
     ghost disk = { file_disk_of };
 
     ghost lawful = { lawful };
 
-    fn len(&mut self) -> Result<u64, DiskFailed> {
+    fn len(&mut self) -> Result<u64, DiskFailed>
+        ensures moves { DiskMeasures result (file_disk_of self.old) (file_disk_of self.new) }
+        ensures refused { IsSome (refusal_of self.old) → IsErr result }
+        ensures same { refusal_of self.new ≡ refusal_of self.old }
+    {
         counted(length(&self.file), &mut self.faults)
     }
 
-    fn read_at(&mut self, at: u64, room: &mut [u8]) -> Result<(), DiskFailed> {
+    fn read_at(&mut self, at: u64, room: &mut [u8]) -> Result<(), DiskFailed>
+        requires { HasRange (file_disk_of self.old).bytes at (length room.old) }
+        ensures moves { DiskReads result at room.new (file_disk_of self.old) (file_disk_of self.new) }
+        ensures refused { IsSome (refusal_of self.old) → IsErr result }
+        ensures same { refusal_of self.new ≡ refusal_of self.old }
+    {
         counted(read_from(&self.file, at, room), &mut self.faults)
     }
 
-    fn write_at(&mut self, at: u64, bytes: &[u8]) -> Result<(), DiskFailed> {
+    fn write_at(&mut self, at: u64, bytes: &[u8]) -> Result<(), DiskFailed>
+        requires { HasRange (file_disk_of self.old).bytes at 0 }
+        ensures moves { DiskWrites result at bytes.now (file_disk_of self.old) (file_disk_of self.new) }
+        ensures refused { IsSome (refusal_of self.old) → IsErr result }
+        ensures same { refusal_of self.new ≡ refusal_of self.old }
+    {
         counted(write_to(&self.file, at, bytes), &mut self.faults)
     }
 
-    fn sync(&mut self) -> Result<(), DiskFailed> {
+    // A sync that fails ends the file's use.
+    fn sync(&mut self) -> Result<(), DiskFailed>
+        ensures moves { DiskSyncs result (file_disk_of self.old) (file_disk_of self.new) }
+        ensures refused { IsSome (refusal_of self.old) → IsErr result }
+        ensures same { IsSome (refusal_of self.old) → refusal_of self.new ≡ refusal_of self.old }
+        ensures ends { OnErr result (IsSome (refusal_of self.new)) }
+    {
         counted(sync_file(&mut self.file), &mut self.faults)
     }
 }

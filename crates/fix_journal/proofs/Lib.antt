@@ -1,0 +1,5 @@
+mod Files
+mod Records
+mod Moments
+mod SyncedLemmas
+mod AppendLemmas
