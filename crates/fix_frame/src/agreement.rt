@@ -105,3 +105,69 @@ fn the_fast_reader_agrees_with_the_plain_reading(rt: HostRuntime) -> Result<(), 
     assert!(rt; frames > 400);
     Ok(())
 }
+
+/// Frames that are garbled at one of their fixed places, in the order of the places.
+const GARBLED: [&[u8]; 32] = [
+    b"9=FIX.4.2\x019=5\x0135=0\x0110=162\x01",
+    b"8=FOX.4.2\x019=5\x0135=0\x0110=167\x01",
+    b"8=FIX.4.2.4.2.4.2.4.2\x019=5\x0135=0\x0110=231\x01",
+    b"8=FIX.4.2\x0135=0\x0110=245\x01",
+    b"8=FIX.4.2\x018=5\x0135=0\x0110=160\x01",
+    b"8=FIX.4.2\x019=\x0135=0\x0110=108\x01",
+    b"8=FIX.4.2\x019=x\x0135=0\x0110=228\x01",
+    b"8=FIX.4.2\x019=-5\x0135=0\x0110=206\x01",
+    b"8=FIX.4.2\x019=4\x0135=0\x0110=160\x01",
+    b"8=FIX.4.2\x019=6\x0135=0\x0110=162\x01",
+    b"8=FIX.4.2\x019=00000005\x0135=0\x0110=241\x01",
+    b"8=FIX.4.2\x019=1048577\x0135=0\x0110=220\x01",
+    b"8=FIX.4.2\x019=5\x0134=0\x0110=160\x01",
+    b"8=FIX.4.2\x019=5\x0135:0\x0110=158\x01",
+    b"8=FIX.4.2\x019=5\x0135=0x10=161\x01",
+    b"8=FIX.4.2\x019=5\x0135=0\x0111=161\x01",
+    b"8=FIX.4.2\x019=5\x0135=0\x0110:161\x01",
+    b"8=FIX.4.2\x019=5\x0135=0\x0110=61\x01",
+    b"8=FIX.4.2\x019=5\x0135=0\x0110=0161\x01",
+    b"8=FIX.4.2\x019=5\x0135=0\x0110=16x\x01",
+    b"8=FIX.4.2\x019=5\x0135=0\x0110=161x\x01",
+    b"8=FIX.4.2\x019=5\x0135=0\x0110=160\x01",
+    b"8=FIX.4.2\x019=5\x0135=0\x0110=417\x01",
+    b"8=FIX.4.2\x019=9\x0135=0\x018=1\x0110=076\x01",
+    b"8=FIX.4.2\x019=9\x0135=0\x019=1\x0110=077\x01",
+    b"8=FIX.4.2\x019=10\x0135=0\x0110=1\x0110=157\x01",
+    b"8=FIX.4.2\x019=10\x0135=0\x0101=1\x0110=157\x01",
+    b"8=FIX.4.2\x019=7\x0135=0\x01=\x0110=225\x01",
+    b"8=FIX.4.2\x019=7\x0135=0\x0158\x0110=017\x01",
+    b"8=FIX.4.2\x019=17\x0135=0\x0195=4\x0196=a\x01b\x0110=037\x01",
+    b"8=FIX.4.2\x019=17\x0135=0\x0195=2\x0196=a\x01b\x0110=035\x01",
+    b"8=FIX.4.2\x019=17\x0135=0\x0195=x\x0196=a\x01b\x0110=105\x01",
+];
+
+/// The frames that the reader gives of the stream in pieces of so many bytes.
+fn read_in_pieces(alloc: Global, stream: &[u8], size: usize) -> Result<Vec<Bytes>, OutOfMemory>
+    requires { 0 < size }
+{
+    let mut reader = Reader::new(alloc)?;
+    let mut out = Vec::new(alloc);
+    for piece in stream.chunks(size) {
+        reader.feed(piece)?;
+        add_frames(alloc, &mut reader, &mut out)?;
+    }
+    Ok(out)
+}
+
+#[test]
+fn the_reader_agrees_at_each_garbled_place(rt: HostRuntime) -> Result<(), Fail> {
+    for garbled in GARBLED {
+        // A right frame on both sides, and one that comes behind what a wrong length takes in.
+        let mut stream = Vec::from_slice(rt.alloc(), PIECES[0])?;
+        stream.extend_from_slice(garbled)?;
+        stream.extend_from_slice(PIECES[0])?;
+        stream.extend_from_slice(PIECES[3])?;
+        let plain = plain_reading(rt.alloc(), &stream)?;
+        assert!(rt; plain.len() == 3);
+        for size in [1, 7, 64] {
+            assert!(rt; read_in_pieces(rt.alloc(), &stream, size)? == plain);
+        }
+    }
+    Ok(())
+}

@@ -3,6 +3,7 @@ ghost use Rattle.std.specs.Fmt.{decimal};
 
 use crate::{Framed, Reader, SealFault, frame_at, frames_of, seal};
 use fix_base::{Begin, Bytes};
+use fix_fields::body_of;
 use std::alloc::{AllocError, Global};
 use std::test::Fail;
 
@@ -83,6 +84,29 @@ fn fed_byte_by_byte_a_frame_comes_once(rt: HostRuntime) -> Result<(), Fail> {
     }
     assert_eq!(rt; count, 1);
     assert_eq!(rt; last, 25);
+    Ok(())
+}
+
+#[test]
+fn a_frame_with_data_comes_at_its_last_byte(rt: HostRuntime) -> Result<(), Fail> {
+    let mut reader = Reader::new(rt.alloc())?;
+    let (front, last) = RAW_DATA.split_at(RAW_DATA.len() - 1);
+    for b in front {
+        reader.feed(&[*b])?;
+        assert!(rt; reader.next().is_none());
+    }
+    reader.feed(last)?;
+    assert!(rt; reader.next() == Some(RAW_DATA));
+    Ok(())
+}
+
+#[test]
+fn data_stands_in_the_body(rt: HostRuntime) -> Result<(), Fail> {
+    let Framed::Frame(frame) = frame_at(RAW_DATA, 0) else {
+        return Err(Fail::new("no frame"));
+    };
+    let body = body_of(rt.alloc(), frame)?;
+    assert!(rt; body.as_slice() == b"35=0\x0195=3\x0196=a\x01b\x01".as_slice());
     Ok(())
 }
 
