@@ -7,4 +7,6 @@ pub mod ShapeLemmas
 pub mod SessionsLemmas
 pub mod OrderLemmas
 pub mod PrintLemmas
+pub mod Utf8Lemmas
 pub mod LawfulLemmas
+pub mod TextLemmas
