@@ -10,3 +10,6 @@ pub mod PrintLemmas
 pub mod Utf8Lemmas
 pub mod LawfulLemmas
 pub mod TextLemmas
+pub mod AgainLemmas
+pub mod BackLemmas
+pub mod LawLemmas
