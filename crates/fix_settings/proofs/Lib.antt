@@ -13,3 +13,5 @@ pub mod TextLemmas
 pub mod AgainLemmas
 pub mod BackLemmas
 pub mod LawLemmas
+pub mod KeptLemmas
+pub mod SaysLemmas
