@@ -1,5 +1,5 @@
 -- What is read is lawful.
-use Rattle.std.proofs.Common.{◌≡◌, ℕ, Bool, true, false, ◌&&◌, is_some, List, [], ◌∷◌, map, codes, Option, Some, None, refl, sym, ap, ◌∙◌, subst}
+use Rattle.std.proofs.Common.{◌≡◌, ℕ, Bool, true, false, ◌&&◌, is_some, List, [], ◌∷◌, ◌++◌, map, codes, Option, Some, None, refl, sym, ap, ◌∙◌, subst}
 use Rattle.std.specs.List.{list_all, AllByRecursion}
 use Rattle.std.specs.Option.{option_or}
 use Rattle.std.proofs.lemmas.Bool.{and_parts}
@@ -13,7 +13,10 @@ use Rattle.fix_settings.specs.Forms.{Value, value_in}
 use Rattle.fix_settings.specs.Table.{Rule, rule_of, setting_of}
 use Rattle.fix_settings.specs.Reading.{first_some, value_from, pair_for, is_right, key_refusal, keys_refusal, section_refusal, refused, IsSession, AreSessions, AreSessionsOf, lines_refusal, line_refusal, sections_refusal, count_refusal, same_refusal, party_of, refusal_of}
 use Rattle.fix_settings.specs.declared.fault.SettingsCause.TheVariants as cause
-use Rattle.fix_settings.specs.Lawful.{IsValueOf, IsAllowed, IsLawful}
+use Rattle.std.specs.Str.{IsUtf8}
+use Rattle.fix_settings.specs.Lawful.{IsValueOf, IsAllowed, IfUtf8, IsLawful}
+use Rattle.fix_settings.proofs.TextLemmas.{PairUtf8, read_utf8, defaults_utf8, all_both}
+use Rattle.fix_settings.proofs.Utf8Lemmas.{SectionUtf8, sections_utf8, for_utf8, ignored_utf8}
 use Rattle.fix_settings.proofs.ShapeLemmas.{right_pair, right_value}
 use Rattle.fix_settings.proofs.ReadLemmas.{first_none, or_left, or_right}
 
@@ -107,8 +110,8 @@ beside_pairs line g k j (Some p) h m s =
     let parts = and_parts (is_some (value_in (rule_of k).form p.value)) (list_all (λ i. is_some (g i)) (rule_of k).beside) right in
     all_among (λ i. is_some (g i)) m parts.1
 
-pub session_lawful : (defaults : List Pair) (section : Section) (s : SessionSettings) → section_refusal defaults section ≡ None → IsSession defaults section s → IsLawful s
-session_lawful defaults section s right is =
+pub session_lawful : (defaults : List Pair) (section : Section) (s : SessionSettings) → AllByRecursion PairUtf8 defaults → AllByRecursion PairUtf8 section.pairs → section_refusal defaults section ≡ None → IsSession defaults section s → IsLawful s
+session_lawful defaults section s ud us right is =
     let g = pair_for defaults section.pairs in
     let none = first_none (λ k. key_refusal section.line g k (g k)) right in
     record {
@@ -116,15 +119,17 @@ session_lawful defaults section s right is =
       beside = λ k j m h.
           let j_pair = beside_pairs section.line g k j (g k) (none k) m (sym (ap is_some (is.each k)) ∙ h) in
           ap is_some (is.each j) ∙ has_value section.line g j (g j) (none j) j_pair;
+      utf8 = λ k. subst IfUtf8 (sym (is.each k)) (for_utf8 defaults section.pairs k ud us);
+      ignored_utf8 = λ name m. ignored_utf8 (defaults ++ section.pairs) name (all_both defaults section.pairs ud us) (is.ignored.each name m);
     }
 
-pub sessions_lawful : (defaults : List Pair) (sections : List Section) (sessions : List SessionSettings) → first_some (section_refusal defaults) sections ≡ None → AreSessions defaults sections sessions → AllByRecursion IsLawful sessions
-sessions_lawful defaults [] [] right are = tt
-sessions_lawful defaults [] (s ∷ ss) right are = cc
-sessions_lawful defaults (x ∷ xs) [] right are = absurd are
-sessions_lawful defaults (x ∷ xs) (s ∷ ss) right are = (
-  session_lawful defaults x s (or_left (section_refusal defaults x) (first_some (section_refusal defaults) xs) right) are.0,
-  sessions_lawful defaults xs ss (or_right (section_refusal defaults x) (first_some (section_refusal defaults) xs) right) are.1,
+pub sessions_lawful : (defaults : List Pair) (sections : List Section) (sessions : List SessionSettings) → AllByRecursion PairUtf8 defaults → AllByRecursion SectionUtf8 sections → first_some (section_refusal defaults) sections ≡ None → AreSessions defaults sections sessions → AllByRecursion IsLawful sessions
+sessions_lawful defaults [] [] ud us right are = tt
+sessions_lawful defaults [] (s ∷ ss) ud us right are = cc
+sessions_lawful defaults (x ∷ xs) [] ud us right are = absurd are
+sessions_lawful defaults (x ∷ xs) (s ∷ ss) ud us right are = (
+  session_lawful defaults x s ud us.0 (or_left (section_refusal defaults x) (first_some (section_refusal defaults) xs) right) are.0,
+  sessions_lawful defaults xs ss ud us.1 (or_right (section_refusal defaults x) (first_some (section_refusal defaults) xs) right) are.1,
 )
 
 -- what isn't refused as a text isn't refused at any section
@@ -134,5 +139,5 @@ sections_right lines h =
     let behind = or_right (count_refusal (sections_of lines)) (option_or (first_some (section_refusal (defaults_of lines)) (sections_of lines)) (same_refusal [] (map (party_of (defaults_of lines)) (sections_of lines)))) all in
     or_left (first_some (section_refusal (defaults_of lines)) (sections_of lines)) (same_refusal [] (map (party_of (defaults_of lines)) (sections_of lines))) behind
 
-pub text_lawful : (text : List ℕ) (sessions : List SessionSettings) → refusal_of text ≡ None → AreSessionsOf text sessions → AllByRecursion IsLawful sessions
-text_lawful text sessions h are = sessions_lawful (defaults_of (read_lines text)) (sections_of (read_lines text)) sessions (sections_right (read_lines text) h) are
+pub text_lawful : (text : List ℕ) (sessions : List SessionSettings) → IsUtf8 text → refusal_of text ≡ None → AreSessionsOf text sessions → AllByRecursion IsLawful sessions
+text_lawful text sessions u h are = sessions_lawful (defaults_of (read_lines text)) (sections_of (read_lines text)) sessions (defaults_utf8 (read_lines text) (read_utf8 text u)) (sections_utf8 (read_lines text) (read_utf8 text u)) (sections_right (read_lines text) h) are

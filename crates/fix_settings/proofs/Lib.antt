@@ -7,4 +7,11 @@ pub mod ShapeLemmas
 pub mod SessionsLemmas
 pub mod OrderLemmas
 pub mod PrintLemmas
+pub mod Utf8Lemmas
 pub mod LawfulLemmas
+pub mod TextLemmas
+pub mod AgainLemmas
+pub mod BackLemmas
+pub mod LawLemmas
+pub mod KeptLemmas
+pub mod SaysLemmas

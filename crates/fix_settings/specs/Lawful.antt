@@ -3,7 +3,9 @@ use Rattle.std.specs.Prelude.{◌≡◌, ℕ, Bool, true, false, List, [], ◌�
 use Rattle.fix_base.specs.Lists.{Among}
 use Rattle.fix_settings.specs.declared.key.Key.{Key}
 use Rattle.fix_settings.specs.declared.session_settings.SessionSettings.{SessionSettings}
-use Rattle.fix_settings.specs.Forms.{Value, value_in}
+use Rattle.std.specs.Str.{IsUtf8}
+use Rattle.std.specs.List.{AllByRecursion}
+use Rattle.fix_settings.specs.Forms.{Value, Version, Number, Port, Clock, Day, Flag, Fine, Text, Types, value_in}
 use Rattle.fix_settings.specs.Table.{Rule, rule_of, setting_of}
 
 -- a value that some text of the key's form says
@@ -16,8 +18,26 @@ abbrev pub IsAllowed : Rule → Option Value → Type 0
 IsAllowed rule None = (rule.required ≡ false) × (rule.standard ≡ None)
 IsAllowed rule (Some v) = IsValueOf rule v
 
+-- its texts are UTF-8
+abbrev pub ValueUtf8 : Value → Type 0
+ValueUtf8 (Version begin) = Unit {0}
+ValueUtf8 (Number n) = Unit {0}
+ValueUtf8 (Port n) = Unit {0}
+ValueUtf8 (Clock s) = Unit {0}
+ValueUtf8 (Day day) = Unit {0}
+ValueUtf8 (Flag on) = Unit {0}
+ValueUtf8 (Fine precision) = Unit {0}
+ValueUtf8 (Text text) = IsUtf8 text
+ValueUtf8 (Types types) = AllByRecursion IsUtf8 types
+
+abbrev pub IfUtf8 : Option Value → Type 0
+IfUtf8 None = Unit {0}
+IfUtf8 (Some v) = ValueUtf8 v
+
 -- each field has a value that its key allows, and the keys that belong beside one that has a value
--- have values
+-- have values; and its texts are UTF-8
 pub record IsLawful (s : SessionSettings) : Type 0 where
   pub each : (k : Key) → IsAllowed (rule_of k) (setting_of s k)
   pub beside : (k j : Key) → Among j (rule_of k).beside → is_some (setting_of s k) ≡ true → is_some (setting_of s j) ≡ true
+  pub utf8 : (k : Key) → IfUtf8 (setting_of s k)
+  pub ignored_utf8 : (name : List ℕ) → Among name s.ignored.items → IsUtf8 name

@@ -7,3 +7,4 @@ pub mod Typed
 pub mod Lawful
 pub mod Read
 pub mod Printing
+pub mod Again

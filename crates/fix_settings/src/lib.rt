@@ -7,6 +7,7 @@ mod form;
 mod ignoring;
 mod judging;
 mod key;
+mod laws;
 mod line;
 mod making;
 mod printing;
@@ -20,5 +21,6 @@ mod tests;
 
 pub use fault::{SettingsCause, SettingsFault};
 pub use key::{KEYS, Key};
+pub use laws::what_is_printed_is_read_again;
 pub use session_settings::SessionSettings;
 pub use settings::Settings;

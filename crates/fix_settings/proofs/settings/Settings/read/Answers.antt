@@ -8,4 +8,4 @@ returns-in-Ok-Ok-clause-ok c =
     let read = rw c.in-Ok-Ok.field-0-is at c.in-Ok-Ok.ensures in
     let right : refusal_of c.args.text.now ≡ None = sym (ap refusal_of c.as_bytes.ensures.value) ∙ read.0 in
     let are : AreSessionsOf c.args.text.now c.in-Ok-Ok.sessions.items = subst (λ t. AreSessionsOf t c.in-Ok-Ok.sessions.items) c.as_bytes.ensures.value read.1 in
-    record { right = right; sessions_are = are; lawful = text_lawful c.args.text.now c.in-Ok-Ok.sessions.items right are }
+    record { right = right; sessions_are = are; lawful = text_lawful c.args.text.now c.in-Ok-Ok.sessions.items c.utf8.text right are }
