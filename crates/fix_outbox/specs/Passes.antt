@@ -29,6 +29,11 @@ IsTakerOf o p = (p.place.table_id ≡ o.queue.table.shared.table_id) × (p.watch
 abbrev pub count_of : TakerPass → ℕ
 count_of t = (view t.place).number
 
+-- the number under which it posts
+abbrev pub number_of : SenderPass → ℕ
+number_of p = p.number
+
+-- what it has posted, in order
 abbrev pub posted : SenderPass → List Item
 posted p = (view p.place).list
 
@@ -36,9 +41,11 @@ posted p = (view p.place).list
 abbrev pub found : SenderPass → List ℕ
 found p = p.watch.me.0.found
 
+-- what it has taken, in order
 abbrev pub taken : TakerPass → List Item
 taken p = (view p.place).list
 
+-- whether it has closed the outbox
 abbrev pub closed : TakerPass → Bool
 closed p = p.watch.me.0.closed
 
@@ -65,7 +72,7 @@ HasCause n capacity v (Err (Full _)) = (n ≡ 0) × Held capacity (MayHold v)
 -- what each sender posted is what was taken of its number and then what is left of it; all together is a merge of what they posted
 abbrev pub Settles : List Item → List Item → List SenderPass → Type 0
 Settles before rest senders =
-    All (λ (p : SenderPass). posted p ≡ of p.number before ++ of p.number rest) senders
+    All (λ (p : SenderPass). posted p ≡ of (number_of p) before ++ of (number_of p) rest) senders
     × Merge (map posted senders) (before ++ rest)
 
 -- a pass of this outbox that has done nothing
@@ -74,7 +81,7 @@ IsNewSender o p = IsSenderOf o p × (posted p ≡ []) × (found p ≡ [])
 
 -- their numbers, from 1, in the order of the list
 abbrev pub AreNumbered : List SenderPass → Type 0
-AreNumbered ps = (k : ℕ) (d : SenderPass) → k < length ps → (slice_index_or ps k d).number ≡ k + 1
+AreNumbered ps = (k : ℕ) (d : SenderPass) → k < length ps → number_of (slice_index_or ps k d) ≡ k + 1
 
 -- no post of these was told that the outbox is closed
 abbrev pub AreClean : List SenderPass → Type 0

@@ -3,7 +3,7 @@ ghost use Rattle.std.specs.Prelude.{◌≡◌, ℕ, true, [], ◌∷◌, ◌++�
 ghost use Rattle.crossbeam_queue.specs.Passes.{view};
 ghost use Rattle.crossbeam_queue.specs.Fifo.{Held};
 ghost use Rattle.fix_outbox.specs.Line.{MayHold};
-ghost use Rattle.fix_outbox.specs.Passes.{capacity_of, IsSenderOf, IsTakerOf, count_of, posted, found, taken, closed, item, back_of, HasCause};
+ghost use Rattle.fix_outbox.specs.Passes.{capacity_of, IsSenderOf, IsTakerOf, count_of, number_of, posted, found, taken, closed, item, back_of, HasCause};
 
 use crate::gate::{Finds, Shutting};
 use crate::line::{Appends, Item, Takes};
@@ -14,7 +14,7 @@ use std::sync::Wait;
 impl SenderPass {
     /// The number under which this pass posts, from 1.
     pub fn number(&self) -> u32
-        ensures { result ≡ self.now.number }
+        ensures { result ≡ number_of self.now }
     {
         self.number
     }
@@ -29,8 +29,8 @@ impl Outbox {
         draft: Draft,
     ) -> Result<(), PostFault>
         requires { IsSenderOf self.now pass.old }
-        ensures pass { IsSenderOf self.now pass.new × (pass.new.number ≡ pass.old.number) }
-        ensures posted { MatchResult result (λ _. posted pass.new ≡ posted pass.old ++ item pass.old.number draft ∷ []) (λ e. (back_of e ≡ draft) × (posted pass.new ≡ posted pass.old)) }
+        ensures pass { IsSenderOf self.now pass.new × (number_of pass.new ≡ number_of pass.old) }
+        ensures posted { MatchResult result (λ _. posted pass.new ≡ posted pass.old ++ item (number_of pass.old) draft ∷ []) (λ e. (back_of e ≡ draft) × (posted pass.new ≡ posted pass.old)) }
         ensures cause { (n : ℕ) × (found pass.new ≡ found pass.old ++ n ∷ []) × HasCause n (capacity_of self.now) (view pass.old.place) result }
     {
         if self.gate.shared.load::<Finds>(&mut pass.watch, 0) == 1 {
@@ -47,6 +47,7 @@ impl Outbox {
     }
 
     /// Takes the oldest draft. None means that the outbox was empty at a moment of this call.
+    #[tactic(auto, using(crate::proofs::OrderLemmas::takes, crate::proofs::OrderLemmas::learns))]
     pub fn take<R: Wait>(&self, rt: &R, pass: &mut TakerPass) -> Option<Draft>
         requires { IsTakerOf self.now pass.old }
         ensures pass { IsTakerOf self.now pass.new × (closed pass.new ≡ closed pass.old) × (count_of pass.new ≡ count_of pass.old) }
