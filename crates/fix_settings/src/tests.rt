@@ -23,6 +23,7 @@ fn with_lines(alloc: Global, lines: &str) -> Result<String, Fail> {
 
 #[test]
 fn the_example_prints_as_shown(rt: HostRuntime) -> Result<(), Fail> {
+    assert!(rt; EXAMPLE.len() < 10_000);
     let settings = Settings::read(rt.alloc(), EXAMPLE).ok().ok_or("refused")?;
     let printed = settings.print(rt.alloc()).ok().ok_or("memory")?;
     assert_eq!(rt; printed.as_slice(), PRINTED.as_bytes());
@@ -31,14 +32,17 @@ fn the_example_prints_as_shown(rt: HostRuntime) -> Result<(), Fail> {
 
 #[test]
 fn what_is_printed_reads_the_same(rt: HostRuntime) -> Result<(), Fail> {
+    assert!(rt; PRINTED.len() < 10_000);
     let settings = Settings::read(rt.alloc(), PRINTED).ok().ok_or("refused")?;
-    assert_eq!(rt; settings.sessions().len(), 2);
-    assert_eq!(rt; settings.sessions()[0].ignored.len(), 0);
+    let sessions = settings.sessions();
+    assert!(rt; sessions.len() == 2);
+    assert_eq!(rt; sessions[0].ignored.len(), 0);
     Ok(())
 }
 
 // A text, and the line and the cause of its refusal.
 fn refused(rt: &impl Abort, alloc: Global, text: &str, line: u32, cause: SettingsCause) {
+    assert!(rt; text.len() < 10_000);
     match Settings::read(alloc, text) {
         Ok(_) => assert!(rt; false),
         Err(fault) => {
@@ -194,9 +198,11 @@ fn a_window_needs_both_ends(rt: HostRuntime) -> Result<(), Fail> {
 fn blanks_and_case_are_as_written(rt: HostRuntime) -> Result<(), Fail> {
     let text =
         "# a comment\r\n [default] \r\nHeartBtInt = 0030\t\r\n[Session]\r\n\tBeginString=FIX.4.4\r\nSenderCompID=A=B\nTargetCompID=C\nStartTime=00:00:00\nEndTime=23:59:59\nStartDay=mon\nEndDay=SUNDAY\nAppTypes=D,8,D\nTimeStampPrecision=MICROS\nZoneRule=\nHeartBtInt=1\nHeartBtInt=2";
+    assert!(rt; text.len() < 10_000);
     let settings = Settings::read(rt.alloc(), text).ok().ok_or("refused")?;
-    assert_eq!(rt; settings.sessions().len(), 1);
-    let session = &settings.sessions()[0];
+    let sessions = settings.sessions();
+    assert!(rt; sessions.len() == 1);
+    let session = &sessions[0];
     assert!(rt; session.begin_string == Begin::Fix44);
     assert_eq!(rt; session.sender_comp_id.as_slice(), b"A=B".as_slice());
     assert_eq!(rt; session.heart_bt_int, 2);
