@@ -16,14 +16,11 @@ use Rattle.fix_base.proofs.Digits.{numerals, digits_no_soh}
 use Rattle.fix_base.proofs.PlainFields.{IsPlainField, plain_fields}
 use Rattle.fix_base.proofs.ShortFields.{comp_id_clear, comp_id_short, IsShortField, short_fields}
 use Rattle.fix_base.proofs.TimeTexts.{time_text_no_soh}
+use Rattle.fix_fields.proofs.DraftLemmas.{fields_text-append}
 use Rattle.fix_frame.specs.Sealable.{message_text, IsBehindType, IsSealable}
 use Rattle.fix_engine.specs.State.{Say, Logon, Logout}
 use Rattle.fix_engine.specs.Answer.{kind_of, fields_of, IsSayable, IsSaid}
 use Rattle.fix_engine.specs.Written.{header_fields, IsHeaderText}
-
-pub fields_text-append : (xs ys : List Field) → fields_text (xs ++ ys) ≡ fields_text xs ++ fields_text ys
-fields_text-append [] ys = refl
-fields_text-append (x ∷ xs) ys = ap (λ (t : List ℕ). field_text x ++ t) (fields_text-append xs ys) ∙ sym (append_assoc (field_text x) (fields_text xs) (fields_text ys))
 
 -- the fields behind MsgType (35)
 abbrev behind : Identity → ℕ → List ℕ → Say → List Field

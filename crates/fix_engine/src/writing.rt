@@ -7,27 +7,12 @@ ghost use Rattle.fix_engine.specs.Written.{IsHeaderText};
 
 use crate::Say;
 use fix_base::{Identity, OutOfMemory, Precision};
-use fix_fields::time_text;
+use fix_fields::{push_field, time_text};
 use itoa::Buffer;
 use std::alloc::{AllocError, Global};
 
-/// The byte behind each field.
-const SOH: u8 = 1;
-
 /// Room for the fields of a header: 34, 49, 52 and 56.
 const HEADER_ROOM: usize = 192;
-
-// Writes a field behind what is there.
-fn push_field(out: &mut Vec<u8>, tag: u32, value: &[u8]) -> Result<(), AllocError>
-    ensures { OnOk result (out.new.items ≡ out.old.items ++ field_text (field tag value.now)) }
-{
-    let mut digits = Buffer::new();
-    out.extend_from_slice(digits.format(tag).as_bytes())?;
-    out.push(b'=')?;
-    out.extend_from_slice(value)?;
-    out.push(SOH)?;
-    Ok(())
-}
 
 // Writes a field of a number behind what is there.
 fn push_number(out: &mut Vec<u8>, tag: u32, number: u32) -> Result<(), AllocError>

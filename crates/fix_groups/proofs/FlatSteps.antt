@@ -3,6 +3,7 @@ use Rattle.std.proofs.Common.{◌≡◌, ℕ, ◌≤◌, ◌<◌, ◌+◌, lengt
 use Rattle.std.proofs.lemmas.Grind.{common_steps}
 use Rattle.fix_base.specs.Fields.{Field}
 use Rattle.fix_base.specs.Says.{field_text, fields_text}
+use Rattle.fix_fields.proofs.DraftLemmas.{fields_text-append}
 use Rattle.fix_groups.specs.Flat.{flat}
 use Rattle.fix_groups.specs.Nodes.{Nodes, items_count}
 use Rattle.fix_groups.specs.NodesOf.{items_of}
@@ -13,10 +14,6 @@ items_count-items_of (t ∷ ts) = omega (arith, items_count-items_of ts)
 
 pub flat_past : (ts : List Nodes) (i : ℕ) → length ts ≤ i → flat (items_of (drop i ts)) ≡ []
 flat_past ts i h = grind (arith, common_steps)
-
-pub fields_text-append : (a b : List Field) → fields_text (a ++ b) ≡ fields_text a ++ fields_text b
-fields_text-append [] b = refl
-fields_text-append (f ∷ a) b = ap (λ l. field_text f ++ l) (fields_text-append a b) ∙ sym (append_assoc (field_text f) (fields_text a) (fields_text b))
 
 dropped : (ts : List Nodes) (n : ℕ) (d : Nodes) → n < length ts → drop n ts ≡ get_or ts n d ∷ drop (n + 1) ts
 dropped ts n d h = grind (arith, common_steps)

@@ -1,6 +1,7 @@
 use Rattle.std.proofs.Common.{arith, append_assoc}
 use Rattle.std.proofs.lemmas.Grind.{common_steps}
-use Rattle.fix_groups.proofs.FlatSteps.{item_step, items_count-items_of, flat_past, fields_text-append}
+use Rattle.fix_fields.proofs.DraftLemmas.{fields_text-append}
+use Rattle.fix_groups.proofs.FlatSteps.{item_step, items_count-items_of, flat_past}
 use Rattle.fix_groups.proofs.tree.+flatten_into.Goals.{in-Plain+in_ok-push_field-in-Plain, in-Group+in_ok-push_count-in-Group+else-loop-item-test}
 use Rattle.fix_groups.proofs.tree.+flatten_into.Goals as goal
 
