@@ -1,19 +1,15 @@
 -- Printed lines are read as what they print.
-use Rattle.std.proofs.Common.{◌≡◌, ℕ, zero, suc, ◌+◌, ◌==◌, ◌&&◌, ◌||◌, not, Bool, true, false, List, [], ◌∷◌, ◌++◌, length, map, Option, Some, None, option_map, bytes_eq, codes, refl, sym, ap, ◌∙◌, subst, append_assoc, inl, inr, if◌then◌else◌}
+use Rattle.std.proofs.Common.{◌≡◌, ℕ, ◌+◌, ◌==◌, not, Bool, true, false, List, [], ◌∷◌, ◌++◌, map, Option, Some, None, codes, refl, ap, ◌∙◌, append_assoc}
 use Rattle.std.specs.Prelude.{flat_map}
-use Rattle.std.specs.List.{list_all, list_any, onto_first, AllByRecursion}
-use Rattle.std.specs.Option.{option_or}
-use Rattle.std.proofs.lemmas.Bool.{cases_Bool, and_parts}
-use Rattle.std.proofs.lemmas.List.{append-nil}
-use Rattle.std.proofs.lemmas.Slice.Eq.{bytes_eq-Decides}
+use Rattle.std.specs.List.{AllByRecursion}
+use Rattle.std.proofs.lemmas.Bool.{and_parts}
 use Rattle.fix_settings.specs.declared.key.Key.{Key}
 use Rattle.fix_settings.specs.declared.key.Key.TheVariants as key
-use Rattle.fix_settings.specs.declared.key.TheConstants.{KEYS}
 use Rattle.fix_settings.specs.declared.session_settings.SessionSettings.{SessionSettings}
-use Rattle.fix_settings.specs.Lines.{Pair, Line, Passed, Default, Session, Given, Wrong, Section, is_blank, trim_front, trim_back, unless_blank, trimmed, lines_of, onto_line, line_of, trimmed_line, pair_of, numbered, run_of, defaults_of, sections_of, last_of, with_key}
+use Rattle.fix_settings.specs.Lines.{Pair, Line, Passed, Given, trim_front, trim_back, unless_blank, trimmed, lines_of, line_of, trimmed_line, pair_of, numbered}
 use Rattle.fix_settings.specs.Forms.{Value, value_text}
 use Rattle.fix_settings.specs.Table.{name_of, setting_of}
-use Rattle.fix_settings.specs.Printing.{setting_line, ignored_line, session_text, settings_text}
+use Rattle.fix_settings.specs.Printing.{setting_line, ignored_line}
 use Rattle.fix_settings.specs.Again.{IsLineText, has_no_lf}
 
 -- ---- one line

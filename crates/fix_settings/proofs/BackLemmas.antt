@@ -1,24 +1,21 @@
 -- What is read of printed sessions.
-use Rattle.std.proofs.Common.{◌≡◌, ℕ, zero, suc, ◌+◌, ◌==◌, ◌&&◌, ◌||◌, not, nat_lt, nat_le, Bool, true, false, List, [], ◌∷◌, ◌++◌, length, map, Option, Some, None, option_map, is_some, bytes_eq, codes, refl, sym, ap, ◌∙◌, subst, append_assoc, inl, inr, if◌then◌else◌}
+use Rattle.std.proofs.Common.{◌≡◌, ℕ, ◌+◌, Bool, true, false, List, [], ◌∷◌, ◌++◌, map, Option, Some, None, option_map, bytes_eq, codes, refl, sym, ap, ◌∙◌, subst, append_assoc, inl, inr, if◌then◌else◌}
 use Rattle.std.specs.Prelude.{flat_map, find}
-use Rattle.std.specs.List.{list_all, list_any, AllByRecursion}
+use Rattle.std.specs.List.{list_any, AllByRecursion}
 use Rattle.std.specs.Option.{option_or}
-use Rattle.std.proofs.lemmas.Bool.{cases_Bool, and_parts, and_from}
+use Rattle.std.proofs.lemmas.Bool.{cases_Bool}
 use Rattle.std.proofs.lemmas.Slice.Eq.{bytes_eq-Decides}
-use Rattle.fix_base.specs.Lists.{Among, here, there}
 use Rattle.fix_settings.specs.declared.key.Key.{Key}
 use Rattle.fix_settings.specs.declared.key.Key.TheVariants as key
 use Rattle.fix_settings.specs.declared.key.TheConstants.{KEYS}
-use Rattle.fix_settings.specs.declared.fault.SettingsFault.{SettingsFault}
 use Rattle.fix_settings.specs.declared.session_settings.SessionSettings.{SessionSettings}
-use Rattle.fix_settings.specs.Lines.{Pair, Line, Passed, Default, Session, Given, Wrong, Section, lines_of, line_of, numbered, read_lines, run_of, defaults_of, sections_of, last_of, with_key}
-use Rattle.fix_settings.specs.Forms.{Value, value_in, value_text}
-use Rattle.fix_settings.specs.Table.{Rule, rule_of, name_of, setting_of}
-use Rattle.fix_settings.specs.Reading.{first_some, value_from, pair_for, is_right, key_refusal, keys_refusal, section_refusal, line_refusal, asks_tls, text_for, Party, party_from, party_of, is_same, same_refusal, count_refusal, sections_refusal, lines_refusal, refusal_of, IsSession, AreSessions, AreSessionsOf, AreInOrder, ignored_of, is_known, unknown_of}
-use Rattle.fix_settings.specs.Lawful.{IsAllowed, IsLawful}
-use Rattle.fix_settings.specs.Printing.{setting_line, ignored_line, session_text, settings_text}
-use Rattle.fix_settings.specs.Again.{IsLineText, has_no_lf, IsPrintable, ArePrintable, IsAgain, AreAgain, ReadsBack, party_for}
-use Rattle.fix_settings.proofs.AgainLemmas.{line_first, Written, done, skip, pair, PairsFirst, keys_text, pairs_first, AllPassed, no, one, PassedFirst, passed_first}
+use Rattle.fix_settings.specs.Lines.{Pair, Line, Session, Given, Section, lines_of, numbered, run_of, defaults_of, sections_of, last_of}
+use Rattle.fix_settings.specs.Forms.{Value, value_text}
+use Rattle.fix_settings.specs.Table.{name_of, setting_of}
+use Rattle.fix_settings.specs.Reading.{pair_for, line_refusal, asks_tls}
+use Rattle.fix_settings.specs.Printing.{ignored_line}
+use Rattle.fix_settings.specs.Again.{IsPrintable}
+use Rattle.fix_settings.proofs.AgainLemmas.{line_first, Written, done, skip, pair, keys_text, pairs_first, AllPassed, no, one, passed_first}
 
 -- ---- the lines of printed sessions
 

@@ -1,5 +1,5 @@
 -- Forms: numbers of digits.
-use Rattle.std.proofs.Common.{◌≡◌, ◌⊎◌, inl, inr, ℕ, ◌+◌, ◌*◌, ◌<◌, ◌≤◌, ◌&&◌, Bool, true, false, nat_lt, nat_le, if◌then◌else◌, ◌==◌, List, [], ◌∷◌, length, get_or, take, ap, ◌++◌, append_assoc, Option, Some, None, refl, sym, ◌∙◌, arith}
+use Rattle.std.proofs.Common.{◌≡◌, inl, inr, ℕ, ◌+◌, ◌*◌, ◌<◌, ◌≤◌, ◌&&◌, Bool, true, false, nat_lt, nat_le, ◌==◌, List, [], ◌∷◌, length, get_or, take, ap, ◌++◌, append_assoc, Option, Some, None, refl, sym, ◌∙◌, arith}
 use Rattle.std.specs.List.{slice_split, list_all}
 use Rattle.std.specs.Str.{all_ascii_digits}
 use Rattle.std.specs.Str.Parse.{digits_value, AllDigits}

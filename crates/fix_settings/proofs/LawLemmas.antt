@@ -1,5 +1,5 @@
 -- Reading what is printed.
-use Rattle.std.proofs.Common.{◌≡◌, ℕ, zero, suc, ◌&&◌, ◌||◌, nat_lt, nat_le, not, Bool, true, false, List, [], ◌∷◌, ◌++◌, length, map, Option, Some, None, option_map, is_some, bytes_eq, refl, sym, ap, ◌∙◌, subst, if◌then◌else◌}
+use Rattle.std.proofs.Common.{◌≡◌, ℕ, suc, ◌&&◌, ◌||◌, nat_lt, nat_le, Bool, true, false, List, [], ◌∷◌, ◌++◌, length, map, Option, Some, None, is_some, bytes_eq, refl, sym, ap, ◌∙◌, subst, if◌then◌else◌}
 use Rattle.std.specs.List.{list_all, list_any, AllByRecursion}
 use Rattle.std.specs.Option.{option_or}
 use Rattle.std.proofs.lemmas.Bool.{and_from}
@@ -11,10 +11,10 @@ use Rattle.fix_settings.specs.declared.key.TheConstants.{KEYS}
 use Rattle.fix_settings.specs.declared.fault.SettingsFault.{SettingsFault}
 use Rattle.fix_settings.specs.declared.fault.SettingsCause.TheVariants as cause
 use Rattle.fix_settings.specs.declared.session_settings.SessionSettings.{SessionSettings}
-use Rattle.fix_settings.specs.Lines.{Pair, Line, Section, lines_of, numbered, read_lines, defaults_of, sections_of}
+use Rattle.fix_settings.specs.Lines.{Pair, Line, Section, read_lines, defaults_of, sections_of}
 use Rattle.fix_settings.specs.Forms.{Value, value_in, value_text}
 use Rattle.fix_settings.specs.Table.{Rule, rule_of, name_of, setting_of}
-use Rattle.fix_settings.specs.Reading.{first_some, value_from, pair_for, is_right, refused, key_refusal, keys_refusal, section_refusal, line_refusal, text_for, Party, party_of, is_same, same_refusal, count_refusal, sections_refusal, lines_refusal, refusal_of, IsSession, AreSessions, AreSessionsOf, AreInOrder, ignored_of, is_known, unknown_of}
+use Rattle.fix_settings.specs.Reading.{first_some, value_from, pair_for, is_right, refused, key_refusal, section_refusal, line_refusal, text_for, Party, party_of, is_same, same_refusal, count_refusal, sections_refusal, lines_refusal, IsSession, AreSessions, AreInOrder, ignored_of}
 use Rattle.fix_settings.specs.Lawful.{IsAllowed, IsLawful}
 use Rattle.fix_settings.specs.Printing.{settings_text}
 use Rattle.fix_settings.specs.Again.{IsPrintable, ArePrintable, IsAgain, AreAgain, ReadsBack, party_for}

@@ -1,20 +1,19 @@
 -- What is read is lawful.
-use Rattle.std.proofs.Common.{◌≡◌, ℕ, Bool, true, false, ◌&&◌, is_some, List, [], ◌∷◌, ◌++◌, map, codes, Option, Some, None, refl, sym, ap, ◌∙◌, subst}
+use Rattle.std.proofs.Common.{◌≡◌, ℕ, Bool, true, false, is_some, List, [], ◌∷◌, ◌++◌, map, codes, Option, Some, None, refl, sym, ap, ◌∙◌, subst}
 use Rattle.std.specs.List.{list_all, AllByRecursion}
 use Rattle.std.specs.Option.{option_or}
 use Rattle.std.proofs.lemmas.Bool.{and_parts}
 use Rattle.fix_base.specs.Lists.{Among, here, there}
 use Rattle.fix_settings.specs.declared.key.Key.{Key}
 use Rattle.fix_settings.specs.declared.key.Key.TheVariants as key
-use Rattle.fix_settings.specs.declared.fault.SettingsFault.{SettingsFault}
 use Rattle.fix_settings.specs.declared.session_settings.SessionSettings.{SessionSettings}
 use Rattle.fix_settings.specs.Lines.{Pair, Section, Line, defaults_of, sections_of, read_lines}
 use Rattle.fix_settings.specs.Forms.{Value, value_in}
-use Rattle.fix_settings.specs.Table.{Rule, rule_of, setting_of}
-use Rattle.fix_settings.specs.Reading.{first_some, value_from, pair_for, is_right, key_refusal, keys_refusal, section_refusal, refused, IsSession, AreSessions, AreSessionsOf, lines_refusal, line_refusal, sections_refusal, count_refusal, same_refusal, party_of, refusal_of}
+use Rattle.fix_settings.specs.Table.{Rule, rule_of}
+use Rattle.fix_settings.specs.Reading.{first_some, value_from, pair_for, is_right, key_refusal, section_refusal, refused, IsSession, AreSessions, AreSessionsOf, lines_refusal, line_refusal, sections_refusal, count_refusal, same_refusal, party_of, refusal_of}
 use Rattle.fix_settings.specs.declared.fault.SettingsCause.TheVariants as cause
 use Rattle.std.specs.Str.{IsUtf8}
-use Rattle.fix_settings.specs.Lawful.{IsValueOf, IsAllowed, IfUtf8, IsLawful}
+use Rattle.fix_settings.specs.Lawful.{IsAllowed, IfUtf8, IsLawful}
 use Rattle.fix_settings.proofs.TextLemmas.{PairUtf8, read_utf8, defaults_utf8, all_both}
 use Rattle.fix_settings.proofs.Utf8Lemmas.{SectionUtf8, sections_utf8, for_utf8, ignored_utf8}
 use Rattle.fix_settings.proofs.ShapeLemmas.{right_pair, right_value}

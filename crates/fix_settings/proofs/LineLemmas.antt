@@ -1,11 +1,10 @@
 -- Lines: where a text is cut, and what is trimmed.
-use Rattle.std.proofs.Common.{◌-◌, length-drop, ◌≡◌, ◌≢◌, ◌⊎◌, inl, inr, ℕ, zero, suc, ◌+◌, ◌<◌, ◌≤◌, ◌==◌, if◌then◌else◌, Bool, true, false, List, [], ◌∷◌, ◌++◌, length, get_or, take, drop, Option, Some, None, option_map, unwrap_or, append_assoc, add-one, drop-cons, refl, sym, ap, ◌∙◌, arith, subst}
-use Rattle.std.specs.List.{onto_first}
+use Rattle.std.proofs.Common.{◌-◌, length-drop, ◌≡◌, ◌≢◌, inl, inr, ℕ, zero, suc, ◌+◌, ◌<◌, ◌==◌, true, false, List, [], ◌∷◌, ◌++◌, length, get_or, take, drop, Option, Some, None, option_map, append_assoc, add-one, drop-cons, refl, sym, ap, ◌∙◌, arith}
 use Rattle.std.specs.Option.{option_or}
 use Rattle.std.proofs.lemmas.List.{map-append, take_all}
 use Rattle.std.proofs.lemmas.Bool.{cases_Bool}
-use Rattle.std.proofs.lemmas.Bool.Decides.{nat_tests, Decides-eqb}
-use Rattle.fix_settings.specs.Lines.{Pair, Line, Passed, Default, Session, Given, Wrong, is_blank, trim_front, trim_back, unless_blank, cut_at, onto_cut, lines_of, IsCut, onto_line, line_of, numbered, last_of, with_key, run_of, defaults_of, is_default}
+use Rattle.std.proofs.lemmas.Bool.Decides.{nat_tests}
+use Rattle.fix_settings.specs.Lines.{Pair, Line, Passed, Default, Session, Given, Wrong, is_blank, trim_back, unless_blank, cut_at, onto_cut, lines_of, IsCut, line_of, numbered, last_of, with_key, run_of, defaults_of, is_default}
 use Rattle.fix_settings.specs.Lent.{line_read, lines_read, pair_read}
 use Rattle.fix_settings.specs.declared.line.LineRef.{LineRef}
 use Rattle.fix_settings.specs.declared.line.PairRef.{PairRef}

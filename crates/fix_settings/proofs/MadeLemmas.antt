@@ -1,5 +1,5 @@
 -- A session's fields and its settings.
-use Rattle.std.proofs.Common.{◌≡◌, List, ℕ, Option, Some, None, option_map, refl, ap, sym, ◌∙◌, Vec}
+use Rattle.std.proofs.Common.{◌≡◌, List, ℕ, Option, Some, None, option_map, refl, ap, ◌∙◌}
 use Rattle.fix_settings.specs.declared.key.Key.{Key}
 use Rattle.fix_settings.specs.declared.key.Key.TheVariants as key
 use Rattle.fix_settings.specs.declared.session_settings.SessionSettings.{SessionSettings}

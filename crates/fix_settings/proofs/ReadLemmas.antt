@@ -1,24 +1,19 @@
 -- From pairs in the table's order to the session's settings.
-use Rattle.std.proofs.Common.{◌≡◌, ℕ, Bool, true, false, ◌&&◌, is_some, List, [], ◌∷◌, ◌++◌, map, Option, Some, None, option_map, refl, sym, ap, ◌∙◌, subst, if◌then◌else◌}
-use Rattle.std.specs.List.{list_all}
+use Rattle.std.proofs.Common.{◌≡◌, ℕ, List, [], ◌∷◌, ◌++◌, map, Option, Some, None, refl, sym, ap, ◌∙◌}
 use Rattle.std.specs.Option.{option_or}
-use Rattle.std.proofs.lemmas.Bool.{cases_Bool}
 use Rattle.std.proofs.lemmas.List.{map-append}
 use Rattle.fix_base.specs.Lists.{Among, here, there}
 use Rattle.fix_base.specs.Lists.{Among, here, there}
 use Rattle.fix_settings.specs.declared.key.Key.{Key}
 use Rattle.fix_settings.specs.declared.key.Key.TheVariants as key
 use Rattle.fix_settings.specs.declared.key.TheConstants.{KEYS}
-use Rattle.fix_settings.specs.declared.form.Form.{Form}
-use Rattle.fix_settings.specs.declared.form.Form.TheVariants as form
 use Rattle.fix_settings.specs.declared.fault.SettingsFault.{SettingsFault}
 use Rattle.fix_settings.specs.declared.session_settings.SessionSettings.{SessionSettings}
 use Rattle.fix_settings.specs.Lines.{Pair, Section}
-use Rattle.fix_settings.specs.Forms.{Value, Version, Number, Port, Clock, Day, Flag, Fine, Text, Types, value_in}
-use Rattle.fix_settings.specs.Table.{Rule, rule_of, setting_of}
+use Rattle.fix_settings.specs.Table.{rule_of, setting_of}
 use Rattle.fix_settings.specs.Lent.{pair_at}
 use Rattle.fix_settings.specs.Typed.{shaped}
-use Rattle.fix_settings.specs.Reading.{first_some, value_from, value_for, pair_for, is_right, key_refusal, keys_refusal, section_refusal, Party, party_from, party_of, IsSession, AreSessions}
+use Rattle.fix_settings.specs.Reading.{first_some, value_from, key_refusal, keys_refusal, section_refusal, Party, party_from, party_of, IsSession, AreSessions}
 use Rattle.fix_settings.proofs.ShapeLemmas.{keeps_shape}
 
 -- the pairs in the table's order, by their keys

@@ -1,5 +1,5 @@
 -- Sections read one after another.
-use Rattle.std.proofs.Common.{◌≡◌, ℕ, suc, ◌+◌, ◌<◌, List, [], ◌∷◌, ◌++◌, length, map, take, drop, get_or, refl, sym, ap, ◌∙◌, subst, add-one, drop-cons}
+use Rattle.std.proofs.Common.{◌≡◌, ℕ, ◌+◌, ◌<◌, List, [], ◌∷◌, ◌++◌, length, map, take, drop, get_or, sym, ap, ◌∙◌, subst, add-one, drop-cons}
 use Rattle.std.proofs.lemmas.List.{map-append}
 use Rattle.std.proofs.Math.Seq.{take-suc}
 use Rattle.fix_settings.specs.declared.session_settings.SessionSettings.{SessionSettings}
@@ -7,7 +7,6 @@ use Rattle.fix_settings.specs.declared.section.SectionRef.{SectionRef}
 use Rattle.fix_settings.specs.declared.judging.PartyRef.{PartyRef}
 use Rattle.fix_settings.specs.Lines.{Pair, Section}
 use Rattle.fix_settings.specs.Lent.{section_read, party_read}
-use Rattle.fix_settings.specs.Reading.{Party}
 use Rattle.fix_settings.specs.Read.{IsGiven}
 use Rattle.fix_settings.proofs.ReadLemmas.{SoFar, section_more}
 

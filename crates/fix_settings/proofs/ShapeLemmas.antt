@@ -1,6 +1,6 @@
 -- What a value that isn't refused says has the type of its key's field.
-use Rattle.std.proofs.Common.{◌≡◌, ℕ, Bool, true, false, ◌&&◌, is_some, List, [], ◌∷◌, bytes_eq, codes, nat_lt, length, Option, Some, None, option_map, refl, sym, ap, ◌∙◌, if◌then◌else◌, inl, inr}
-use Rattle.std.proofs.lemmas.Bool.{cases_Bool, and_parts}
+use Rattle.std.proofs.Common.{◌≡◌, ℕ, Bool, true, false, is_some, List, bytes_eq, codes, nat_lt, length, Option, Some, None, option_map, refl, if◌then◌else◌}
+use Rattle.std.proofs.lemmas.Bool.{and_parts}
 use Rattle.fix_base.specs.declared.identity.Begin.{Begin}
 use Rattle.fix_base.specs.declared.precision.Precision.{Precision}
 use Rattle.fix_base.specs.Session.{is_comp_id}
@@ -12,7 +12,7 @@ use Rattle.fix_settings.specs.declared.fault.SettingsCause.TheVariants as cause
 use Rattle.fix_settings.specs.Lines.{Pair}
 use Rattle.fix_settings.specs.Forms as forms
 use Rattle.fix_settings.specs.Forms.{Value, Version, Number, Port, Clock, Day, Flag, Fine, Text, Types, value_in, version_in, clock_in, day_in, flag_in, precision_in, types_in}
-use Rattle.fix_settings.specs.Table.{Rule, rule_of}
+use Rattle.fix_settings.specs.Table.{rule_of}
 use Rattle.fix_settings.specs.Typed.{version_of, number_of, flag_of, precision_of, text_of, port_if, clock_if, day_if, text_if, types_if, shaped}
 use Rattle.fix_settings.specs.Reading.{value_from, is_right, key_refusal, refused}
 

@@ -1,9 +1,7 @@
 -- Values of UTF-8 texts are UTF-8.
-use Rattle.std.proofs.Common.{◌≡◌, ℕ, zero, suc, ◌<◌, ◌≤◌, ◌==◌, Bool, true, false, List, [], ◌∷◌, ◌++◌, length, map, Option, Some, None, option_map, bytes_eq, codes, nat_lt, not, refl, sym, ap, ◌∙◌, subst, arith, inl, inr, if◌then◌else◌}
-use Rattle.std.specs.Prelude.{flat_map}
+use Rattle.std.proofs.Common.{◌≡◌, ℕ, zero, suc, ◌≤◌, ◌==◌, Bool, true, false, List, [], ◌∷◌, ◌++◌, length, Option, Some, None, option_map, bytes_eq, codes, nat_lt, refl, sym, subst, arith, inl, inr, if◌then◌else◌}
 use Rattle.std.specs.Str.{IsUtf8}
 use Rattle.std.specs.List.{AllByRecursion, slice_split, list_all}
-use Rattle.std.specs.Option.{option_or}
 use Rattle.fix_base.specs.Session.{is_comp_id}
 use Rattle.fix_base.specs.Says.{number_in}
 use Rattle.fix_base.specs.Lists.{Among, here, there}
@@ -12,12 +10,12 @@ use Rattle.fix_settings.specs.declared.key.Key.{Key}
 use Rattle.fix_settings.specs.declared.key.Key.TheVariants as key
 use Rattle.fix_settings.specs.declared.form.Form.{Form}
 use Rattle.fix_settings.specs.declared.form.Form.TheVariants as form
-use Rattle.fix_settings.specs.Lines.{Pair, Line, Passed, Default, Session, Given, Wrong, Section, cut_at, run_of, defaults_of, sections_of, last_of}
-use Rattle.fix_settings.specs.Forms.{Value, Version, Number, Port, Clock, Day, Flag, Fine, Text, Types, value_in, text_if, version_in, clock_in, day_in, flag_in, precision_in, types_in, is_type}
-use Rattle.fix_settings.specs.Table.{Rule, rule_of, name_of}
+use Rattle.fix_settings.specs.Lines.{Pair, Line, Passed, Default, Session, Given, Wrong, Section, cut_at, sections_of, last_of}
+use Rattle.fix_settings.specs.Forms.{Value, Version, Number, Port, Clock, Day, Flag, Fine, Types, value_in, text_if, version_in, clock_in, day_in, flag_in, precision_in, is_type}
+use Rattle.fix_settings.specs.Table.{rule_of, name_of}
 use Rattle.fix_settings.specs.Reading.{value_from, pair_for, is_known, unknown_of, ignored_of}
 use Rattle.fix_settings.specs.Lawful.{ValueUtf8, IfUtf8}
-use Rattle.fix_settings.proofs.FormLemmas.{IsPiece, piece_cut, one_piece}
+use Rattle.fix_settings.proofs.FormLemmas.{piece_cut, one_piece}
 use Rattle.fix_settings.proofs.TextLemmas.{utf8_front, utf8_behind, cut_is, PairUtf8, LineUtf8, IfPair, run_utf8, either_utf8, last_utf8}
 
 pieces_from : (n : ℕ) (text : List ℕ) (o : Option (List ℕ × List ℕ)) → length text ≤ n → cut_at 44 text ≡ o → IsUtf8 text → AllByRecursion IsUtf8 (slice_split (λ b. b == 44) text)

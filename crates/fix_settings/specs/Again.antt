@@ -1,5 +1,5 @@
 -- What is printed and read again.
-use Rattle.std.specs.Prelude.{◌≡◌, ℕ, ◌==◌, ◌&&◌, nat_lt, nat_le, not, Bool, true, List, [], ◌∷◌, length, map, Option, Some, None}
+use Rattle.std.specs.Prelude.{◌≡◌, ℕ, ◌==◌, ◌&&◌, nat_lt, nat_le, not, Bool, true, List, [], ◌∷◌, length, map, Some, None}
 use Rattle.std.specs.List.{list_all, AllByRecursion}
 use Rattle.fix_base.specs.Session.{begin_string_of}
 use Rattle.fix_settings.specs.declared.key.Key.{Key}

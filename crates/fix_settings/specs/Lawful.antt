@@ -1,5 +1,5 @@
 -- Settings that a session can be run with.
-use Rattle.std.specs.Prelude.{◌≡◌, ℕ, Bool, true, false, List, [], ◌∷◌, is_some, Option, Some, None}
+use Rattle.std.specs.Prelude.{◌≡◌, ℕ, true, false, List, is_some, Option, Some, None}
 use Rattle.fix_base.specs.Lists.{Among}
 use Rattle.fix_settings.specs.declared.key.Key.{Key}
 use Rattle.fix_settings.specs.declared.session_settings.SessionSettings.{SessionSettings}

@@ -1,5 +1,5 @@
 -- What a settings text says of each session, and the first reason to refuse it.
-use Rattle.std.specs.Prelude.{◌≡◌, ℕ, ◌+◌, ◌&&◌, ◌||◌, nat_lt, nat_le, not, if◌then◌else◌, Bool, true, false, List, [], ◌∷◌, ◌++◌, length, map, flat_map, codes, bytes_eq, Option, Some, None, option_map, option_and_then, is_some}
+use Rattle.std.specs.Prelude.{◌≡◌, ℕ, ◌&&◌, ◌||◌, nat_lt, nat_le, if◌then◌else◌, Bool, true, false, List, [], ◌∷◌, ◌++◌, length, map, flat_map, codes, bytes_eq, Option, Some, None, is_some}
 use Rattle.std.specs.List.{list_all, list_any}
 use Rattle.std.specs.Option.{option_or}
 use Rattle.std.specs.Cmp.Lexicographic.{slice_cmp}
@@ -13,7 +13,7 @@ use Rattle.fix_settings.specs.declared.fault.SettingsFault.{SettingsFault}
 use Rattle.fix_settings.specs.declared.fault.SettingsCause.{SettingsCause}
 use Rattle.fix_settings.specs.declared.fault.SettingsCause.TheVariants as cause
 use Rattle.fix_settings.specs.declared.session_settings.SessionSettings.{SessionSettings}
-use Rattle.fix_settings.specs.Lines.{Line, Passed, Default, Session, Given, Wrong, Pair, Section, read_lines, is_heading, run_of, defaults_of, sections_of, last_of}
+use Rattle.fix_settings.specs.Lines.{Line, Passed, Default, Session, Given, Wrong, Pair, Section, read_lines, is_heading, defaults_of, sections_of, last_of}
 use Rattle.fix_settings.specs.Forms.{Value, value_in}
 use Rattle.fix_settings.specs.Table.{Rule, rule_of, name_of, setting_of}
 

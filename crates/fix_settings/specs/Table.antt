@@ -1,6 +1,5 @@
 -- The table of keys, a row for each, in the order in which keys are judged and printed.
-use Rattle.std.specs.Prelude.{◌≡◌, ℕ, Bool, true, false, List, [], ◌∷◌, map, codes, Option, Some, None, option_map}
-use Rattle.std.specs.List.{slice_split}
+use Rattle.std.specs.Prelude.{ℕ, Bool, true, false, List, [], ◌∷◌, codes, Option, Some, None, option_map}
 use Rattle.fix_base.specs.declared.precision.Precision.TheVariants.{Millis}
 use Rattle.fix_settings.specs.declared.form.Form.{Form}
 use Rattle.fix_settings.specs.declared.form.Form.TheVariants as form

@@ -1,5 +1,5 @@
 -- Fields made of values: what a value says as the type of a field.
-use Rattle.std.specs.Prelude.{◌≡◌, ℕ, Bool, false, List, [], Option, Some, None, option_map}
+use Rattle.std.specs.Prelude.{ℕ, Bool, false, List, [], Option, Some, None, option_map}
 use Rattle.fix_base.specs.declared.identity.Begin.{Begin}
 use Rattle.fix_base.specs.declared.identity.Begin.TheVariants.{Fix42}
 use Rattle.fix_base.specs.declared.precision.Precision.{Precision}

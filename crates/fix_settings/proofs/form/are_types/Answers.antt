@@ -1,4 +1,4 @@
-use Rattle.std.proofs.Common.{sym, arith}
+use Rattle.std.proofs.Common.{sym}
 use Rattle.fix_settings.proofs.FormLemmas.{piece_cut, types_fail, types_more, types_end}
 use Rattle.fix_settings.proofs.form.are_types.Goals as goal
 

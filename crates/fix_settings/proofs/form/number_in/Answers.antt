@@ -1,4 +1,4 @@
-use Rattle.std.proofs.Common.{◌+◌, ◌*◌, sym, subst, List, ℕ, Option, None, Some, ◌≡◌, ◌<◌, ◌≤◌, take, length, ap, ◌∙◌, arith}
+use Rattle.std.proofs.Common.{◌+◌, sym, subst, Some, ◌≡◌, ◌<◌, take, length, ap, ◌∙◌, arith}
 use Rattle.std.specs.Str.Parse.{digits_value, AllDigits}
 use Rattle.std.proofs.lemmas.List.{take_all}
 use Rattle.fix_settings.proofs.FormLemmas.{not_digit, too_large, number_more, more_digits, is_number, too_small}

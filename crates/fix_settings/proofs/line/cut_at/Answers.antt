@@ -1,4 +1,4 @@
-use Rattle.std.proofs.Common.{refl, ◌≡◌, ◌+◌, ◌-◌, ◌≤◌, ◌<◌, suc, add-one, length, take, drop, ap, sym, arith, List, ℕ, length-drop}
+use Rattle.std.proofs.Common.{refl, ◌+◌, ◌-◌, ◌≤◌, add-one, length, drop, sym, arith, length-drop}
 use Rattle.std.proofs.lemmas.List.{take_all}
 use Rattle.fix_settings.proofs.LineLemmas.{cut_found, cut_none}
 use Rattle.fix_settings.proofs.line.cut_at.Goals as goal

@@ -1,4 +1,4 @@
-use Rattle.std.proofs.Common.{refl, ◌≡◌, sym, Some, None, option_map, Option, List, ℕ, ap, ◌∙◌}
+use Rattle.std.proofs.Common.{sym}
 use Rattle.fix_settings.proofs.LineLemmas.{lines_cut, no_line}
 use Rattle.fix_settings.proofs.line.first_line.Goals as goal
 

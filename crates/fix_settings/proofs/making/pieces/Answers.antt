@@ -1,4 +1,4 @@
-use Rattle.std.proofs.Common.{sym, ◌∙◌, ap, ◌∷◌, ◌++◌, []}
+use Rattle.std.proofs.Common.{sym}
 use Rattle.fix_settings.proofs.FormLemmas.{piece_cut, pieces_more, pieces_end}
 use Rattle.fix_settings.proofs.making.pieces.Goals as goal
 

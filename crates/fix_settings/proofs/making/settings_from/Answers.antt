@@ -1,4 +1,4 @@
-use Rattle.std.proofs.Common.{sym, ◌∙◌, ap}
+use Rattle.std.proofs.Common.{◌∙◌, ap}
 use Rattle.fix_settings.specs.Typed.{version_of, number_of, flag_of, precision_of, text_of, port_if, clock_if, day_if, text_if, types_if}
 use Rattle.fix_settings.proofs.MadeLemmas.{is_made}
 use Rattle.fix_settings.proofs.making.settings_from.Goals as goal

@@ -2,9 +2,9 @@ use Rattle.std.proofs.Common.{◌≡◌, ◌++◌, sym, ◌∙◌, ap, subst}
 use Rattle.std.proofs.lemmas.Grind.{flat_map-append}
 use Rattle.fix_settings.specs.Lines.{defaults_of, run_of}
 use Rattle.fix_settings.specs.Lent.{lines_read, pairs_read, pair_at, names_read}
-use Rattle.fix_settings.specs.Table.{setting_of, rule_of}
+use Rattle.fix_settings.specs.Table.{rule_of}
 use Rattle.fix_settings.specs.Typed.{shaped}
-use Rattle.fix_settings.specs.Reading.{pair_for, keys_refusal, value_from, party_from, ignored_of, unknown_of, AreInOrder}
+use Rattle.fix_settings.specs.Reading.{pair_for, value_from, ignored_of, unknown_of, AreInOrder}
 use Rattle.fix_settings.proofs.ReadLemmas.{read_refused, read_right, read_each, read_party}
 use Rattle.fix_settings.proofs.reading.read_section.Goals as goal
 

@@ -1,5 +1,4 @@
-use Rattle.std.proofs.Common.{◌+◌, refl, sym, ◌∙◌, ap, option_map, Option}
-use Rattle.std.specs.Option.{option_or}
+use Rattle.std.proofs.Common.{◌+◌, sym, ◌∙◌, ap, option_map}
 use Rattle.fix_settings.specs.Lent.{pair_read}
 use Rattle.fix_settings.specs.declared.line.LineRef.TheVariants.{Passed}
 use Rattle.fix_settings.proofs.LineLemmas.{after_default, after_other, read_or, whole_rest}

@@ -1,4 +1,4 @@
-use Rattle.std.proofs.Common.{◌≡◌, sym, ◌∙◌, ap, refl, get_or, option_map, arith}
+use Rattle.std.proofs.Common.{◌≡◌, ◌∙◌, ap, refl, get_or, arith}
 use Rattle.fix_settings.specs.declared.key.Key.TheVariants.{BeginString}
 use Rattle.fix_settings.specs.Lines.{last_of, run_of}
 use Rattle.fix_settings.specs.Lent.{lines_read}

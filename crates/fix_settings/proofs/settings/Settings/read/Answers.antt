@@ -1,4 +1,4 @@
-use Rattle.std.proofs.Common.{◌≡◌, None, sym, ap, ◌∙◌, subst, Ok}
+use Rattle.std.proofs.Common.{◌≡◌, None, sym, ap, ◌∙◌, subst}
 use Rattle.fix_settings.specs.Reading.{refusal_of, AreSessionsOf}
 use Rattle.fix_settings.proofs.LawfulLemmas.{text_lawful}
 use Rattle.fix_settings.proofs.settings.Settings.read.Goals as goal
