@@ -5,8 +5,8 @@ ghost use Rattle.fix_base.specs.Seen.{grown};
 ghost use Rattle.fix_parts.specs.Tape.{act_of, bytes_in, bytes_in_entry, bytes_in_record};
 
 use crate::Noted;
-use fix_disk::{put, put_bytes};
 use fix_base::{Act, Bytes, Entry, OutOfMemory, Record};
+use fix_disk::{put, put_bytes};
 use std::alloc::Global;
 use std::mem;
 

@@ -7,8 +7,8 @@ ghost use Rattle.fix_top.specs.Sample.{SAMPLE, SAMPLE_TIME, ROOM as SAMPLE_ROOM,
 
 use crate::serve::serve_stdio;
 use fix_base::{Bytes, OutOfMemory, Status};
-use fix_engine::Plain;
 use fix_disk::MemorySink;
+use fix_engine::Plain;
 use fix_parts::{KeptTape, LineApp, MemoryClock, MemoryLink};
 use std::alloc::Global;
 

@@ -8,8 +8,8 @@ ghost use Rattle.std.specs.Prelude.{◌≡◌, ◌↔◌, map};
 ghost use Rattle.fix_top.specs.Words.{IsNoForm};
 
 use fix_base::Status;
-use fix_engine::Plain;
 use fix_disk::StreamSink;
+use fix_engine::Plain;
 use fix_parts::{LineApp, NoTape, StdioLink, SystemClock};
 use fix_top::{serve_stdio, status_name};
 use help::{HELP, VERSION};
