@@ -58,10 +58,24 @@ fn sinks<S: Sink>(alloc: Global, sink: &mut S, texts: &[&[u8]]) -> Result<Vec<bo
     Ok(turns)
 }
 
-fn hands<A: App>(alloc: Global, app: &mut A, messages: &[Handed<'_>]) -> Result<Vec<Said>, Fail> {
+// What the application in memory says to each message.
+fn keeps(alloc: Global, app: &mut MemoryApp, messages: &[Handed<'_>]) -> Result<Vec<Said>, Fail> {
     let mut turns = Vec::new(alloc);
-    for h in messages {
-        turns.push(app.hand(h))?;
+    for message in messages {
+        turns.push(app.hand(message))?;
+    }
+    Ok(turns)
+}
+
+// What the application that writes lines says to each message.
+fn shows(
+    alloc: Global,
+    app: &mut LineApp<MemorySink>,
+    messages: &[Handed<'_>],
+) -> Result<Vec<Said>, Fail> {
+    let mut turns = Vec::new(alloc);
+    for message in messages {
+        turns.push(app.hand(message))?;
     }
     Ok(turns)
 }
@@ -122,7 +136,7 @@ fn an_application_keeps_what_it_takes(rt: HostRuntime) -> Result<(), Fail> {
     let mut app = MemoryApp::new(alloc, 2, Vec::from_slice(alloc, &[2])?)?;
     let order = message(2, true, b"35=D\x01");
     let cancel = message(3, false, b"35=F\x01");
-    let turns = hands(alloc, &mut app, &[order, cancel, cancel, cancel])?;
+    let turns = keeps(alloc, &mut app, &[order, cancel, cancel, cancel])?;
     let want = [Said::Taken, Said::Failed, Said::Taken, Said::Failed];
     assert_eq!(rt; turns.as_slice(), want.as_slice());
     let want = [
@@ -208,7 +222,7 @@ fn messages_are_shown_as_lines(rt: HostRuntime) -> Result<(), Fail> {
     let mut app = LineApp::new(rt.alloc(), sink);
     let order = message(2, false, ORDER);
     let odd = message(4294967295, true, b"58=a|b\\c\x00\x1f\x7f\xff ~\n\x01");
-    let turns = hands(
+    let turns = shows(
         rt.alloc(),
         &mut app,
         &[order, odd, order, message(5, false, b"")],
