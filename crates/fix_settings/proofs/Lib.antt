@@ -15,3 +15,4 @@ pub mod BackLemmas
 pub mod LawLemmas
 pub mod KeptLemmas
 pub mod SaysLemmas
+pub mod ValueLemmas
