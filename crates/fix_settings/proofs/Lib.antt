@@ -16,3 +16,5 @@ pub mod LawLemmas
 pub mod KeptLemmas
 pub mod SaysLemmas
 pub mod ValueLemmas
+pub mod CutLemmas
+pub mod PairLemmas

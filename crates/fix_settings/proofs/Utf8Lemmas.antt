@@ -16,7 +16,9 @@ use Rattle.fix_settings.specs.Table.{rule_of, name_of}
 use Rattle.fix_settings.specs.Reading.{value_from, pair_for, is_known, unknown_of, ignored_of}
 use Rattle.fix_settings.specs.Lawful.{ValueUtf8, IfUtf8}
 use Rattle.fix_settings.proofs.FormLemmas.{piece_cut, one_piece}
-use Rattle.fix_settings.proofs.TextLemmas.{utf8_front, utf8_behind, cut_is, PairUtf8, LineUtf8, IfPair, run_utf8, either_utf8, last_utf8}
+use Rattle.fix_settings.proofs.CutLemmas.{cut_is}
+use Rattle.fix_settings.proofs.PairLemmas.{IfPair, for_has}
+use Rattle.fix_settings.proofs.TextLemmas.{utf8_front, utf8_behind, PairUtf8}
 
 pieces_from : (n : ℕ) (text : List ℕ) (o : Option (List ℕ × List ℕ)) → length text ≤ n → cut_at 44 text ≡ o → IsUtf8 text → AllByRecursion IsUtf8 (slice_split (λ b. b == 44) text)
 pieces_from n text None le e u = subst (AllByRecursion IsUtf8) (sym (one_piece text e)) (u, tt)
@@ -94,35 +96,9 @@ standard_utf8 key.FileStorePath = tt
 standard_utf8 key.TimeStampPrecision = tt
 standard_utf8 key.AppTypes = tt
 
-from_utf8 : (k : Key) (o : Option Pair) → IfPair o → IfUtf8 (value_from (rule_of k) o)
+from_utf8 : (k : Key) (o : Option Pair) → IfPair PairUtf8 o → IfUtf8 (value_from (rule_of k) o)
 from_utf8 k None u = standard_utf8 k
 from_utf8 k (Some p) u = value_utf8 (rule_of k).form p.value u.1
 
 pub for_utf8 : (defaults own : List Pair) (k : Key) → AllByRecursion PairUtf8 defaults → AllByRecursion PairUtf8 own → IfUtf8 (value_from (rule_of k) (pair_for defaults own k))
-for_utf8 defaults own k d o = from_utf8 k (pair_for defaults own k) (either_utf8 (last_of (name_of k) own) (last_of (name_of k) defaults) (last_utf8 (name_of k) own o) (last_utf8 (name_of k) defaults d))
-
-unknown_utf8 : (b : Bool) (key name : List ℕ) → IsUtf8 key → Among name (if b then [] else key ∷ []) → IsUtf8 name
-unknown_utf8 true key name u m = absurd (elim m [ ])
-unknown_utf8 false key name u m = one key name u m
-  where
-    one : (key name : List ℕ) → IsUtf8 key → Among name (key ∷ []) → IsUtf8 name
-    one key name u here = u
-    one key name u (there m) = absurd (elim m [ ])
-
-pub ignored_utf8 : (ps : List Pair) (name : List ℕ) → AllByRecursion PairUtf8 ps → Among name (ignored_of ps) → IsUtf8 name
-ignored_utf8 [] name all m = absurd (elim m [ ])
-ignored_utf8 (p ∷ ps) name all m = elim (Among-append_cases (unknown_of p) (ignored_of ps) m) [
-  | inl a ↦ unknown_utf8 (is_known p.key) p.key name all.0.0 a
-  | inr b ↦ ignored_utf8 ps name all.1 b
-]
-
-abbrev pub SectionUtf8 : Section → Type 0
-SectionUtf8 s = AllByRecursion PairUtf8 s.pairs
-
-pub sections_utf8 : (lines : List Line) → AllByRecursion LineUtf8 lines → AllByRecursion SectionUtf8 (sections_of lines)
-sections_utf8 [] all = tt
-sections_utf8 (Passed ∷ ls) all = sections_utf8 ls all.1
-sections_utf8 (Default ∷ ls) all = sections_utf8 ls all.1
-sections_utf8 (Session n ∷ ls) all = (run_utf8 ls all.1, sections_utf8 ls all.1)
-sections_utf8 (Given p ∷ ls) all = sections_utf8 ls all.1
-sections_utf8 (Wrong n ∷ ls) all = sections_utf8 ls all.1
+for_utf8 defaults own k d o = from_utf8 k (pair_for defaults own k) (for_has PairUtf8 defaults own k d o)
