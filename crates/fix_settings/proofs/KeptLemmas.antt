@@ -1,10 +1,8 @@
 -- What stands in lines can stand in lines.
-use Rattle.std.proofs.Common.{◌≡◌, inl, inr, ℕ, ◌+◌, ◌≤◌, ◌==◌, not, Bool, true, false, List, [], ◌∷◌, ◌++◌, length, Option, Some, None, bytes_eq, codes, refl, ap, subst, arith, if◌then◌else◌}
-use Rattle.std.specs.Str.{str_eq_ignore_ascii_case}
+use Rattle.std.proofs.Common.{◌≡◌, inl, inr, ℕ, ◌≤◌, ◌==◌, not, true, false, List, [], ◌∷◌, ◌++◌, length, refl, ap, arith}
 use Rattle.std.specs.List.{AllByRecursion, onto_first}
-use Rattle.std.specs.Option.{option_or}
 use Rattle.std.proofs.lemmas.Bool.{cases_Bool, and_parts, and_from}
-use Rattle.fix_settings.specs.Lines.{Pair, Line, Passed, Default, Session, Given, Wrong, is_blank, trim_front, trim_back, unless_blank, trimmed, cut_at, lines_of, onto_line, trimmed_line, pair_in, pair_of, numbered, read_lines, run_of, defaults_of, last_of, with_key}
+use Rattle.fix_settings.specs.Lines.{Pair, is_blank, trim_front, trim_back, unless_blank, trimmed, lines_of, onto_line, read_lines}
 use Rattle.fix_settings.specs.Again.{has_no_lf, IsLineText}
 use Rattle.fix_settings.proofs.PairLemmas.{Keeps, LineHas, read_has}
 

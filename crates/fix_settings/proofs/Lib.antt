@@ -18,3 +18,4 @@ pub mod SaysLemmas
 pub mod ValueLemmas
 pub mod CutLemmas
 pub mod PairLemmas
+pub mod GivenLemmas

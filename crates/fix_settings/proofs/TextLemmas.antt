@@ -1,11 +1,10 @@
 -- The texts of a UTF-8 text's lines are UTF-8.
-use Rattle.std.proofs.Common.{◌≡◌, inl, inr, ℕ, zero, suc, ◌+◌, ◌<◌, ◌≤◌, ◌==◌, ◌||◌, Bool, true, false, List, [], ◌∷◌, ◌++◌, length, length-append, get_or, take, drop, Option, Some, None, bytes_eq, codes, add-one, refl, sym, ap, ◌∙◌, subst, arith, if◌then◌else◌}
-use Rattle.std.specs.Str.{IsUtf8, str_eq_ignore_ascii_case}
+use Rattle.std.proofs.Common.{◌≡◌, inl, inr, ℕ, zero, suc, ◌+◌, ◌<◌, ◌≤◌, ◌==◌, ◌||◌, true, List, [], ◌∷◌, ◌++◌, length, length-append, get_or, take, drop, Option, Some, None, add-one, refl, sym, ap, ◌∙◌, subst, arith}
+use Rattle.std.specs.Str.{IsUtf8}
 use Rattle.std.specs.List.{AllByRecursion}
-use Rattle.std.specs.Option.{option_or}
 use Rattle.std.proofs.lemmas.Bool.{cases_Bool, or_cases, eqb-true}
 use Rattle.std.proofs.lemmas.Str.{IsUtf8-take, IsUtf8-drop, IsCharBoundary-before_ascii, IsCharBoundary-after_ascii}
-use Rattle.fix_settings.specs.Lines.{Pair, Line, Passed, Default, Session, Given, Wrong, is_blank, trim_front, trim_back, unless_blank, trimmed, cut_at, onto_cut, lines_of, trimmed_line, pair_in, pair_of, numbered, read_lines, run_of, defaults_of, last_of, with_key}
+use Rattle.fix_settings.specs.Lines.{Pair, is_blank, trim_front, trim_back, unless_blank, trimmed, cut_at, lines_of, read_lines}
 use Rattle.fix_settings.proofs.CutLemmas.{cut_is}
 use Rattle.fix_settings.proofs.LineLemmas.{lines_cut, no_line}
 use Rattle.fix_settings.proofs.PairLemmas.{Keeps, LineHas, read_has}

@@ -1,19 +1,17 @@
 -- Values of UTF-8 texts are UTF-8.
-use Rattle.std.proofs.Common.{◌≡◌, ℕ, zero, suc, ◌≤◌, ◌==◌, Bool, true, false, List, [], ◌∷◌, ◌++◌, length, Option, Some, None, option_map, bytes_eq, codes, nat_lt, refl, sym, subst, arith, inl, inr, if◌then◌else◌}
+use Rattle.std.proofs.Common.{◌≡◌, ℕ, zero, suc, ◌≤◌, ◌==◌, Bool, true, false, List, ◌∷◌, ◌++◌, length, Option, Some, None, option_map, bytes_eq, codes, nat_lt, refl, sym, subst, arith, if◌then◌else◌}
 use Rattle.std.specs.Str.{IsUtf8}
 use Rattle.std.specs.List.{AllByRecursion, slice_split, list_all}
 use Rattle.fix_base.specs.Session.{is_comp_id}
 use Rattle.fix_base.specs.Says.{number_in}
-use Rattle.fix_base.specs.Lists.{Among, here, there}
-use Rattle.fix_base.proofs.ListLemmas.{Among-append_cases}
 use Rattle.fix_settings.specs.declared.key.Key.{Key}
 use Rattle.fix_settings.specs.declared.key.Key.TheVariants as key
 use Rattle.fix_settings.specs.declared.form.Form.{Form}
 use Rattle.fix_settings.specs.declared.form.Form.TheVariants as form
-use Rattle.fix_settings.specs.Lines.{Pair, Line, Passed, Default, Session, Given, Wrong, Section, cut_at, sections_of, last_of}
+use Rattle.fix_settings.specs.Lines.{Pair, cut_at}
 use Rattle.fix_settings.specs.Forms.{Value, Version, Number, Port, Clock, Day, Flag, Fine, Types, value_in, text_if, version_in, clock_in, day_in, flag_in, precision_in, is_type}
-use Rattle.fix_settings.specs.Table.{rule_of, name_of}
-use Rattle.fix_settings.specs.Reading.{value_from, pair_for, is_known, unknown_of, ignored_of}
+use Rattle.fix_settings.specs.Table.{rule_of}
+use Rattle.fix_settings.specs.Reading.{value_from, pair_for}
 use Rattle.fix_settings.specs.Lawful.{ValueUtf8, IfUtf8}
 use Rattle.fix_settings.proofs.FormLemmas.{piece_cut, one_piece}
 use Rattle.fix_settings.proofs.CutLemmas.{cut_is}
