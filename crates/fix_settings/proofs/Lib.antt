@@ -19,3 +19,4 @@ pub mod ValueLemmas
 pub mod CutLemmas
 pub mod PairLemmas
 pub mod GivenLemmas
+pub mod PrintedLemmas
