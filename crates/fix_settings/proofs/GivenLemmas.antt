@@ -75,12 +75,12 @@ version_text t b h = elim (cases_Bool (bytes_eq t (codes "FIX.4.2"))) [
       let d = bytes_eq-Decides t (codes "FIX.4.2") in
       ap begin_string_of is ∙ sym (d.0 e))
   | inr f ↦ elim (cases_Bool (bytes_eq t (codes "FIX.4.4"))) [
-      | inl e ↦ (let s : Some Fix44 ≡ Some b = rw (f, e) at h in
-          let is : b ≡ Fix44 = cc in
-          let d = bytes_eq-Decides t (codes "FIX.4.4") in
-          ap begin_string_of is ∙ sym (d.0 e))
-      | inr g ↦ (let s : no_version ≡ Some b = rw (f, g) at h in cc)
-    ]
+    | inl e ↦ (let s : Some Fix44 ≡ Some b = rw (f, e) at h in
+        let is : b ≡ Fix44 = cc in
+        let d = bytes_eq-Decides t (codes "FIX.4.4") in
+        ap begin_string_of is ∙ sym (d.0 e))
+    | inr g ↦ (let s : no_version ≡ Some b = rw (f, g) at h in cc)
+  ]
 ]
 
 version_said : (o : Option Begin) (b : Begin) → option_map Version o ≡ Some (Version b) → o ≡ Some b

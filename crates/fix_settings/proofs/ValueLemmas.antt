@@ -89,7 +89,7 @@ two_again last at t n tens ones below small =
 clock_from : (t : List ℕ) (h m c s : ℕ) → (length t == 8) ≡ true → (slice_index t 2 == 58) ≡ true → (slice_index t 5 == 58) ≡ true → AreTwo 23 0 t h → AreTwo 59 3 t m → AreTwo 59 6 t c → h * 3600 + m * 60 + c ≡ s → clock_in t ≡ Some s
 clock_from t h m c s long first second hours minutes seconds is =
     let clock : is_clock t ≡ true = and_from (length t == 8) _ long (and_from (slice_index t 2 == 58) _ first (and_from (slice_index t 5 == 58) _ second
-        (and_from (is_two_at 23 0 t) _ hours.are (and_from (is_two_at 59 3 t) (is_two_at 59 6 t) minutes.are seconds.are)))) in
+    (and_from (is_two_at 23 0 t) _ hours.are (and_from (is_two_at 59 3 t) (is_two_at 59 6 t) minutes.are seconds.are)))) in
     let value : two_at 0 t * 3600 + two_at 3 t * 60 + two_at 6 t ≡ s = omega (arith, hours.say, minutes.say, seconds.say, is) in
     rw (clock, value) refl
 
@@ -141,12 +141,22 @@ DaySaysAgain d = SaysAgain form.Day (Day d)
 week : AllByRecursion DaySaysAgain (1 ∷ 2 ∷ 3 ∷ 4 ∷ 5 ∷ 6 ∷ 7 ∷ [])
 week = (
   computed form.Day (Day 1) refl refl refl refl,
-  (computed form.Day (Day 2) refl refl refl refl,
-  (computed form.Day (Day 3) refl refl refl refl,
-  (computed form.Day (Day 4) refl refl refl refl,
-  (computed form.Day (Day 5) refl refl refl refl,
-  (computed form.Day (Day 6) refl refl refl refl,
-  (computed form.Day (Day 7) refl refl refl refl, tt)))))),
+  (
+    computed form.Day (Day 2) refl refl refl refl,
+    (
+      computed form.Day (Day 3) refl refl refl refl,
+      (
+        computed form.Day (Day 4) refl refl refl refl,
+        (
+          computed form.Day (Day 5) refl refl refl refl,
+          (
+            computed form.Day (Day 6) refl refl refl refl,
+            (computed form.Day (Day 7) refl refl refl refl, tt),
+          ),
+        ),
+      ),
+    ),
+  ),
 )
 
 day_said : (t : List ℕ) (d : ℕ) → day_in t ≡ Some d → DaySaysAgain d

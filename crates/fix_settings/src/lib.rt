@@ -18,6 +18,8 @@ mod settings;
 mod table;
 #[cfg(test)]
 mod tests;
+#[cfg(test)]
+mod value_tests;
 
 pub use fault::{SettingsCause, SettingsFault};
 pub use key::{KEYS, Key};
