@@ -12,7 +12,7 @@ use Rattle.fix_settings.specs.Lines.{cut_at, onto_cut}
 use Rattle.fix_settings.specs.Forms.{is_type}
 use Rattle.fix_settings.proofs.CutLemmas.{parts, IsFirst, first_cut}
 
-numerals : IsNumeralModel (λ ds. all_ascii_digits ds ≡ true) (digits_value 10)
+pub numerals : IsNumeralModel (λ ds. all_ascii_digits ds ≡ true) (digits_value 10)
 numerals = numerals_by_value (λ ds. all_ascii_digits ds ≡ true) tells_all_ascii_digits
 
 -- no digits, no number

@@ -13,7 +13,7 @@ use Rattle.fix_settings.specs.Table.{Rule, rule_of}
 use Rattle.fix_settings.specs.Reading.{first_some, value_from, pair_for, is_right, key_refusal, section_refusal, refused, IsSession, AreSessions, AreSessionsOf, lines_refusal, line_refusal, sections_refusal, count_refusal, same_refusal, party_of, refusal_of}
 use Rattle.fix_settings.specs.declared.fault.SettingsCause.TheVariants as cause
 use Rattle.std.specs.Str.{IsUtf8}
-use Rattle.fix_settings.specs.Lawful.{IsAllowed, IfUtf8, IsLawful}
+use Rattle.fix_settings.specs.Lawful.{IsAllowed, ValueUtf8, IfHas, IsLawful}
 use Rattle.fix_settings.proofs.PairLemmas.{SectionHas, both_have, defaults_have, sections_have, ignored_has}
 use Rattle.fix_settings.proofs.TextLemmas.{PairUtf8, read_utf8}
 use Rattle.fix_settings.proofs.Utf8Lemmas.{for_utf8}
@@ -119,7 +119,7 @@ session_lawful defaults section s ud us right is =
       beside = λ k j m h.
           let j_pair = beside_pairs section.line g k j (g k) (none k) m (sym (ap is_some (is.each k)) ∙ h) in
           ap is_some (is.each j) ∙ has_value section.line g j (g j) (none j) j_pair;
-      utf8 = λ k. subst IfUtf8 (sym (is.each k)) (for_utf8 defaults section.pairs k ud us);
+      utf8 = λ k. subst (IfHas ValueUtf8) (sym (is.each k)) (for_utf8 defaults section.pairs k ud us);
       ignored_utf8 = λ name m. ignored_has IsUtf8 PairUtf8 (λ p u. u.0) (defaults ++ section.pairs) name (both_have PairUtf8 defaults section.pairs ud us) (is.ignored.each name m);
     }
 

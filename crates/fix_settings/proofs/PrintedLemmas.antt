@@ -1,5 +1,5 @@
 -- The printed text of lawful settings is UTF-8.
-use Rattle.std.proofs.Common.{◌≡◌, ℕ, zero, suc, ◌^◌, ◌<◌, ◌==◌, nat_lt, nat_le, length, bytes_eq, option_map, Bool, true, false, List, [], ◌∷◌, ◌++◌, codes, Option, Some, None, refl, subst, arith, if◌then◌else◌}
+use Rattle.std.proofs.Common.{◌≡◌, ℕ, zero, suc, ◌^◌, ◌<◌, ◌==◌, nat_lt, nat_le, length, bytes_eq, Bool, true, false, List, [], ◌∷◌, ◌++◌, codes, Option, Some, None, refl, subst, arith, if◌then◌else◌}
 use Rattle.std.specs.Prelude.{flat_map, decimal}
 use Rattle.std.specs.Str.{IsUtf8, IsAscii}
 use Rattle.std.specs.List.{list_all, AllByRecursion, join_by}
@@ -21,10 +21,10 @@ use Rattle.fix_settings.specs.declared.form.Form.TheVariants as form
 use Rattle.fix_settings.specs.declared.session_settings.SessionSettings.{SessionSettings}
 use Rattle.fix_settings.specs.Forms.{Value, Version, Number, Port, Clock, Day, Flag, Fine, Text, Types, version_in, clock_in, day_in, flag_in, precision_in, types_in, text_if, value_in, clock_text, day_name, flag_text, precision_text, value_text}
 use Rattle.fix_settings.specs.Table.{rule_of, name_of, setting_of}
-use Rattle.fix_settings.specs.Lawful.{IsAllowed, ValueUtf8, IfUtf8, IsLawful}
+use Rattle.fix_settings.specs.Lawful.{IsAllowed, ValueUtf8, IfHas, IsLawful}
 use Rattle.fix_settings.specs.Printing.{setting_line, ignored_line, session_text, settings_text}
 use Rattle.fix_settings.proofs.SaysLemmas.{number_bounds}
-use Rattle.fix_settings.proofs.ValueLemmas.{is_near, key_near}
+use Rattle.fix_settings.proofs.ValueLemmas.{mapped, is_near, key_near}
 
 -- ---- bytes below 128
 
@@ -60,43 +60,35 @@ IsSmall (Fine p) = Unit {0}
 IsSmall (Text t) = Unit {0}
 IsSmall (Types ts) = Unit {0}
 
-abbrev IfSmall : Option Value → Type 0
-IfSmall None = Unit {0}
-IfSmall (Some v) = IsSmall v
-
-mapped : {A : Type 0} (g : A → Value) (o : Option A) → ((a : A) → o ≡ Some a → IsSmall (g a)) → IfSmall (option_map g o)
-mapped g None each = tt
-mapped g (Some a) each = each a refl
-
-text_small : (passes : Bool) (t : List ℕ) → IfSmall (text_if passes t)
+text_small : (passes : Bool) (t : List ℕ) → IfHas IsSmall (text_if passes t)
 text_small true t = tt
 text_small false t = tt
 
-no_small : (b : Bool) → IfSmall (if b then Some (Flag false) else None)
+no_small : (b : Bool) → IfHas IsSmall (if b then Some (Flag false) else None)
 no_small true = tt
 no_small false = tt
 
 number_small : (low high : ℕ) (t : List ℕ) (n : ℕ) → nat_le high 999999999 ≡ true → number_in low high t ≡ Some n → n < 2 ^ 64
 number_small low high t n near e = let b = number_bounds low high t n e in omega (arith, b.1, leb-true high 999999999 near)
 
-value_small : (f : Form) (t : List ℕ) → is_near f ≡ true → IfSmall (value_in f t)
-value_small form.Version t near = mapped Version (version_in t) (λ b e. tt)
+value_small : (f : Form) (t : List ℕ) → is_near f ≡ true → IfHas IsSmall (value_in f t)
+value_small form.Version t near = mapped IsSmall Version (version_in t) (λ b e. tt)
 value_small form.CompId t near = text_small (is_comp_id t) t
-value_small (form.Number low high) t near = mapped Number (number_in low high t) (λ n e. number_small low high t n near e)
-value_small form.Port t near = mapped Port (number_in 1 65535 t) (λ n e. number_small 1 65535 t n refl e)
-value_small form.Clock t near = mapped Clock (clock_in t) (λ s e. tt)
-value_small form.Day t near = mapped Day (day_in t) (λ d e. tt)
+value_small (form.Number low high) t near = mapped IsSmall Number (number_in low high t) (λ n e. number_small low high t n near e)
+value_small form.Port t near = mapped IsSmall Port (number_in 1 65535 t) (λ n e. number_small 1 65535 t n refl e)
+value_small form.Clock t near = mapped IsSmall Clock (clock_in t) (λ s e. tt)
+value_small form.Day t near = mapped IsSmall Day (day_in t) (λ d e. tt)
 value_small form.Utc t near = text_small (bytes_eq t (codes "UTC")) t
 value_small form.Rule t near = tt
-value_small form.Flag t near = mapped Flag (flag_in t) (λ b e. tt)
+value_small form.Flag t near = mapped IsSmall Flag (flag_in t) (λ b e. tt)
 value_small form.No t near = no_small (bytes_eq t (codes "N"))
 value_small form.Text t near = text_small (nat_lt 0 (length t)) t
-value_small form.Precision t near = mapped Fine (precision_in t) (λ p e. tt)
-value_small form.Types t near = mapped Types (types_in t) (λ ts e. tt)
+value_small form.Precision t near = mapped IsSmall Fine (precision_in t) (λ p e. tt)
+value_small form.Types t near = mapped IsSmall Types (types_in t) (λ ts e. tt)
 
-allowed_small : (k : Key) (o : Option Value) → IsAllowed (rule_of k) o → IfSmall o
+allowed_small : (k : Key) (o : Option Value) → IsAllowed (rule_of k) o → IfHas IsSmall o
 allowed_small k None a = tt
-allowed_small k (Some v) a = subst IfSmall a.says (value_small (rule_of k).form a.text (key_near k))
+allowed_small k (Some v) a = subst (IfHas IsSmall) a.says (value_small (rule_of k).form a.text (key_near k))
 
 -- ---- values
 
@@ -182,7 +174,7 @@ name_utf8 key.FileStorePath = ascii (codes "FileStorePath") refl
 name_utf8 key.TimeStampPrecision = ascii (codes "TimeStampPrecision") refl
 name_utf8 key.AppTypes = ascii (codes "AppTypes") refl
 
-line_utf8 : (k : Key) (o : Option Value) → IfSmall o → IfUtf8 o → IsUtf8 (setting_line k o)
+line_utf8 : (k : Key) (o : Option Value) → IfHas IsSmall o → IfHas ValueUtf8 o → IsUtf8 (setting_line k o)
 line_utf8 k None small u = IsUtf8-nil
 line_utf8 k (Some v) small u =
     let name = IsUtf8-append (name_of k) (61 ∷ []) (name_utf8 k) (ascii (61 ∷ []) refl) in

@@ -8,17 +8,14 @@ use Rattle.std.specs.List.{list_all, AllByRecursion}
 use Rattle.std.proofs.lemmas.Bool.{and_parts, and_from, leb-true, le-leb, lt-ltb}
 use Rattle.std.proofs.lemmas.Bool.Decides.{nat_tests}
 use Rattle.std.proofs.lemmas.Fmt.{digits_decimal, digits_value-decimal, decimal_nonempty}
-use Rattle.std.proofs.lemmas.Str.Parse.{IsNumeralModel, numerals_by_value, tells_all_ascii_digits}
 use Rattle.fix_base.specs.Says.{number_in}
 use Rattle.fix_settings.specs.Lines.{is_blank, trim_front, trim_back, unless_blank}
 use Rattle.fix_settings.specs.Again.{has_no_lf, IsLineText}
+use Rattle.fix_settings.proofs.FormLemmas.{numerals}
+use Rattle.fix_settings.proofs.AgainLemmas.{not_true}
 
 abbrev pub is_plain : ℕ → Bool
 is_plain b = not (is_blank b) && not (b == 10)
-
-not_true : (x : Bool) → not x ≡ true → x ≡ false
-not_true true e = cc
-not_true false e = refl
 
 plain_no_lf : (t : List ℕ) → list_all is_plain t ≡ true → has_no_lf t ≡ true
 plain_no_lf [] h = refl
@@ -51,9 +48,6 @@ pub plain_line : (t : List ℕ) → list_all is_plain t ≡ true → IsLineText 
 plain_line t h = record { one_line = plain_no_lf t h; front = plain_front t h; back = plain_back t h }
 
 -- ---- numbers
-
-numerals : IsNumeralModel (λ ds. all_ascii_digits ds ≡ true) (digits_value 10)
-numerals = numerals_by_value (λ ds. all_ascii_digits ds ≡ true) tells_all_ascii_digits
 
 number_from : (low high : ℕ) (d : List ℕ) (n : ℕ) → all_ascii_digits d ≡ true → 0 < length d → digits_value 10 d ≡ n → low ≤ n → n ≤ high → number_in low high d ≡ Some n
 number_from low high d n digits some value above below =

@@ -9,13 +9,14 @@ use Rattle.fix_settings.specs.declared.key.Key.TheVariants as key
 use Rattle.fix_settings.specs.declared.form.Form.{Form}
 use Rattle.fix_settings.specs.declared.form.Form.TheVariants as form
 use Rattle.fix_settings.specs.Lines.{Pair, cut_at}
-use Rattle.fix_settings.specs.Forms.{Value, Version, Number, Port, Clock, Day, Flag, Fine, Types, value_in, text_if, version_in, clock_in, day_in, flag_in, precision_in, is_type}
+use Rattle.fix_settings.specs.Forms.{Version, Number, Port, Clock, Day, Flag, Fine, Types, value_in, text_if, version_in, clock_in, day_in, flag_in, precision_in, is_type}
 use Rattle.fix_settings.specs.Table.{rule_of}
 use Rattle.fix_settings.specs.Reading.{value_from, pair_for}
-use Rattle.fix_settings.specs.Lawful.{ValueUtf8, IfUtf8}
+use Rattle.fix_settings.specs.Lawful.{ValueUtf8, IfHas}
 use Rattle.fix_settings.proofs.FormLemmas.{piece_cut, one_piece}
 use Rattle.fix_settings.proofs.CutLemmas.{cut_is}
 use Rattle.fix_settings.proofs.PairLemmas.{IfPair, for_has}
+use Rattle.fix_settings.proofs.ValueLemmas.{mapped}
 use Rattle.fix_settings.proofs.TextLemmas.{utf8_front, utf8_behind, PairUtf8}
 
 pieces_from : (n : ℕ) (text : List ℕ) (o : Option (List ℕ × List ℕ)) → length text ≤ n → cut_at 44 text ≡ o → IsUtf8 text → AllByRecursion IsUtf8 (slice_split (λ b. b == 44) text)
@@ -30,38 +31,34 @@ pieces_from (suc n) text (Some p) le e u =
 pieces_utf8 : (text : List ℕ) → IsUtf8 text → AllByRecursion IsUtf8 (slice_split (λ b. b == 44) text)
 pieces_utf8 text u = pieces_from (length text) text (cut_at 44 text) (omega arith) refl u
 
-plain : {A : Type 0} (f : A → Value) → ((a : A) → ValueUtf8 (f a)) → (o : Option A) → IfUtf8 (option_map f o)
-plain f each None = tt
-plain f each (Some a) = each a
-
-text_utf8 : (b : Bool) (text : List ℕ) → IsUtf8 text → IfUtf8 (text_if b text)
+text_utf8 : (b : Bool) (text : List ℕ) → IsUtf8 text → IfHas ValueUtf8 (text_if b text)
 text_utf8 true text u = u
 text_utf8 false text u = tt
 
-types_utf8 : (b : Bool) (ts : List (List ℕ)) → AllByRecursion IsUtf8 ts → IfUtf8 (option_map Types (if b then Some ts else None))
+types_utf8 : (b : Bool) (ts : List (List ℕ)) → AllByRecursion IsUtf8 ts → IfHas ValueUtf8 (option_map Types (if b then Some ts else None))
 types_utf8 true ts u = u
 types_utf8 false ts u = tt
 
-no_utf8 : (b : Bool) → IfUtf8 (if b then Some (Flag false) else None)
+no_utf8 : (b : Bool) → IfHas ValueUtf8 (if b then Some (Flag false) else None)
 no_utf8 true = tt
 no_utf8 false = tt
 
-value_utf8 : (f : Form) (text : List ℕ) → IsUtf8 text → IfUtf8 (value_in f text)
-value_utf8 form.Version text u = plain Version (λ a. tt) (version_in text)
+value_utf8 : (f : Form) (text : List ℕ) → IsUtf8 text → IfHas ValueUtf8 (value_in f text)
+value_utf8 form.Version text u = mapped ValueUtf8 Version (version_in text) (λ a e. tt)
 value_utf8 form.CompId text u = text_utf8 (is_comp_id text) text u
-value_utf8 (form.Number low high) text u = plain Number (λ a. tt) (number_in low high text)
-value_utf8 form.Port text u = plain Port (λ a. tt) (number_in 1 65535 text)
-value_utf8 form.Clock text u = plain Clock (λ a. tt) (clock_in text)
-value_utf8 form.Day text u = plain Day (λ a. tt) (day_in text)
+value_utf8 (form.Number low high) text u = mapped ValueUtf8 Number (number_in low high text) (λ a e. tt)
+value_utf8 form.Port text u = mapped ValueUtf8 Port (number_in 1 65535 text) (λ a e. tt)
+value_utf8 form.Clock text u = mapped ValueUtf8 Clock (clock_in text) (λ a e. tt)
+value_utf8 form.Day text u = mapped ValueUtf8 Day (day_in text) (λ a e. tt)
 value_utf8 form.Utc text u = text_utf8 (bytes_eq text (codes "UTC")) text u
 value_utf8 form.Rule text u = u
-value_utf8 form.Flag text u = plain Flag (λ a. tt) (flag_in text)
+value_utf8 form.Flag text u = mapped ValueUtf8 Flag (flag_in text) (λ a e. tt)
 value_utf8 form.No text u = no_utf8 (bytes_eq text (codes "N"))
 value_utf8 form.Text text u = text_utf8 (nat_lt 0 (length text)) text u
-value_utf8 form.Precision text u = plain Fine (λ a. tt) (precision_in text)
+value_utf8 form.Precision text u = mapped ValueUtf8 Fine (precision_in text) (λ a e. tt)
 value_utf8 form.Types text u = types_utf8 (list_all is_type (slice_split (λ b. b == 44) text)) (slice_split (λ b. b == 44) text) (pieces_utf8 text u)
 
-standard_utf8 : (k : Key) → IfUtf8 (rule_of k).standard
+standard_utf8 : (k : Key) → IfHas ValueUtf8 (rule_of k).standard
 unfolding lib.Utf8.encode
 standard_utf8 key.BeginString = tt
 standard_utf8 key.SenderCompID = tt
@@ -94,9 +91,9 @@ standard_utf8 key.FileStorePath = tt
 standard_utf8 key.TimeStampPrecision = tt
 standard_utf8 key.AppTypes = tt
 
-from_utf8 : (k : Key) (o : Option Pair) → IfPair PairUtf8 o → IfUtf8 (value_from (rule_of k) o)
+from_utf8 : (k : Key) (o : Option Pair) → IfPair PairUtf8 o → IfHas ValueUtf8 (value_from (rule_of k) o)
 from_utf8 k None u = standard_utf8 k
 from_utf8 k (Some p) u = value_utf8 (rule_of k).form p.value u.1
 
-pub for_utf8 : (defaults own : List Pair) (k : Key) → AllByRecursion PairUtf8 defaults → AllByRecursion PairUtf8 own → IfUtf8 (value_from (rule_of k) (pair_for defaults own k))
+pub for_utf8 : (defaults own : List Pair) (k : Key) → AllByRecursion PairUtf8 defaults → AllByRecursion PairUtf8 own → IfHas ValueUtf8 (value_from (rule_of k) (pair_for defaults own k))
 for_utf8 defaults own k d o = from_utf8 k (pair_for defaults own k) (for_has PairUtf8 defaults own k d o)

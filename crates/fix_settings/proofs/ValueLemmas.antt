@@ -18,6 +18,7 @@ use Rattle.fix_settings.specs.declared.form.Form.TheVariants as form
 use Rattle.fix_settings.specs.Lines.{trim_front, trim_back}
 use Rattle.fix_settings.specs.Forms.{Value, Version, Number, Port, Clock, Day, Flag, Fine, Text, Types, version_in, is_digit, two_at, is_two_at, is_clock, clock_in, clock_text, is_day, day_in, flag_in, precision_in, is_type, types_in, text_if, value_in, value_text}
 use Rattle.fix_settings.specs.Table.{rule_of}
+use Rattle.fix_settings.specs.Lawful.{IfHas}
 use Rattle.fix_settings.specs.Again.{has_no_lf, IsLineText}
 use Rattle.fix_settings.proofs.SaysLemmas.{high_line, number_line, number_again, number_bounds, some_number}
 
@@ -26,12 +27,11 @@ pub record SaysAgain (f : Form) (v : Value) : Type 0 where
   pub says : value_in f (value_text v) ≡ Some v
 
 abbrev pub IfSaysAgain : Form → Option Value → Type 0
-IfSaysAgain f None = Unit {0}
-IfSaysAgain f (Some v) = SaysAgain f v
+IfSaysAgain f o = IfHas (SaysAgain f) o
 
-mapped : {A : Type 0} (f : Form) (g : A → Value) (o : Option A) → ((a : A) → o ≡ Some a → SaysAgain f (g a)) → IfSaysAgain f (option_map g o)
-mapped f g None each = tt
-mapped f g (Some a) each = each a refl
+pub mapped : {A : Type 0} (P : Value → Type 0) (g : A → Value) (o : Option A) → ((a : A) → o ≡ Some a → P (g a)) → IfHas P (option_map g o)
+mapped P g None each = tt
+mapped P g (Some a) each = each a refl
 
 computed : (f : Form) (v : Value) → has_no_lf (value_text v) ≡ true → trim_front (value_text v) ≡ value_text v → trim_back (value_text v) ≡ value_text v → value_in f (value_text v) ≡ Some v → SaysAgain f v
 computed f v one_line front back says = record { text = record { one_line = one_line; front = front; back = back }; says = says }
@@ -217,18 +217,18 @@ is_near form.Types = true
 
 -- a value that a text in a line says
 pub said_again : (f : Form) (t : List ℕ) → is_near f ≡ true → IsLineText t → IfSaysAgain f (value_in f t)
-said_again form.Version t near is = mapped form.Version Version (version_in t) (λ b e. version_value b)
+said_again form.Version t near is = mapped (SaysAgain form.Version) Version (version_in t) (λ b e. version_value b)
 said_again form.CompId t near is = text_value form.CompId (is_comp_id t) t is refl
-said_again (form.Number low high) t near is = mapped (form.Number low high) Number (number_in low high t) (λ n e. number_said low high t n near e)
-said_again form.Port t near is = mapped form.Port Port (number_in 1 65535 t) (λ n e. port_said t n e)
-said_again form.Clock t near is = mapped form.Clock Clock (clock_in t) (λ s e. clock_said t s e)
-said_again form.Day t near is = mapped form.Day Day (day_in t) (λ d e. day_said t d e)
+said_again (form.Number low high) t near is = mapped (SaysAgain (form.Number low high)) Number (number_in low high t) (λ n e. number_said low high t n near e)
+said_again form.Port t near is = mapped (SaysAgain form.Port) Port (number_in 1 65535 t) (λ n e. port_said t n e)
+said_again form.Clock t near is = mapped (SaysAgain form.Clock) Clock (clock_in t) (λ s e. clock_said t s e)
+said_again form.Day t near is = mapped (SaysAgain form.Day) Day (day_in t) (λ d e. day_said t d e)
 said_again form.Utc t near is = text_value form.Utc (bytes_eq t (codes "UTC")) t is refl
 said_again form.Rule t near is = record { text = is; says = refl }
-said_again form.Flag t near is = mapped form.Flag Flag (flag_in t) (λ b e. flag_value b)
+said_again form.Flag t near is = mapped (SaysAgain form.Flag) Flag (flag_in t) (λ b e. flag_value b)
 said_again form.No t near is = no_value (bytes_eq t (codes "N"))
 said_again form.Text t near is = text_value form.Text (nat_lt 0 (length t)) t is refl
-said_again form.Precision t near is = mapped form.Precision Fine (precision_in t) (λ p e. precision_value p)
+said_again form.Precision t near is = mapped (SaysAgain form.Precision) Fine (precision_in t) (λ p e. precision_value p)
 said_again form.Types t near is = types_value (list_all is_type (slice_split (λ b. b == 44) t)) t is refl
 
 pub key_near : (k : Key) → is_near (rule_of k).form ≡ true
