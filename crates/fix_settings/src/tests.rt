@@ -234,3 +234,83 @@ fn at_most_256_sessions_are_read(rt: HostRuntime) -> Result<(), Fail> {
     refused(&rt, rt.alloc(), more.as_str(), 0, SettingsCause::NoSection);
     Ok(())
 }
+
+#[test]
+fn a_key_that_is_needed_is_missing(rt: HostRuntime) {
+    refused(
+        &rt,
+        rt.alloc(),
+        "[SESSION]\nBeginString=FIX.4.2\nTargetCompID=B\n",
+        1,
+        SettingsCause::Missing(Key::SenderCompID),
+    );
+    refused(
+        &rt,
+        rt.alloc(),
+        "\n[SESSION]\nBeginString=FIX.4.2\nSenderCompID=A\n",
+        2,
+        SettingsCause::Missing(Key::TargetCompID),
+    );
+}
+
+// Session by session and key by key; a value of a default section is at fault in its own line; two
+// sessions between the same come last.
+#[test]
+fn sessions_are_judged_in_order(rt: HostRuntime) {
+    refused(
+        &rt,
+        rt.alloc(),
+        "[SESSION]\nSenderCompID=\n",
+        1,
+        SettingsCause::Missing(Key::BeginString),
+    );
+    refused(
+        &rt,
+        rt.alloc(),
+        "[SESSION]\nBeginString=FIX.4.4\nTargetCompID=B\nSenderCompID=A\n[DEFAULT]\nMaxLatency=0\nHeartBtInt=x\n",
+        7,
+        SettingsCause::BadValue(Key::HeartBtInt),
+    );
+    refused(
+        &rt,
+        rt.alloc(),
+        "[DEFAULT]\nBeginString=FIX.4.2\nSenderCompID=A\nTargetCompID=B\n[SESSION]\n[SESSION]\n[SESSION]\nTimeZone=\n",
+        8,
+        SettingsCause::BadValue(Key::TimeZone),
+    );
+}
+
+const LETTERS: [&str; 16] = [
+    "A", "B", "C", "D", "E", "F", "G", "H", "I", "J", "K", "L", "M", "N", "O", "P",
+];
+
+// 65117 default lines with the same ignored key, and 256 sessions.
+fn large_text(alloc: Global) -> Result<String, Fail> {
+    let mut text = String::from_str(alloc, "[DEFAULT]\nBeginString=FIX.4.2\nSenderCompID=SELL\n")?;
+    for _ in 0..65_117 {
+        text.push_str("x=234567890ABCD\n")?;
+    }
+    for first in LETTERS {
+        for second in LETTERS {
+            text.push_str("[SESSION]\nTargetCompID=")?;
+            text.push_str(first)?;
+            text.push_str(second)?;
+            text.push_str("\n")?;
+        }
+    }
+    Ok(text)
+}
+
+#[test]
+fn a_large_text_is_read(rt: HostRuntime) -> Result<(), Fail> {
+    let text = large_text(rt.alloc())?;
+    assert!(rt; text.len() == 1_048_576);
+    let settings = Settings::read(rt.alloc(), text.as_str())
+        .ok()
+        .ok_or("refused")?;
+    let sessions = settings.sessions();
+    assert!(rt; sessions.len() == 256);
+    assert_eq!(rt; sessions[255].target_comp_id.as_slice(), b"PP".as_slice());
+    assert_eq!(rt; sessions[255].ignored.len(), 1);
+    Ok(())
+}
