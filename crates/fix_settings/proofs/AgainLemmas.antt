@@ -14,6 +14,10 @@ use Rattle.fix_settings.specs.Again.{IsLineText, has_no_lf}
 
 -- ---- one line
 
+pub not_true : (x : Bool) → not x ≡ true → x ≡ false
+not_true true e = cc
+not_true false e = refl
+
 -- a line before its LF
 pub line_first : (line rest : List ℕ) → has_no_lf line ≡ true → lines_of (line ++ 10 ∷ rest) ≡ line ∷ lines_of rest
 line_first [] rest h = refl
@@ -21,10 +25,6 @@ line_first (b ∷ bs) rest h =
     let p = and_parts (not (b == 10)) (has_no_lf bs) h in
     let f : (b == 10) ≡ false = not_true (b == 10) p.0 in
     rw (f, line_first bs rest p.1) refl
-  where
-    not_true : (x : Bool) → not x ≡ true → x ≡ false
-    not_true true e = cc
-    not_true false e = refl
 
 unless_first : (b : ℕ) (front : List ℕ) (x : ℕ) (xs : List ℕ) → unless_blank b (front ++ x ∷ xs) ≡ b ∷ front ++ x ∷ xs
 unless_first b [] x xs = refl

@@ -10,8 +10,9 @@ use Rattle.std.proofs.lemmas.Int.Digits.{digits_more, digits_value_more}
 use Rattle.fix_base.specs.Says.{number_in}
 use Rattle.fix_settings.specs.Lines.{cut_at, onto_cut}
 use Rattle.fix_settings.specs.Forms.{is_type}
+use Rattle.fix_settings.proofs.CutLemmas.{parts, IsFirst, first_cut}
 
-numerals : IsNumeralModel (λ ds. all_ascii_digits ds ≡ true) (digits_value 10)
+pub numerals : IsNumeralModel (λ ds. all_ascii_digits ds ≡ true) (digits_value 10)
 numerals = numerals_by_value (λ ds. all_ascii_digits ds ≡ true) tells_all_ascii_digits
 
 -- no digits, no number
@@ -55,41 +56,11 @@ more_digits text i lt all low high = digits_more 10 text i lt all (omega (arith,
 
 -- ---- types between commas
 
-pub record IsPiece (text piece behind : List ℕ) : Type 0 where
-  pub pieces : slice_split (λ b. b == 44) text ≡ piece ∷ slice_split (λ b. b == 44) behind
-  pub shorter : length behind < length text
-
-abbrev first_part : Option (List ℕ × List ℕ) → List ℕ
-first_part None = []
-first_part (Some p) = p.0
-
-abbrev second_part : Option (List ℕ × List ℕ) → List ℕ
-second_part None = []
-second_part (Some p) = p.1
-
-abbrev parts : List ℕ → List ℕ → Option (List ℕ × List ℕ)
-parts a b = Some (a, b)
-
-piece_here : (b : ℕ) (bs piece behind : List ℕ) → (b == 44) ≡ true → parts [] bs ≡ parts piece behind → IsPiece (b ∷ bs) piece behind
-piece_here b bs piece behind t e =
-    let l : [] ≡ piece = ap first_part e in
-    let r : bs ≡ behind = ap second_part e in
-    record { pieces = rw (t, ← l, ← r) refl; shorter = rw (← r) (omega arith) }
-
-piece_behind : (b : ℕ) (bs piece behind : List ℕ) → (b == 44) ≡ false → ((l r : List ℕ) → cut_at 44 bs ≡ Some (l, r) → IsPiece bs l r) → (o : Option (List ℕ × List ℕ)) → cut_at 44 bs ≡ o → onto_cut b o ≡ Some (piece, behind) → IsPiece (b ∷ bs) piece behind
-piece_behind b bs piece behind f more None e h = cc
-piece_behind b bs piece behind f more (Some p) e h =
-    let l : b ∷ p.0 ≡ piece = ap first_part h in
-    let r : p.1 ≡ behind = ap second_part h in
-    let c = more p.0 p.1 e in
-    record { pieces = rw (f, c.pieces, ← l, ← r) refl; shorter = rw (← r) (omega (arith, c.shorter)) }
+abbrev pub IsPiece : List ℕ → List ℕ → List ℕ → Type 0
+IsPiece text piece behind = IsFirst (λ t. slice_split (λ b. b == 44) t) text piece behind
 
 pub piece_cut : (text piece behind : List ℕ) → cut_at 44 text ≡ Some (piece, behind) → IsPiece text piece behind
-piece_cut [] piece behind h = cc
-piece_cut (b ∷ bs) piece behind h = elim (cases_Bool (b == 44)) [
-  | inl t ↦ piece_here b bs piece behind t (rw t at h)
-  | inr f ↦ piece_behind b bs piece behind f (λ l r e. piece_cut bs l r e) (cut_at 44 bs) refl (rw f at h)
-]
+piece_cut text piece behind h = first_cut 44 (λ t. slice_split (λ b. b == 44) t) (λ b bs. refl) text piece behind h
 
 whole_behind : (b : ℕ) (bs : List ℕ) → (b == 44) ≡ false → (cut_at 44 bs ≡ None → slice_split (λ c. c == 44) bs ≡ bs ∷ []) → (o : Option (List ℕ × List ℕ)) → cut_at 44 bs ≡ o → onto_cut b o ≡ None → slice_split (λ c. c == 44) (b ∷ bs) ≡ (b ∷ bs) ∷ []
 whole_behind b bs f more None e h = rw (f, more e) refl

@@ -1,12 +1,10 @@
 -- What stands in lines can stand in lines.
-use Rattle.std.proofs.Common.{◌≡◌, inl, inr, ℕ, ◌+◌, ◌≤◌, ◌==◌, not, Bool, true, false, List, [], ◌∷◌, ◌++◌, length, Option, Some, None, bytes_eq, codes, refl, ap, subst, arith, if◌then◌else◌}
-use Rattle.std.specs.Str.{str_eq_ignore_ascii_case}
+use Rattle.std.proofs.Common.{◌≡◌, inl, inr, ℕ, ◌≤◌, ◌==◌, not, true, false, List, [], ◌∷◌, ◌++◌, length, refl, ap, arith}
 use Rattle.std.specs.List.{AllByRecursion, onto_first}
-use Rattle.std.specs.Option.{option_or}
 use Rattle.std.proofs.lemmas.Bool.{cases_Bool, and_parts, and_from}
-use Rattle.fix_settings.specs.Lines.{Pair, Line, Passed, Default, Session, Given, Wrong, is_blank, trim_front, trim_back, unless_blank, trimmed, cut_at, lines_of, onto_line, trimmed_line, pair_in, pair_of, numbered, read_lines, run_of, defaults_of, last_of, with_key}
+use Rattle.fix_settings.specs.Lines.{Pair, is_blank, trim_front, trim_back, unless_blank, trimmed, lines_of, onto_line, read_lines}
 use Rattle.fix_settings.specs.Again.{has_no_lf, IsLineText}
-use Rattle.fix_settings.proofs.TextLemmas.{cut_is}
+use Rattle.fix_settings.proofs.PairLemmas.{Keeps, LineHas, read_has}
 
 abbrev pub NoLf : List ℕ → Type 0
 NoLf t = has_no_lf t ≡ true
@@ -79,82 +77,14 @@ trimmed_kept t h = record { one_line = back_no_lf (trim_front t) (front_no_lf t 
 abbrev pub PairKept : Pair → Type 0
 PairKept p = NoLf p.key × IsLineText p.value
 
-abbrev pub LineKept : Line → Type 0
-LineKept Passed = Unit {0}
-LineKept Default = Unit {0}
-LineKept (Session n) = Unit {0}
-LineKept (Given p) = PairKept p
-LineKept (Wrong n) = Unit {0}
+kept : Keeps NoLf PairKept
+kept = record {
+  trims = λ t h. let k = trimmed_kept t h in k.one_line;
+  pairs = λ n a c h.
+      let q = split_no_lf a (61 ∷ c) h in
+      let key = trimmed_kept a q.0 in
+      (key.one_line, trimmed_kept c q.1);
+}
 
-pair_of_kept : (n : ℕ) (k v : List ℕ) → NoLf k → IsLineText v → LineKept (pair_of n k v)
-pair_of_kept n [] v uk uv = tt
-pair_of_kept n (b ∷ bs) v uk uv = (uk, uv)
-
-pair_in_kept : (n : ℕ) (text : List ℕ) (o : Option (List ℕ × List ℕ)) → cut_at 61 text ≡ o → NoLf text → LineKept (pair_in n o)
-pair_in_kept n text None e u = tt
-pair_in_kept n text (Some p) e u =
-    let is : NoLf (p.0 ++ 61 ∷ p.1) = subst NoLf (cut_is 61 text p.0 p.1 e) u in
-    let q = split_no_lf p.0 (61 ∷ p.1) is in
-    let key = trimmed_kept p.0 q.0 in
-    pair_of_kept n (trimmed p.0) (trimmed p.1) key.one_line (trimmed_kept p.1 q.1)
-
-choose : (b : Bool) (x y : Line) → LineKept x → LineKept y → LineKept (if b then x else y)
-choose true x y p q = p
-choose false x y p q = q
-
-line_kept : (n : ℕ) (text : List ℕ) → NoLf text → LineKept (trimmed_line n text)
-line_kept n [] u = tt
-line_kept n (b ∷ bs) u =
-    let pair = pair_in n (cut_at 61 (b ∷ bs)) in
-    let is_session = str_eq_ignore_ascii_case (b ∷ bs) (codes "[SESSION]") in
-    let is_default = str_eq_ignore_ascii_case (b ∷ bs) (codes "[DEFAULT]") in
-    choose (b == 35) Passed (if is_default then Default else (if is_session then Session n else pair)) tt
-    (choose is_default Default (if is_session then Session n else pair) tt
-    (choose is_session (Session n) pair tt (pair_in_kept n (b ∷ bs) (cut_at 61 (b ∷ bs)) refl u)))
-
-numbered_kept : (n : ℕ) (lines : List (List ℕ)) → AllByRecursion NoLf lines → AllByRecursion LineKept (numbered n lines)
-numbered_kept n [] all = tt
-numbered_kept n (l ∷ ls) all = (line_kept n (trimmed l) (let k = trimmed_kept l all.0 in k.one_line), numbered_kept (n + 1) ls all.1)
-
-pub read_kept : (text : List ℕ) → AllByRecursion LineKept (read_lines text)
-read_kept text = numbered_kept 1 (lines_of text) (lines_no_lf text)
-
-pub run_kept : (lines : List Line) → AllByRecursion LineKept lines → AllByRecursion PairKept (run_of lines)
-run_kept [] all = tt
-run_kept (Passed ∷ ls) all = run_kept ls all.1
-run_kept (Default ∷ ls) all = tt
-run_kept (Session n ∷ ls) all = tt
-run_kept (Given p ∷ ls) all = (all.0, run_kept ls all.1)
-run_kept (Wrong n ∷ ls) all = run_kept ls all.1
-
-pub all_both : (ps qs : List Pair) → AllByRecursion PairKept ps → AllByRecursion PairKept qs → AllByRecursion PairKept (ps ++ qs)
-all_both [] qs a b = b
-all_both (p ∷ ps) qs a b = (a.0, all_both ps qs a.1 b)
-
-pub defaults_kept : (lines : List Line) → AllByRecursion LineKept lines → AllByRecursion PairKept (defaults_of lines)
-defaults_kept [] all = tt
-defaults_kept (Passed ∷ ls) all = defaults_kept ls all.1
-defaults_kept (Default ∷ ls) all = all_both (run_of ls) (defaults_of ls) (run_kept ls all.1) (defaults_kept ls all.1)
-defaults_kept (Session n ∷ ls) all = defaults_kept ls all.1
-defaults_kept (Given p ∷ ls) all = defaults_kept ls all.1
-defaults_kept (Wrong n ∷ ls) all = defaults_kept ls all.1
-
--- a pair that is found
-abbrev pub IfPair : Option Pair → Type 0
-IfPair None = Unit {0}
-IfPair (Some p) = PairKept p
-
-pub either_kept : (a b : Option Pair) → IfPair a → IfPair b → IfPair (option_or a b)
-either_kept None b p q = q
-either_kept (Some x) b p q = p
-
-with_kept : (key : List ℕ) (p : Pair) → PairKept p → IfPair (with_key key p)
-with_kept key p u = one (bytes_eq p.key key) p u
-  where
-    one : (b : Bool) (p : Pair) → PairKept p → IfPair (if b then Some p else None)
-    one true p u = u
-    one false p u = tt
-
-pub last_kept : (key : List ℕ) (ps : List Pair) → AllByRecursion PairKept ps → IfPair (last_of key ps)
-last_kept key [] all = tt
-last_kept key (p ∷ ps) all = either_kept (last_of key ps) (with_key key p) (last_kept key ps all.1) (with_kept key p all.0)
+pub read_kept : (text : List ℕ) → AllByRecursion (LineHas PairKept) (read_lines text)
+read_kept text = read_has NoLf PairKept kept text (lines_no_lf text)

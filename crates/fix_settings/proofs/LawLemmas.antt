@@ -18,6 +18,7 @@ use Rattle.fix_settings.specs.Reading.{first_some, value_from, pair_for, is_righ
 use Rattle.fix_settings.specs.Lawful.{IsAllowed, IsLawful}
 use Rattle.fix_settings.specs.Printing.{settings_text}
 use Rattle.fix_settings.specs.Again.{IsPrintable, ArePrintable, IsAgain, AreAgain, ReadsBack, party_for}
+use Rattle.fix_settings.proofs.PrintedLemmas.{printed_utf8}
 use Rattle.fix_settings.proofs.AgainLemmas.{Written, done, skip, pair}
 use Rattle.fix_settings.proofs.BackLemmas.{PrintedLines, PrintedSections, none, more, printed, no_defaults, sections_printed, no_line_refusal, pair_printed, has_key, text_in, text_of}
 
@@ -173,6 +174,7 @@ reads_back sessions is =
     let lines = read_lines (settings_text sessions) in
     let p : PrintedLines KEYS sessions (read_lines (settings_text sessions)) = printed KEYS 1 sessions is.each in
     record {
+      utf8 = printed_utf8 sessions is.lawful;
       right = lines_none (read_lines (settings_text sessions)) p is;
       same = λ again h. sessions_again again (sections_printed p) is.each is.lawful (subst (λ of. AreSessions of (sections_of (read_lines (settings_text sessions))) again) (no_defaults p) h);
     }

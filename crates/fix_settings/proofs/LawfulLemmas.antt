@@ -13,9 +13,10 @@ use Rattle.fix_settings.specs.Table.{Rule, rule_of}
 use Rattle.fix_settings.specs.Reading.{first_some, value_from, pair_for, is_right, key_refusal, section_refusal, refused, IsSession, AreSessions, AreSessionsOf, lines_refusal, line_refusal, sections_refusal, count_refusal, same_refusal, party_of, refusal_of}
 use Rattle.fix_settings.specs.declared.fault.SettingsCause.TheVariants as cause
 use Rattle.std.specs.Str.{IsUtf8}
-use Rattle.fix_settings.specs.Lawful.{IsAllowed, IfUtf8, IsLawful}
-use Rattle.fix_settings.proofs.TextLemmas.{PairUtf8, read_utf8, defaults_utf8, all_both}
-use Rattle.fix_settings.proofs.Utf8Lemmas.{SectionUtf8, sections_utf8, for_utf8, ignored_utf8}
+use Rattle.fix_settings.specs.Lawful.{IsAllowed, ValueUtf8, IfHas, IsLawful}
+use Rattle.fix_settings.proofs.PairLemmas.{SectionHas, both_have, defaults_have, sections_have, ignored_has}
+use Rattle.fix_settings.proofs.TextLemmas.{PairUtf8, read_utf8}
+use Rattle.fix_settings.proofs.Utf8Lemmas.{for_utf8}
 use Rattle.fix_settings.proofs.ShapeLemmas.{right_pair, right_value}
 use Rattle.fix_settings.proofs.ReadLemmas.{first_none, or_left, or_right}
 
@@ -118,11 +119,11 @@ session_lawful defaults section s ud us right is =
       beside = λ k j m h.
           let j_pair = beside_pairs section.line g k j (g k) (none k) m (sym (ap is_some (is.each k)) ∙ h) in
           ap is_some (is.each j) ∙ has_value section.line g j (g j) (none j) j_pair;
-      utf8 = λ k. subst IfUtf8 (sym (is.each k)) (for_utf8 defaults section.pairs k ud us);
-      ignored_utf8 = λ name m. ignored_utf8 (defaults ++ section.pairs) name (all_both defaults section.pairs ud us) (is.ignored.each name m);
+      utf8 = λ k. subst (IfHas ValueUtf8) (sym (is.each k)) (for_utf8 defaults section.pairs k ud us);
+      ignored_utf8 = λ name m. ignored_has IsUtf8 PairUtf8 (λ p u. u.0) (defaults ++ section.pairs) name (both_have PairUtf8 defaults section.pairs ud us) (is.ignored.each name m);
     }
 
-pub sessions_lawful : (defaults : List Pair) (sections : List Section) (sessions : List SessionSettings) → AllByRecursion PairUtf8 defaults → AllByRecursion SectionUtf8 sections → first_some (section_refusal defaults) sections ≡ None → AreSessions defaults sections sessions → AllByRecursion IsLawful sessions
+pub sessions_lawful : (defaults : List Pair) (sections : List Section) (sessions : List SessionSettings) → AllByRecursion PairUtf8 defaults → AllByRecursion (SectionHas PairUtf8) sections → first_some (section_refusal defaults) sections ≡ None → AreSessions defaults sections sessions → AllByRecursion IsLawful sessions
 sessions_lawful defaults [] [] ud us right are = tt
 sessions_lawful defaults [] (s ∷ ss) ud us right are = cc
 sessions_lawful defaults (x ∷ xs) [] ud us right are = absurd are
@@ -139,4 +140,4 @@ sections_right lines h =
     or_left (first_some (section_refusal (defaults_of lines)) (sections_of lines)) (same_refusal [] (map (party_of (defaults_of lines)) (sections_of lines))) behind
 
 pub text_lawful : (text : List ℕ) (sessions : List SessionSettings) → IsUtf8 text → refusal_of text ≡ None → AreSessionsOf text sessions → AllByRecursion IsLawful sessions
-text_lawful text sessions u h are = sessions_lawful (defaults_of (read_lines text)) (sections_of (read_lines text)) sessions (defaults_utf8 (read_lines text) (read_utf8 text u)) (sections_utf8 (read_lines text) (read_utf8 text u)) (sections_right (read_lines text) h) are
+text_lawful text sessions u h are = sessions_lawful (defaults_of (read_lines text)) (sections_of (read_lines text)) sessions (defaults_have PairUtf8 (read_lines text) (read_utf8 text u)) (sections_have PairUtf8 (read_lines text) (read_utf8 text u)) (sections_right (read_lines text) h) are

@@ -15,3 +15,8 @@ pub mod BackLemmas
 pub mod LawLemmas
 pub mod KeptLemmas
 pub mod SaysLemmas
+pub mod ValueLemmas
+pub mod CutLemmas
+pub mod PairLemmas
+pub mod GivenLemmas
+pub mod PrintedLemmas

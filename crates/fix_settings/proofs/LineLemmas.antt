@@ -8,6 +8,7 @@ use Rattle.fix_settings.specs.Lines.{Pair, Line, Passed, Default, Session, Given
 use Rattle.fix_settings.specs.Lent.{line_read, lines_read, pair_read}
 use Rattle.fix_settings.specs.declared.line.LineRef.{LineRef}
 use Rattle.fix_settings.specs.declared.line.PairRef.{PairRef}
+use Rattle.fix_settings.proofs.CutLemmas.{parts, first_cut}
 
 -- what is trimmed at the end, byte by byte from the end
 pub trim_back_blank : (bytes : List ℕ) (b : ℕ) → is_blank b ≡ true → trim_back (bytes ++ b ∷ []) ≡ trim_back bytes
@@ -51,38 +52,9 @@ trim_last bytes i e h = sym (trim_back_blank (take i bytes) (get_or bytes i 0) h
 pub keep_last : (bytes : List ℕ) (i : ℕ) → length bytes ≡ suc i → is_blank (get_or bytes i 0) ≡ false → bytes ≡ trim_back bytes
 keep_last bytes i e h = ends_at bytes i e ∙ sym (trim_back_kept (take i bytes) (get_or bytes i 0) h) ∙ ap trim_back (sym (ends_at bytes i e))
 
-abbrev first_part : Option (List ℕ × List ℕ) → List ℕ
-first_part None = []
-first_part (Some p) = p.0
-
-abbrev second_part : Option (List ℕ × List ℕ) → List ℕ
-second_part None = []
-second_part (Some p) = p.1
-
-abbrev parts : List ℕ → List ℕ → Option (List ℕ × List ℕ)
-parts a b = Some (a, b)
-
-cut_here : (b : ℕ) (bs line rest : List ℕ) → (b == 10) ≡ true → parts [] bs ≡ parts line rest → IsCut (b ∷ bs) line rest
-cut_here b bs line rest t e =
-    let l : [] ≡ line = ap first_part e in
-    let r : bs ≡ rest = ap second_part e in
-    record { lines = rw (t, ← l, ← r) refl; shorter = rw (← r) (omega arith) }
-
-cut_behind : (b : ℕ) (bs line rest : List ℕ) → (b == 10) ≡ false → ((l r : List ℕ) → cut_at 10 bs ≡ Some (l, r) → IsCut bs l r) → (o : Option (List ℕ × List ℕ)) → cut_at 10 bs ≡ o → onto_cut b o ≡ Some (line, rest) → IsCut (b ∷ bs) line rest
-cut_behind b bs line rest f behind None e h = cc
-cut_behind b bs line rest f behind (Some p) e h =
-    let l : b ∷ p.0 ≡ line = ap first_part h in
-    let r : p.1 ≡ rest = ap second_part h in
-    let c = behind p.0 p.1 e in
-    record { lines = rw (f, c.lines, ← l, ← r) refl; shorter = rw (← r) (omega (arith, c.shorter)) }
-
 -- a text with an LF
 pub lines_cut : (text line rest : List ℕ) → cut_at 10 text ≡ Some (line, rest) → IsCut text line rest
-lines_cut [] line rest h = cc
-lines_cut (b ∷ bs) line rest h = elim (cases_Bool (b == 10)) [
-  | inl t ↦ cut_here b bs line rest t (rw t at h)
-  | inr f ↦ cut_behind b bs line rest f (λ l r e. lines_cut bs l r e) (cut_at 10 bs) refl (rw f at h)
-]
+lines_cut text line rest h = let c = first_cut 10 lines_of (λ b bs. refl) text line rest h in record { lines = c.pieces; shorter = c.shorter }
 
 -- a text with none
 last_behind : (b c : ℕ) (cs : List ℕ) → (b == 10) ≡ false → (cut_at 10 (c ∷ cs) ≡ None → lines_of (c ∷ cs) ≡ (c ∷ cs) ∷ []) → (o : Option (List ℕ × List ℕ)) → cut_at 10 (c ∷ cs) ≡ o → onto_cut b o ≡ None → lines_of (b ∷ c ∷ cs) ≡ (b ∷ c ∷ cs) ∷ []

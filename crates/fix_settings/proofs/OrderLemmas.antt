@@ -1,5 +1,5 @@
 -- Names in order, each once.
-use Rattle.std.proofs.Common.{◌≡◌, ℕ, zero, suc, ◌<◌, true, false, List, [], ◌∷◌, length, get_or, bytes_eq, Option, Some, None, refl, sym, ap, ◌∙◌, subst, arith, inl, inr, add-one}
+use Rattle.std.proofs.Common.{◌≡◌, ℕ, zero, suc, ◌<◌, true, false, List, [], ◌∷◌, ◌++◌, length, get_or, bytes_eq, Option, Some, None, refl, sym, ap, ◌∙◌, subst, arith, inl, inr, add-one}
 use denote.Ref.{Bor}
 use Rattle.std.specs.Prelude.{Contains, IsPermutation}
 use Rattle.std.specs.List.Sorted.{IsSorted}
@@ -13,6 +13,7 @@ use Rattle.std.proofs.lemmas.Map.Text.{is_eq-slice_cmp}
 use Rattle.std.proofs.lemmas.Slice.Eq.{bytes_eq-Decides}
 use Rattle.std.proofs.lemmas.List.Sorted.{Contains-permutation, IsPermutation-map, IsPermutation-sym}
 use Rattle.fix_base.specs.Lists.{Among, here, there}
+use Rattle.fix_base.proofs.ListLemmas.{Among-append_left, Among-append_right, Among-append_cases}
 use Rattle.fix_settings.specs.Lent.{names_read}
 use Rattle.fix_settings.specs.Reading.{IsAscending, AreInOrder, is_last, distinct}
 
@@ -99,3 +100,17 @@ distinct_in_order names (x ∷ xs) s p = record {
 
 pub sorted_in_order : (names sorted : List (Bor (List ℕ))) → IsSorted borrowed sorted → IsPermutation names sorted → AreInOrder (names_read names) (distinct None (names_read sorted))
 sorted_in_order names sorted s p = distinct_in_order (names_read names) (names_read sorted) (sorted_names sorted s) (IsPermutation-map (λ n. n.now) names sorted p)
+
+-- names in order, in place of some of those that are put in order
+pub with_ordered : (names ordered more made : List (List ℕ)) → AreInOrder names ordered → AreInOrder (ordered ++ more) made → AreInOrder (names ++ more) made
+with_ordered names ordered more made is h = record {
+  ascending = h.ascending;
+  each = λ n m. elim (Among-append_cases ordered more (h.each n m)) [
+    | inl a ↦ Among-append_left more (is.each n a)
+    | inr b ↦ Among-append_right names b
+  ];
+  all = λ n m. elim (Among-append_cases names more m) [
+    | inl a ↦ h.all n (Among-append_left more (is.all n a))
+    | inr b ↦ h.all n (Among-append_right ordered b)
+  ];
+}

@@ -1,22 +1,23 @@
 -- Values of UTF-8 texts are UTF-8.
-use Rattle.std.proofs.Common.{◌≡◌, ℕ, zero, suc, ◌≤◌, ◌==◌, Bool, true, false, List, [], ◌∷◌, ◌++◌, length, Option, Some, None, option_map, bytes_eq, codes, nat_lt, refl, sym, subst, arith, inl, inr, if◌then◌else◌}
+use Rattle.std.proofs.Common.{◌≡◌, ℕ, zero, suc, ◌≤◌, ◌==◌, Bool, true, false, List, ◌∷◌, ◌++◌, length, Option, Some, None, option_map, bytes_eq, codes, nat_lt, refl, sym, subst, arith, if◌then◌else◌}
 use Rattle.std.specs.Str.{IsUtf8}
 use Rattle.std.specs.List.{AllByRecursion, slice_split, list_all}
 use Rattle.fix_base.specs.Session.{is_comp_id}
 use Rattle.fix_base.specs.Says.{number_in}
-use Rattle.fix_base.specs.Lists.{Among, here, there}
-use Rattle.fix_base.proofs.ListLemmas.{Among-append_cases}
 use Rattle.fix_settings.specs.declared.key.Key.{Key}
 use Rattle.fix_settings.specs.declared.key.Key.TheVariants as key
 use Rattle.fix_settings.specs.declared.form.Form.{Form}
 use Rattle.fix_settings.specs.declared.form.Form.TheVariants as form
-use Rattle.fix_settings.specs.Lines.{Pair, Line, Passed, Default, Session, Given, Wrong, Section, cut_at, sections_of, last_of}
-use Rattle.fix_settings.specs.Forms.{Value, Version, Number, Port, Clock, Day, Flag, Fine, Types, value_in, text_if, version_in, clock_in, day_in, flag_in, precision_in, is_type}
-use Rattle.fix_settings.specs.Table.{rule_of, name_of}
-use Rattle.fix_settings.specs.Reading.{value_from, pair_for, is_known, unknown_of, ignored_of}
-use Rattle.fix_settings.specs.Lawful.{ValueUtf8, IfUtf8}
+use Rattle.fix_settings.specs.Lines.{Pair, cut_at}
+use Rattle.fix_settings.specs.Forms.{Version, Number, Port, Clock, Day, Flag, Fine, Types, value_in, text_if, version_in, clock_in, day_in, flag_in, precision_in, is_type}
+use Rattle.fix_settings.specs.Table.{rule_of}
+use Rattle.fix_settings.specs.Reading.{value_from, pair_for}
+use Rattle.fix_settings.specs.Lawful.{ValueUtf8, IfHas}
 use Rattle.fix_settings.proofs.FormLemmas.{piece_cut, one_piece}
-use Rattle.fix_settings.proofs.TextLemmas.{utf8_front, utf8_behind, cut_is, PairUtf8, LineUtf8, IfPair, run_utf8, either_utf8, last_utf8}
+use Rattle.fix_settings.proofs.CutLemmas.{cut_is}
+use Rattle.fix_settings.proofs.PairLemmas.{IfPair, for_has}
+use Rattle.fix_settings.proofs.ValueLemmas.{mapped}
+use Rattle.fix_settings.proofs.TextLemmas.{utf8_front, utf8_behind, PairUtf8}
 
 pieces_from : (n : ℕ) (text : List ℕ) (o : Option (List ℕ × List ℕ)) → length text ≤ n → cut_at 44 text ≡ o → IsUtf8 text → AllByRecursion IsUtf8 (slice_split (λ b. b == 44) text)
 pieces_from n text None le e u = subst (AllByRecursion IsUtf8) (sym (one_piece text e)) (u, tt)
@@ -30,38 +31,34 @@ pieces_from (suc n) text (Some p) le e u =
 pieces_utf8 : (text : List ℕ) → IsUtf8 text → AllByRecursion IsUtf8 (slice_split (λ b. b == 44) text)
 pieces_utf8 text u = pieces_from (length text) text (cut_at 44 text) (omega arith) refl u
 
-plain : {A : Type 0} (f : A → Value) → ((a : A) → ValueUtf8 (f a)) → (o : Option A) → IfUtf8 (option_map f o)
-plain f each None = tt
-plain f each (Some a) = each a
-
-text_utf8 : (b : Bool) (text : List ℕ) → IsUtf8 text → IfUtf8 (text_if b text)
+text_utf8 : (b : Bool) (text : List ℕ) → IsUtf8 text → IfHas ValueUtf8 (text_if b text)
 text_utf8 true text u = u
 text_utf8 false text u = tt
 
-types_utf8 : (b : Bool) (ts : List (List ℕ)) → AllByRecursion IsUtf8 ts → IfUtf8 (option_map Types (if b then Some ts else None))
+types_utf8 : (b : Bool) (ts : List (List ℕ)) → AllByRecursion IsUtf8 ts → IfHas ValueUtf8 (option_map Types (if b then Some ts else None))
 types_utf8 true ts u = u
 types_utf8 false ts u = tt
 
-no_utf8 : (b : Bool) → IfUtf8 (if b then Some (Flag false) else None)
+no_utf8 : (b : Bool) → IfHas ValueUtf8 (if b then Some (Flag false) else None)
 no_utf8 true = tt
 no_utf8 false = tt
 
-value_utf8 : (f : Form) (text : List ℕ) → IsUtf8 text → IfUtf8 (value_in f text)
-value_utf8 form.Version text u = plain Version (λ a. tt) (version_in text)
+value_utf8 : (f : Form) (text : List ℕ) → IsUtf8 text → IfHas ValueUtf8 (value_in f text)
+value_utf8 form.Version text u = mapped ValueUtf8 Version (version_in text) (λ a e. tt)
 value_utf8 form.CompId text u = text_utf8 (is_comp_id text) text u
-value_utf8 (form.Number low high) text u = plain Number (λ a. tt) (number_in low high text)
-value_utf8 form.Port text u = plain Port (λ a. tt) (number_in 1 65535 text)
-value_utf8 form.Clock text u = plain Clock (λ a. tt) (clock_in text)
-value_utf8 form.Day text u = plain Day (λ a. tt) (day_in text)
+value_utf8 (form.Number low high) text u = mapped ValueUtf8 Number (number_in low high text) (λ a e. tt)
+value_utf8 form.Port text u = mapped ValueUtf8 Port (number_in 1 65535 text) (λ a e. tt)
+value_utf8 form.Clock text u = mapped ValueUtf8 Clock (clock_in text) (λ a e. tt)
+value_utf8 form.Day text u = mapped ValueUtf8 Day (day_in text) (λ a e. tt)
 value_utf8 form.Utc text u = text_utf8 (bytes_eq text (codes "UTC")) text u
 value_utf8 form.Rule text u = u
-value_utf8 form.Flag text u = plain Flag (λ a. tt) (flag_in text)
+value_utf8 form.Flag text u = mapped ValueUtf8 Flag (flag_in text) (λ a e. tt)
 value_utf8 form.No text u = no_utf8 (bytes_eq text (codes "N"))
 value_utf8 form.Text text u = text_utf8 (nat_lt 0 (length text)) text u
-value_utf8 form.Precision text u = plain Fine (λ a. tt) (precision_in text)
+value_utf8 form.Precision text u = mapped ValueUtf8 Fine (precision_in text) (λ a e. tt)
 value_utf8 form.Types text u = types_utf8 (list_all is_type (slice_split (λ b. b == 44) text)) (slice_split (λ b. b == 44) text) (pieces_utf8 text u)
 
-standard_utf8 : (k : Key) → IfUtf8 (rule_of k).standard
+standard_utf8 : (k : Key) → IfHas ValueUtf8 (rule_of k).standard
 unfolding lib.Utf8.encode
 standard_utf8 key.BeginString = tt
 standard_utf8 key.SenderCompID = tt
@@ -94,35 +91,9 @@ standard_utf8 key.FileStorePath = tt
 standard_utf8 key.TimeStampPrecision = tt
 standard_utf8 key.AppTypes = tt
 
-from_utf8 : (k : Key) (o : Option Pair) → IfPair o → IfUtf8 (value_from (rule_of k) o)
+from_utf8 : (k : Key) (o : Option Pair) → IfPair PairUtf8 o → IfHas ValueUtf8 (value_from (rule_of k) o)
 from_utf8 k None u = standard_utf8 k
 from_utf8 k (Some p) u = value_utf8 (rule_of k).form p.value u.1
 
-pub for_utf8 : (defaults own : List Pair) (k : Key) → AllByRecursion PairUtf8 defaults → AllByRecursion PairUtf8 own → IfUtf8 (value_from (rule_of k) (pair_for defaults own k))
-for_utf8 defaults own k d o = from_utf8 k (pair_for defaults own k) (either_utf8 (last_of (name_of k) own) (last_of (name_of k) defaults) (last_utf8 (name_of k) own o) (last_utf8 (name_of k) defaults d))
-
-unknown_utf8 : (b : Bool) (key name : List ℕ) → IsUtf8 key → Among name (if b then [] else key ∷ []) → IsUtf8 name
-unknown_utf8 true key name u m = absurd (elim m [ ])
-unknown_utf8 false key name u m = one key name u m
-  where
-    one : (key name : List ℕ) → IsUtf8 key → Among name (key ∷ []) → IsUtf8 name
-    one key name u here = u
-    one key name u (there m) = absurd (elim m [ ])
-
-pub ignored_utf8 : (ps : List Pair) (name : List ℕ) → AllByRecursion PairUtf8 ps → Among name (ignored_of ps) → IsUtf8 name
-ignored_utf8 [] name all m = absurd (elim m [ ])
-ignored_utf8 (p ∷ ps) name all m = elim (Among-append_cases (unknown_of p) (ignored_of ps) m) [
-  | inl a ↦ unknown_utf8 (is_known p.key) p.key name all.0.0 a
-  | inr b ↦ ignored_utf8 ps name all.1 b
-]
-
-abbrev pub SectionUtf8 : Section → Type 0
-SectionUtf8 s = AllByRecursion PairUtf8 s.pairs
-
-pub sections_utf8 : (lines : List Line) → AllByRecursion LineUtf8 lines → AllByRecursion SectionUtf8 (sections_of lines)
-sections_utf8 [] all = tt
-sections_utf8 (Passed ∷ ls) all = sections_utf8 ls all.1
-sections_utf8 (Default ∷ ls) all = sections_utf8 ls all.1
-sections_utf8 (Session n ∷ ls) all = (run_utf8 ls all.1, sections_utf8 ls all.1)
-sections_utf8 (Given p ∷ ls) all = sections_utf8 ls all.1
-sections_utf8 (Wrong n ∷ ls) all = sections_utf8 ls all.1
+pub for_utf8 : (defaults own : List Pair) (k : Key) → AllByRecursion PairUtf8 defaults → AllByRecursion PairUtf8 own → IfHas ValueUtf8 (value_from (rule_of k) (pair_for defaults own k))
+for_utf8 defaults own k d o = from_utf8 k (pair_for defaults own k) (for_has PairUtf8 defaults own k d o)

@@ -1,6 +1,7 @@
 -- What is printed and read again.
 use Rattle.std.specs.Prelude.{◌≡◌, ℕ, ◌==◌, ◌&&◌, nat_lt, nat_le, not, Bool, true, List, [], ◌∷◌, length, map, Some, None}
 use Rattle.std.specs.List.{list_all, AllByRecursion}
+use Rattle.std.specs.Str.{IsUtf8}
 use Rattle.fix_base.specs.Session.{begin_string_of}
 use Rattle.fix_settings.specs.declared.key.Key.{Key}
 use Rattle.fix_settings.specs.declared.session_settings.SessionSettings.{SessionSettings}
@@ -48,8 +49,9 @@ AreAgain [] again = again ≡ []
 AreAgain (s ∷ ss) [] = ⊥
 AreAgain (s ∷ ss) (t ∷ ts) = IsAgain s t × AreAgain ss ts
 
--- the printed text isn't refused, and what is read of it are the same sessions without the ignored
--- keys
+-- the printed text is UTF-8 and isn't refused, and what is read of it are the same sessions without
+-- the ignored keys
 pub record ReadsBack (sessions : List SessionSettings) : Type 0 where
+  pub utf8 : IsUtf8 (settings_text sessions)
   pub right : refusal_of (settings_text sessions) ≡ None
   pub same : (again : List SessionSettings) → AreSessionsOf (settings_text sessions) again → AreAgain sessions again

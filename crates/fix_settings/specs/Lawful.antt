@@ -30,14 +30,15 @@ ValueUtf8 (Fine precision) = Unit {0}
 ValueUtf8 (Text text) = IsUtf8 text
 ValueUtf8 (Types types) = AllByRecursion IsUtf8 types
 
-abbrev pub IfUtf8 : Option Value → Type 0
-IfUtf8 None = Unit {0}
-IfUtf8 (Some v) = ValueUtf8 v
+-- what is so of a value, where there is one
+abbrev pub IfHas : (Value → Type 0) → Option Value → Type 0
+IfHas P None = Unit {0}
+IfHas P (Some v) = P v
 
 -- each field has a value that its key allows, and the keys that belong beside one that has a value
 -- have values; and its texts are UTF-8
 pub record IsLawful (s : SessionSettings) : Type 0 where
   pub each : (k : Key) → IsAllowed (rule_of k) (setting_of s k)
   pub beside : (k j : Key) → Among j (rule_of k).beside → is_some (setting_of s k) ≡ true → is_some (setting_of s j) ≡ true
-  pub utf8 : (k : Key) → IfUtf8 (setting_of s k)
+  pub utf8 : (k : Key) → IfHas ValueUtf8 (setting_of s k)
   pub ignored_utf8 : (name : List ℕ) → Among name s.ignored.items → IsUtf8 name

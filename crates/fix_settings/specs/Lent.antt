@@ -6,11 +6,9 @@ use denote.Ref.{Bor}
 use Rattle.fix_settings.specs.declared.line.PairRef.{PairRef}
 use Rattle.fix_settings.specs.declared.line.LineRef.{LineRef}
 use Rattle.fix_settings.specs.declared.line.LineRef.TheVariants as lent
-use Rattle.fix_settings.specs.declared.form.Value.{Value as ValueRef}
-use Rattle.fix_settings.specs.declared.form.Value.TheVariants as held
+use Rattle.fix_settings.specs.declared.form.Held.{Held}
+use Rattle.fix_settings.specs.declared.form.Held.TheVariants as held
 use Rattle.fix_settings.specs.declared.table.Row.{Row}
-use Rattle.fix_settings.specs.declared.table.Shown.{Shown}
-use Rattle.fix_settings.specs.declared.table.Shown.TheVariants as shown
 use Rattle.fix_settings.specs.declared.judging.PartyRef.{PartyRef}
 use Rattle.fix_settings.specs.declared.section.SectionRef.{SectionRef}
 use Rattle.fix_settings.specs.Reading.{Party}
@@ -32,16 +30,24 @@ line_read (lent.Wrong n) = Wrong n
 abbrev pub lines_read : List LineRef → List Line
 lines_read lines = map line_read lines
 
-abbrev pub value_read : ValueRef → Value
-value_read (held.Version begin) = Version begin
-value_read (held.Number n) = Number n
-value_read (held.Port n) = Port n
-value_read (held.Clock s) = Clock s
-value_read (held.Day day) = Day day
-value_read (held.Flag on) = Flag on
-value_read (held.Fine precision) = Fine precision
-value_read (held.Text text) = Text text.now
-value_read (held.Joined text) = Types (slice_split (λ b. b == 44) text.now)
+-- a value, by what types say
+abbrev pub held_as : {L : Type 0} → (L → List (List ℕ)) → Held L → Value
+held_as types_of (held.Version begin) = Version begin
+held_as types_of (held.Number n) = Number n
+held_as types_of (held.Port n) = Port n
+held_as types_of (held.Clock s) = Clock s
+held_as types_of (held.Day day) = Day day
+held_as types_of (held.Flag on) = Flag on
+held_as types_of (held.Fine precision) = Fine precision
+held_as types_of (held.Text text) = Text text.now
+held_as types_of (held.Types types) = Types (types_of types)
+
+-- types joined by commas
+abbrev pub value_read : Held (Bor (List ℕ)) → Value
+value_read v = held_as (λ text. slice_split (λ b. b == 44) text.now) v
+
+abbrev pub shown_read : Held (Bor (List (List ℕ))) → Value
+shown_read v = held_as (λ types. types.now) v
 
 abbrev pub rule_read : Row → Rule
 rule_read r = record { name = r.name.now; form = r.form; required = r.required; standard = option_map value_read r.standard; beside = r.beside.now }
@@ -61,14 +67,3 @@ section_read s = record { line = s.line; pairs = run_of (lines_read s.behind.now
 
 abbrev pub names_read : List (Bor (List ℕ)) → List (List ℕ)
 names_read names = map (λ name. name.now) names
-
-abbrev pub shown_read : Shown → Value
-shown_read (shown.Version begin) = Version begin
-shown_read (shown.Number n) = Number n
-shown_read (shown.Port n) = Port n
-shown_read (shown.Clock s) = Clock s
-shown_read (shown.Day day) = Day day
-shown_read (shown.Flag on) = Flag on
-shown_read (shown.Fine precision) = Fine precision
-shown_read (shown.Text text) = Text text.now
-shown_read (shown.Types types) = Types types.now

@@ -41,9 +41,9 @@ pub enum Form {
     Types,
 }
 
-/// What a value says, without a copy.
+/// A value without a copy, with its types held as `L`.
 #[derive(Clone, Copy)]
-pub enum Value<'a> {
+pub enum Held<'a, L> {
     Version(Begin),
     Number(u32),
     Port(u16),
@@ -52,9 +52,11 @@ pub enum Value<'a> {
     Flag(bool),
     Fine(Precision),
     Text(&'a [u8]),
-    /// Types joined by commas.
-    Joined(&'a [u8]),
+    Types(L),
 }
+
+/// What a text says; its types are joined by commas.
+pub type Value<'a> = Held<'a, &'a [u8]>;
 
 // BeginString (8).
 fn version_in(text: &[u8]) -> Option<Begin>
@@ -278,7 +280,7 @@ pub fn value_in(form: Form, text: &[u8]) -> Option<Value<'_>>
         Form::Precision => Some(Value::Fine(precision_in(text)?)),
         Form::Types => {
             if are_types(text) {
-                Some(Value::Joined(text))
+                Some(Value::Types(text))
             } else {
                 None
             }

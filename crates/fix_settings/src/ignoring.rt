@@ -78,15 +78,15 @@ fn is_last(last: Option<&[u8]>, name: &[u8]) -> bool
     }
 }
 
-// Copies of the names, without those that are the same as the one before.
-fn distinct(alloc: Global, names: &[&[u8]]) -> Result<Vec<Bytes>, AllocError>
-    ensures { IfOk result (λ made. made.items ≡ the_distinct None (names_read names.now)) }
+// The names without those that are the same as the one before.
+fn distinct<'a>(alloc: Global, names: &[&'a [u8]]) -> Result<Vec<&'a [u8]>, AllocError>
+    ensures { IfOk result (λ made. names_read made.items ≡ the_distinct None (names_read names.now)) }
 {
     let mut made = Vec::new(alloc);
     let mut last: Option<&[u8]> = None;
     for name in names {
         if !is_last(last, name) {
-            made.push(Bytes::from_vec(Vec::from_slice(alloc, name)?))?;
+            made.push(*name)?;
             last = Some(*name);
         }
     }
@@ -94,11 +94,22 @@ fn distinct(alloc: Global, names: &[&[u8]]) -> Result<Vec<Bytes>, AllocError>
 }
 
 /// The names in the order of their bytes, each once.
-pub fn in_order(alloc: Global, names: Vec<&[u8]>) -> Result<Vec<Bytes>, AllocError>
-    ensures { IfOk result (λ made. AreInOrder (names_read names.entry.items) made.items) }
+pub fn in_order<'a>(alloc: Global, names: Vec<&'a [u8]>) -> Result<Vec<&'a [u8]>, AllocError>
+    ensures { IfOk result (λ made. AreInOrder (names_read names.entry.items) (names_read made.items)) }
 {
     let mut names = names;
     names.sort()?;
     let made = distinct(alloc, &names)?;
+    Ok(made)
+}
+
+/// Copies of the names.
+pub fn copies(alloc: Global, names: &[&[u8]]) -> Result<Vec<Bytes>, AllocError>
+    ensures { IfOk result (λ made. made.items ≡ names_read names.now) }
+{
+    let mut made = Vec::new(alloc);
+    for name in names {
+        made.push(Bytes::from_vec(Vec::from_slice(alloc, name)?))?;
+    }
     Ok(made)
 }

@@ -18,9 +18,11 @@ mod settings;
 mod table;
 #[cfg(test)]
 mod tests;
+#[cfg(test)]
+mod value_tests;
 
 pub use fault::{SettingsCause, SettingsFault};
 pub use key::{KEYS, Key};
-pub use laws::what_is_printed_is_read_again;
+pub use laws::{what_is_printed_is_read_again, what_is_read_prints_and_reads_again};
 pub use session_settings::SessionSettings;
 pub use settings::Settings;

@@ -144,7 +144,7 @@ fn types_option(alloc: Global, value: Option<Value<'_>>) -> Result<Option<Vec<By
     ensures { IfOk result (λ made. option_map (λ types. types.items) made ≡ types_if (option_map value_read value.entry)) }
 {
     match value {
-        Some(Value::Joined(text)) => {
+        Some(Value::Types(text)) => {
             let made = pieces(alloc, text)?;
             Ok(Some(made))
         }

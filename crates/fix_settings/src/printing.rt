@@ -97,8 +97,12 @@ fn put_value(out: &mut Vec<u8>, value: Shown<'_>) -> Result<(), AllocError>
     }
 }
 
-// A line for a key that has a value.
-fn put_setting(out: &mut Vec<u8>, settings: &SessionSettings, key: Key) -> Result<(), AllocError>
+/// A line for a key that has a value.
+pub fn put_setting(
+    out: &mut Vec<u8>,
+    settings: &SessionSettings,
+    key: Key,
+) -> Result<(), AllocError>
     ensures { OnOk result (out.new.items ≡ out.old.items ++ setting_line key (setting_of settings.now key)) }
 {
     let Some(value) = setting(settings, key) else {

@@ -3,13 +3,13 @@ ghost use Rattle.std.specs.Prelude.{◌≡◌, ◌<◌, ◌^◌, List, IfOk, len
 ghost use Rattle.fix_settings.specs.declared.key.TheConstants.{KEYS as THE_KEYS};
 ghost use Rattle.fix_settings.specs.Lines.{Pair, last_of, defaults_of, sections_of as the_sections};
 ghost use Rattle.fix_settings.specs.Lent.{pairs_read, lines_read, names_read, section_read};
-ghost use Rattle.fix_settings.specs.Reading.{ignored_of};
+ghost use Rattle.fix_settings.specs.Reading.{ignored_of, AreInOrder};
 ghost use Rattle.fix_settings.specs.Table.{name_of};
 ghost use Rattle.fix_settings.specs.Read.{DefaultsAre, IsRead, AreRead, IsReadOf};
 
 use crate::SessionSettings;
 use crate::fault::{SettingsCause, SettingsFault};
-use crate::ignoring::{add_defaults, add_run, in_order};
+use crate::ignoring::{add_defaults, add_run, copies, in_order};
 use crate::judging::{PartyRef, keys_fault, line_fault, party_of, same_fault};
 use crate::line::{LineRef, PairRef, lines_of};
 use crate::making::settings_from;
@@ -26,7 +26,7 @@ pub enum OneRead<'a> {
 }
 
 // Reads one section. `defaults` has the last default pair for each key, and `ignored` the default
-// sections' keys that mean nothing, of these lines.
+// sections' keys that mean nothing, in order and each once, of these lines.
 fn read_section<'a>(
     alloc: Global,
     lines: &[LineRef<'a>],
@@ -36,7 +36,7 @@ fn read_section<'a>(
 ) -> Result<OneRead<'a>, AllocError>
     requires long { length defaults.now ≡ 30 }
     requires pairs { DefaultsAre lines.now defaults.now }
-    requires names { names_read ignored.now ≡ ignored_of (defaults_of (lines_read lines.now)) }
+    requires names { AreInOrder (ignored_of (defaults_of (lines_read lines.now))) (names_read ignored.now) }
     ensures { IfOk result (λ read. IsRead (defaults_of (lines_read lines.now)) (section_read section.now) read) }
 {
     let pairs = session_pairs(alloc, section.behind, defaults)?;
@@ -46,7 +46,8 @@ fn read_section<'a>(
     let party = party_of(section.line, &pairs);
     let mut names = Vec::from_slice(alloc, ignored)?;
     add_run(&mut names, section.behind)?;
-    let ignored = in_order(alloc, names)?;
+    let names = in_order(alloc, names)?;
+    let ignored = copies(alloc, &names)?;
     let settings = settings_from(alloc, &pairs, ignored)?;
     Ok(OneRead::Session(settings, party))
 }
@@ -61,7 +62,7 @@ fn read_sections<'a>(
 ) -> Result<Result<Vec<SessionSettings>, SettingsFault>, AllocError>
     requires long { length defaults.now ≡ 30 }
     requires pairs { DefaultsAre lines.now defaults.now }
-    requires names { names_read ignored.now ≡ ignored_of (defaults_of (lines_read lines.now)) }
+    requires names { AreInOrder (ignored_of (defaults_of (lines_read lines.now))) (names_read ignored.now) }
     ensures { IfOk result (λ read. AreRead (defaults_of (lines_read lines.now)) (map section_read sections.now) read) }
 {
     let mut sessions = Vec::new(alloc);
@@ -103,5 +104,6 @@ pub fn read_text(
     let defaults = default_pairs(alloc, &lines)?;
     let mut ignored = Vec::new(alloc);
     add_defaults(&mut ignored, &lines)?;
+    let ignored = in_order(alloc, ignored)?;
     read_sections(alloc, &lines, &sections, &defaults, &ignored)
 }

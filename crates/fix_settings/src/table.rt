@@ -7,7 +7,7 @@ ghost use Rattle.fix_settings.specs.Forms.{Port, Clock, Day, Text, Types};
 ghost use Rattle.fix_settings.specs.Lent.{rule_read, value_read, shown_read};
 
 use crate::SessionSettings;
-use crate::form::{Form, Value};
+use crate::form::{Form, Held, Value};
 use crate::key::Key;
 use fix_base::{Begin, Bytes, Precision};
 
@@ -161,19 +161,8 @@ pub fn row_of(key: Key) -> Row
     }
 }
 
-/// What a session has for a key, without a copy.
-#[derive(Clone, Copy)]
-pub enum Shown<'a> {
-    Version(Begin),
-    Number(u32),
-    Port(u16),
-    Clock(u32),
-    Day(u8),
-    Flag(bool),
-    Fine(Precision),
-    Text(&'a [u8]),
-    Types(&'a [Bytes]),
-}
+/// What a session has for a key.
+pub type Shown<'a> = Held<'a, &'a [Bytes]>;
 
 fn port(value: Option<u16>) -> Option<Shown<'static>>
     ensures { option_map shown_read result ≡ option_map Port value }

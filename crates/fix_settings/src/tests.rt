@@ -41,7 +41,7 @@ fn what_is_printed_reads_the_same(rt: HostRuntime) -> Result<(), Fail> {
 }
 
 // A text, and the line and the cause of its refusal.
-fn refused(rt: &impl Abort, alloc: Global, text: &str, line: u32, cause: SettingsCause) {
+pub fn refused(rt: &impl Abort, alloc: Global, text: &str, line: u32, cause: SettingsCause) {
     assert!(rt; text.len() < 10_000);
     match Settings::read(alloc, text) {
         Ok(_) => assert!(rt; false),
@@ -133,49 +133,6 @@ fn refuses(rt: &impl Abort, alloc: Global, lines: &str, key: Key) -> Result<(), 
 }
 
 #[test]
-fn values_out_of_their_bounds_are_refused(rt: HostRuntime) -> Result<(), Fail> {
-    refuses(&rt, rt.alloc(), "HeartBtInt=86401\n", Key::HeartBtInt)?;
-    refuses(&rt, rt.alloc(), "HeartBtInt=-1\n", Key::HeartBtInt)?;
-    refuses(
-        &rt,
-        rt.alloc(),
-        "ReconnectInterval=0\n",
-        Key::ReconnectInterval,
-    )?;
-    refuses(
-        &rt,
-        rt.alloc(),
-        "SocketAcceptPort=65536\n",
-        Key::SocketAcceptPort,
-    )?;
-    refuses(
-        &rt,
-        rt.alloc(),
-        "ResendRequestChunkSize=1000000000\n",
-        Key::ResendRequestChunkSize,
-    )?;
-    refuses(&rt, rt.alloc(), "MaxLatency=0\n", Key::MaxLatency)?;
-    Ok(())
-}
-
-#[test]
-fn values_of_no_form_are_refused(rt: HostRuntime) -> Result<(), Fail> {
-    refuses(&rt, rt.alloc(), "ResetOnLogon=Y\n", Key::ResetOnLogon)?;
-    refuses(&rt, rt.alloc(), "CheckLatency=y\n", Key::CheckLatency)?;
-    refuses(&rt, rt.alloc(), "TimeZone=EST\n", Key::TimeZone)?;
-    refuses(&rt, rt.alloc(), "DataDictionary=\n", Key::DataDictionary)?;
-    refuses(&rt, rt.alloc(), "AppTypes=D,,8\n", Key::AppTypes)?;
-    refuses(&rt, rt.alloc(), "AppTypes=123456789\n", Key::AppTypes)?;
-    refuses(
-        &rt,
-        rt.alloc(),
-        "TimeStampPrecision=NANOS\n",
-        Key::TimeStampPrecision,
-    )?;
-    Ok(())
-}
-
-#[test]
 fn a_window_needs_both_ends(rt: HostRuntime) -> Result<(), Fail> {
     refuses(&rt, rt.alloc(), "StartTime=08:00:00\n", Key::StartTime)?;
     refuses(&rt, rt.alloc(), "EndTime=08:00:00\n", Key::EndTime)?;
@@ -188,8 +145,14 @@ fn a_window_needs_both_ends(rt: HostRuntime) -> Result<(), Fail> {
     refuses(
         &rt,
         rt.alloc(),
-        "StartTime=24:00:00\nEndTime=08:00:00\n",
-        Key::StartTime,
+        "StartDay=Monday\nStartTime=08:00:00\nEndTime=09:00:00\n",
+        Key::StartDay,
+    )?;
+    refuses(
+        &rt,
+        rt.alloc(),
+        "EndDay=Monday\nStartTime=08:00:00\nEndTime=09:00:00\n",
+        Key::EndDay,
     )?;
     Ok(())
 }
@@ -211,5 +174,143 @@ fn blanks_and_case_are_as_written(rt: HostRuntime) -> Result<(), Fail> {
     assert_eq!(rt; session.end_day, Some(7));
     assert!(rt; session.time_stamp_precision == Precision::Micros);
     assert!(rt; session.zone_rule.is_some());
+    Ok(())
+}
+
+// Within a line: its form, then the section, then TLS.
+#[test]
+fn lines_are_judged_in_order(rt: HostRuntime) {
+    refused(&rt, rt.alloc(), "no value\n", 1, SettingsCause::NotKeyValue);
+    refused(
+        &rt,
+        rt.alloc(),
+        "SocketUseSSL=Y\n",
+        1,
+        SettingsCause::NoSection,
+    );
+    refused(
+        &rt,
+        rt.alloc(),
+        "[SESSION]\nSocketCertificateFile=a\n",
+        2,
+        SettingsCause::TlsAsked,
+    );
+    refused(
+        &rt,
+        rt.alloc(),
+        "[SESSION]\nSocketPrivateKeyFile=a\n[FOO]\n",
+        2,
+        SettingsCause::TlsAsked,
+    );
+    refused(
+        &rt,
+        rt.alloc(),
+        "[SESSION]\n[SESSION]\n",
+        1,
+        SettingsCause::Missing(Key::BeginString),
+    );
+}
+
+// A text of so many empty sessions.
+fn sessions_of(alloc: Global, count: usize) -> Result<String, Fail> {
+    let mut text = String::new(alloc);
+    for _ in 0..count {
+        text.push_str("[SESSION]\n")?;
+    }
+    Ok(text)
+}
+
+#[test]
+fn at_most_256_sessions_are_read(rt: HostRuntime) -> Result<(), Fail> {
+    let most = sessions_of(rt.alloc(), 256)?;
+    refused(
+        &rt,
+        rt.alloc(),
+        most.as_str(),
+        1,
+        SettingsCause::Missing(Key::BeginString),
+    );
+    let more = sessions_of(rt.alloc(), 257)?;
+    refused(&rt, rt.alloc(), more.as_str(), 0, SettingsCause::NoSection);
+    Ok(())
+}
+
+#[test]
+fn a_key_that_is_needed_is_missing(rt: HostRuntime) {
+    refused(
+        &rt,
+        rt.alloc(),
+        "[SESSION]\nBeginString=FIX.4.2\nTargetCompID=B\n",
+        1,
+        SettingsCause::Missing(Key::SenderCompID),
+    );
+    refused(
+        &rt,
+        rt.alloc(),
+        "\n[SESSION]\nBeginString=FIX.4.2\nSenderCompID=A\n",
+        2,
+        SettingsCause::Missing(Key::TargetCompID),
+    );
+}
+
+// Session by session and key by key; a value of a default section is at fault in its own line; two
+// sessions between the same come last.
+#[test]
+fn sessions_are_judged_in_order(rt: HostRuntime) {
+    refused(
+        &rt,
+        rt.alloc(),
+        "[SESSION]\nSenderCompID=\n",
+        1,
+        SettingsCause::Missing(Key::BeginString),
+    );
+    refused(
+        &rt,
+        rt.alloc(),
+        "[SESSION]\nBeginString=FIX.4.4\nTargetCompID=B\nSenderCompID=A\n[DEFAULT]\nMaxLatency=0\nHeartBtInt=x\n",
+        7,
+        SettingsCause::BadValue(Key::HeartBtInt),
+    );
+    refused(
+        &rt,
+        rt.alloc(),
+        "[DEFAULT]\nBeginString=FIX.4.2\nSenderCompID=A\nTargetCompID=B\n[SESSION]\n[SESSION]\n[SESSION]\nTimeZone=\n",
+        8,
+        SettingsCause::BadValue(Key::TimeZone),
+    );
+}
+
+const LETTERS: [&str; 16] = [
+    "A", "B", "C", "D", "E", "F", "G", "H", "I", "J", "K", "L", "M", "N", "O", "P",
+];
+
+// 65117 default lines with the same ignored key, and 256 sessions.
+fn large_text(alloc: Global) -> Result<String, Fail> {
+    let mut text = String::from_str(alloc, "[DEFAULT]\nBeginString=FIX.4.2\nSenderCompID=SELL\n")?;
+    for _ in 0..65_117 {
+        text.push_str("x=234567890ABCD\n")?;
+    }
+    for first in LETTERS {
+        for second in LETTERS {
+            text.push_str("[SESSION]\nTargetCompID=")?;
+            text.push_str(first)?;
+            text.push_str(second)?;
+            text.push_str("\n")?;
+        }
+    }
+    Ok(text)
+}
+
+#[test]
+fn a_large_text_is_read(rt: HostRuntime) -> Result<(), Fail> {
+    let text = large_text(rt.alloc())?;
+    assert!(rt; text.len() == 1_048_576);
+    let settings = Settings::read(rt.alloc(), text.as_str())
+        .ok()
+        .ok_or("refused")?;
+    let sessions = settings.sessions();
+    assert!(rt; sessions.len() == 256);
+    assert_eq!(rt; sessions[255].target_comp_id.as_slice(), b"PP".as_slice());
+    assert_eq!(rt; sessions[255].ignored.len(), 1);
     Ok(())
 }
