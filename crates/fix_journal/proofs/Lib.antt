@@ -3,3 +3,7 @@ mod Records
 mod Moments
 mod SyncedLemmas
 mod AppendLemmas
+mod Unique
+mod Gates
+mod SoundLemmas
+mod CallLemmas

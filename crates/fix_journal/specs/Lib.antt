@@ -1,3 +1,4 @@
 pub mod Format
 pub mod Synced
 pub mod AtRest
+pub mod Journal

@@ -2,4 +2,9 @@
 #![tactic(auto)]
 
 mod appending;
+mod fault;
+mod journal;
 mod synced;
+
+pub use fault::{AppendFault, OpenFault, ReadFault};
+pub use journal::Journal;
