@@ -7,3 +7,6 @@ mod Unique
 mod Gates
 mod SoundLemmas
 mod CallLemmas
+mod HeadLemmas
+mod ScanLemmas
+mod MakeLemmas

@@ -2,3 +2,4 @@ pub mod Format
 pub mod Synced
 pub mod AtRest
 pub mod Journal
+pub mod Opening

@@ -3,7 +3,11 @@
 
 mod appending;
 mod fault;
+mod heads;
 mod journal;
+mod making;
+mod scanning;
+mod surveying;
 mod synced;
 
 pub use fault::{AppendFault, OpenFault, ReadFault};
