@@ -1,26 +1,23 @@
 -- What the calls of a journal do to its disk.
-use Rattle.std.proofs.Common.{◌≡◌, inl, ℕ, ◌+◌, ◌-◌, ◌<◌, ◌≤◌, suc, Bool, false, List, [], ◌∷◌, ◌++◌, length, take, drop, get_or, Some, Result, Ok, Err, refl, sym, ◌∙◌, ap, subst, arith, length-append, true≢false}
-use Rattle.std.specs.Prelude.{IfSome, IfOk, IsSome, OnOk, slice_get, is_err}
+use Rattle.std.proofs.Common.{◌≡◌, ℕ, ◌+◌, ◌-◌, ◌<◌, ◌≤◌, suc, Bool, false, List, [], ◌∷◌, ◌++◌, length, take, drop, get_or, Some, Result, Ok, Err, refl, sym, ◌∙◌, ap, subst, arith, length-append, true≢false}
+use Rattle.std.specs.Prelude.{IfSome, IfOk, is_err}
 use Rattle.fix_disk.specs.Disk.{DiskSeen, IsLawful, DiskReads}
 use Rattle.fix_disk.specs.Moments.{LeavesOnly}
 use Rattle.fix_disk.specs.declared.disk.DiskFailed.{DiskFailed}
-use Rattle.fix_journal.specs.declared.fault.AppendFault.{AppendFault}
 use Rattle.fix_journal.specs.declared.fault.AppendFault.TheVariants.{DiskFault}
-use Rattle.fix_journal.specs.declared.fault.ReadFault.{ReadFault}
-use Rattle.fix_journal.specs.declared.fault.ReadFault.TheVariants as read
-use Rattle.fix_journal.specs.Format.{IsPayload, body_of, recorded, front, IsJournal}
-use Rattle.fix_journal.specs.AtRest.{IsAtRest, IsEither, Appends}
-use Rattle.fix_journal.specs.Journal.{gates_from, IsSound, Holds, Lasts, JournalAppends, JournalReads, append_failures, read_failures}
+use Rattle.fix_journal.specs.Format.{IsPayload, body_of, IsJournal}
+use Rattle.fix_journal.specs.AtRest.{IsAtRest, Appends}
+use Rattle.fix_journal.specs.Journal.{gates_from, IsSound, Lasts, JournalAppends, JournalReads}
 use Rattle.fix_journal.proofs.Moments.{started, goes_on}
 use Rattle.fix_journal.proofs.Gates.{length-front, gates-push}
-use Rattle.fix_journal.proofs.SoundLemmas.{some_same, rested, at_gate, read_there}
+use Rattle.fix_journal.proofs.SoundLemmas.{at_gate, read_there}
 
 -- what holds of an Ok, behind a test of the answer
 pub when_ok : {T E : Type 0} (answer : Result T E) {P : Type 0} → false ≡ is_err answer → IfOk answer (λ x. P) → P
 when_ok (Ok x) same p = p
 when_ok (Err e) same p = absurd (true≢false (sym same))
 
-lasts : (seen : DiskSeen) (end : ℕ) (payloads : List (List ℕ)) → IsAtRest seen end payloads → Lasts seen payloads
+pub lasts : (seen : DiskSeen) (end : ℕ) (payloads : List (List ℕ)) → IsAtRest seen end payloads → Lasts seen payloads
 lasts seen end payloads rests told c left = subst (λ f. IsJournal f payloads) (sym (rests.durable told c left)) rests.journal
 
 module _ (old new : DiskSeen) (gates : List ℕ) (sound : IsSound old gates false) (gate : ℕ) (gate_is : gate ≡ get_or gates (length gates - 1) gate) (payload staged : List ℕ) (fits : IsPayload payload) (is : staged ≡ body_of payload ++ 0 ∷ []) where
@@ -54,12 +51,13 @@ module _ (old new : DiskSeen) (gates : List ℕ) (sound : IsSound old gates fals
       rests = λ calm told.
           let got = sound.rests refl (done.tells_bytes.0 told) in
           let rests = done.kept got.0 payload (at_gate old gates sound gate gate_is got.0 (got.1.file, got.1.is, got.1.journal)) fits is in
-          let more = got.0 ++ payload ∷ [] in
-          (more,
-          subst (λ n. IsAtRest new n more) rests.at rests,
-          ap (λ l. l ++ (gate + length staged) ∷ []) got.2
-          ∙ ap (λ n. gates_from 9 got.0 ++ n ∷ []) (rests.at ∙ length-front more)
-          ∙ gates-push 9 got.0 payload);
+          let more = got.0 ++ payload ∷ [] in (
+            more,
+            subst (λ n. IsAtRest new n more) rests.at rests,
+            ap (λ l. l ++ (gate + length staged) ∷ []) got.2
+                ∙ ap (λ n. gates_from 9 got.0 ++ n ∷ []) (rests.at ∙ length-front more)
+                ∙ gates-push 9 got.0 payload,
+          );
     }
 
 module _ (old new : DiskSeen) (laws : IsLawful old) where

@@ -1,9 +1,9 @@
 -- What the first five bytes from a gate on say of the rest.
-use Rattle.std.proofs.Common.{◌≡◌, ℕ, ◌+◌, ◌-◌, ◌<◌, ◌≤◌, zero, suc, List, [], ◌∷◌, ◌++◌, length, take, drop, get_or, refl, sym, ◌∙◌, ap, subst, arith, append_assoc, length-append, length-drop, take-append-drop}
+use Rattle.std.proofs.Common.{◌≡◌, ℕ, ◌+◌, ◌-◌, ◌<◌, ◌≤◌, zero, suc, List, [], ◌∷◌, ◌++◌, length, take, drop, get_or, refl, sym, ◌∙◌, ap, arith, append_assoc, length-append, length-drop, take-append-drop}
 use Rattle.std.specs.Int.{w32, to_be_bytes, from_be_bytes}
 use Rattle.std.proofs.lemmas.Nat.{be_bytes_4, from_be_bytes-to_be_bytes_4}
 use Rattle.std.proofs.lemmas.List.{take_at, length-take-le}
-use Rattle.fix_journal.specs.Format.{OPEN, MOST_PAYLOAD, IsPayload, body_of, HoldsNoRecord}
+use Rattle.fix_journal.specs.Format.{OPEN, MOST_PAYLOAD, body_of, HoldsNoRecord}
 use Rattle.fix_journal.specs.Opening.{Judges}
 use Rattle.fix_journal.specs.declared.heads.Head.TheVariants.{Record}
 
@@ -47,13 +47,16 @@ module _ (rest head : List ℕ) (long : 5 ≤ length rest) (is : head ≡ take 5
       let payload = take size (drop 5 rest) in
       let size_long : length payload ≡ size = length-take-le size (drop 5 rest) (omega (arith, within, length-drop 5 rest)) in
       let bytes : to_be_bytes w32 (length payload) ≡ take 4 (drop 1 rest) = be_bytes_4 (size_of head) (length payload) refl small (size_long ∙ size_is) ∙ in_rest in
-      let whole : rest ≡ get_or head 0 0 ∷ (take 4 (drop 1 rest) ++ drop 5 rest) = shown rest long ∙ ap (λ l. get_or l 0 0 ∷ (take 4 (drop 1 rest) ++ drop 5 rest)) (sym is) in
-      (payload, (omega (arith, size_long, some), omega (arith, size_long, few)), size_long,
-      whole
-      ∙ ap (λ g. g ∷ (take 4 (drop 1 rest) ++ drop 5 rest)) gate
-      ∙ ap (λ l. OPEN ∷ (take 4 (drop 1 rest) ++ l)) (sym (take-append-drop size (drop 5 rest)))
-      ∙ ap (λ l. OPEN ∷ l) (sym (append_assoc (take 4 (drop 1 rest)) payload (drop size (drop 5 rest))))
-      ∙ ap (λ l. OPEN ∷ ((l ++ payload) ++ drop size (drop 5 rest))) (sym bytes))
+      let whole : rest ≡ get_or head 0 0 ∷ (take 4 (drop 1 rest) ++ drop 5 rest) = shown rest long ∙ ap (λ l. get_or l 0 0 ∷ (take 4 (drop 1 rest) ++ drop 5 rest)) (sym is) in (
+        payload,
+        (omega (arith, size_long, some), omega (arith, size_long, few)),
+        size_long,
+        whole
+            ∙ ap (λ g. g ∷ (take 4 (drop 1 rest) ++ drop 5 rest)) gate
+            ∙ ap (λ l. OPEN ∷ (take 4 (drop 1 rest) ++ l)) (sym (take-append-drop size (drop 5 rest)))
+            ∙ ap (λ l. OPEN ∷ l) (sym (append_assoc (take 4 (drop 1 rest)) payload (drop size (drop 5 rest))))
+            ∙ ap (λ l. OPEN ∷ ((l ++ payload) ++ drop size (drop 5 rest))) (sym bytes),
+      )
     where
       shown : (l : List ℕ) → 5 ≤ length l → l ≡ get_or (take 5 l) 0 0 ∷ (take 4 (drop 1 l) ++ drop 5 l)
       shown [] le = absurd (omega (arith, le))

@@ -10,3 +10,4 @@ mod CallLemmas
 mod HeadLemmas
 mod ScanLemmas
 mod MakeLemmas
+mod OpenLemmas

@@ -1,5 +1,5 @@
 -- The making of a journal in an unmade file.
-use Rattle.std.proofs.Common.{◌≡◌, ◌≢◌, inl, inr, ℕ, ◌+◌, ◌<◌, ◌≤◌, List, [], ◌∷◌, ◌++◌, length, take, drop, get_or, Option, Some, None, Result, Ok, Err, refl, sym, ◌∙◌, ap, subst, arith, true≢false}
+use Rattle.std.proofs.Common.{◌≡◌, inl, inr, ℕ, List, [], ◌∷◌, ◌++◌, length, drop, get_or, Option, Some, None, Result, Ok, Err, refl, sym, ◌∙◌, ap, subst, arith, true≢false}
 use Rattle.std.specs.Prelude.{IfSome, IsSome, is_some, OnOk}
 use Rattle.std.proofs.lemmas.Bool.{cases_eq}
 use Rattle.std.proofs.lemmas.List.Elements.{All-nil}
@@ -8,12 +8,12 @@ use Rattle.fix_disk.specs.Moments.{LeavesOnly}
 use Rattle.fix_disk.specs.declared.disk.DiskFailed.{DiskFailed}
 use Rattle.fix_journal.specs.Format.{OPEN, NAME, IsPayload, IsJournal, HasRecords}
 use Rattle.fix_journal.specs.Synced.{WritesSynced, TornFrom}
-use Rattle.fix_journal.specs.Opening.{Rests, IsClosed, IsShort, IsUntouched, Makes}
+use Rattle.fix_journal.specs.Opening.{Rests, IsClosed, IsShort, Makes}
 use Rattle.fix_journal.proofs.Files.{gate_torn, gate_written}
 use Rattle.fix_journal.proofs.Moments.{weaker, then_on}
 use Rattle.fix_journal.proofs.SoundLemmas.{some_same, told_case}
 
-at_told : (o : Option (List ℕ)) → IsSome o → (file : List ℕ) × (o ≡ Some file)
+pub at_told : (o : Option (List ℕ)) → IsSome o → (file : List ℕ) × (o ≡ Some file)
 at_told None some = absurd (true≢false (sym some))
 at_told (Some file) some = (file, refl)
 
@@ -93,8 +93,8 @@ module _ (old mid : DiskSeen) (laws : IsLawful old) (mid_laws : IsLawful mid) wh
       tells_bytes = (λ t. first.tells_bytes.0 (second.tells_bytes.0 t), λ t. second.tells_bytes.1 (first.tells_bytes.1 t));
       tells_images = (λ t. first.tells_images.0 (second.tells_images.0 t), λ t. second.tells_images.1 (first.tells_images.1 t));
       any_moment = then_on old mid new (λ c. HasRecords c [])
-      (step_moments (Ok x) 1 (NAME ++ 0 ∷ []) old mid IsClosed (λ c. HasRecords c []) laws mid_laws rests first closed_torn)
-      (step_moments answer 0 (1 ∷ []) mid new IsReady (λ c. HasRecords c []) mid_laws new_laws ready second ready_torn);
+          (step_moments (Ok x) 1 (NAME ++ 0 ∷ []) old mid IsClosed (λ c. HasRecords c []) laws mid_laws rests first closed_torn)
+          (step_moments answer 0 (1 ∷ []) mid new IsReady (λ c. HasRecords c []) mid_laws new_laws ready second ready_torn);
       now = step_now answer 0 (1 ∷ []) mid new IsReady (λ c. HasRecords c []) mid_laws new_laws ready second ready_torn;
       cause = omega (arith, first.cause, second.cause);
     }
@@ -126,17 +126,8 @@ module _ (old mid : DiskSeen) (laws : IsLawful old) (mid_laws : IsLawful mid) wh
       tells_bytes = (λ t. first.tells_bytes.0 (second.tells_bytes.0 t), λ t. second.tells_bytes.1 (first.tells_bytes.1 t));
       tells_images = (λ t. first.tells_images.0 (second.tells_images.0 t), λ t. second.tells_images.1 (first.tells_images.1 t));
       any_moment = then_on old mid new (λ c. HasRecords c [])
-      (step_moments (Ok x) 0 (0 ∷ []) old mid IsShort (λ c. HasRecords c []) laws mid_laws rests first short_torn)
-      second.any_moment;
+          (step_moments (Ok x) 0 (0 ∷ []) old mid IsShort (λ c. HasRecords c []) laws mid_laws rests first short_torn)
+          second.any_moment;
       now = second.now;
       cause = omega (arith, first.cause, second.cause);
     }
-
--- at rest behind calls that write nothing
-pub still_rests : (old new : DiskSeen) (P : List ℕ → Type 0) → Rests old P → IsUntouched old new → Rests new P
-still_rests old new P rests untouched = record {
-  holds = subst (λ o. IfSome o P) (sym untouched.bytes) rests.holds;
-  durable = λ told.
-      let before = untouched.tells_images.0 told in
-      subst (λ o. IfSome o (λ file. (c : List ℕ) → new.image c → c ≡ file)) (sym untouched.bytes) (told_case old.bytes (λ file. (c : List ℕ) → new.image c → c ≡ file) (λ file is c left. subst (λ o. IfSome o (λ f. (d : List ℕ) → old.image d → d ≡ f)) is (rests.durable before) c (untouched.images before c left)));
-}

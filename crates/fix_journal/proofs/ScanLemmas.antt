@@ -1,15 +1,13 @@
 -- A walk over the records of a file.
-use Rattle.std.proofs.Common.{◌≡◌, ◌≢◌, ℕ, ◌+◌, ◌-◌, ◌<◌, ◌≤◌, List, [], ◌∷◌, ◌++◌, length, take, drop, get_or, Some, Result, Ok, Err, refl, sym, ◌∙◌, ap, subst, arith, append_assoc, length-append, length-drop, take-append-drop}
-use Rattle.std.specs.Prelude.{All, IfSome, Option, None, Vec}
+use Rattle.std.proofs.Common.{◌≡◌, ℕ, ◌+◌, ◌-◌, ◌<◌, ◌≤◌, List, [], ◌∷◌, ◌++◌, length, take, drop, get_or, refl, sym, ◌∙◌, ap, subst, arith, length-append, length-drop, take-append-drop}
+use Rattle.std.specs.Prelude.{All, IfSome}
 use Rattle.std.proofs.lemmas.List.{take_at, drop-drop}
 use Rattle.std.proofs.lemmas.List.Elements.{All-push, All-nil}
-use Rattle.std.specs.declared.alloc.Global.{Global}
 use Rattle.fix_base.specs.Seen.{Rises}
-use Rattle.fix_disk.specs.Disk.{DiskSeen, IsLawful, failures}
-use Rattle.fix_disk.specs.Moments.{LeavesOnly}
+use Rattle.fix_disk.specs.Disk.{DiskSeen, IsLawful}
 use Rattle.fix_journal.specs.declared.heads.Head.{Head}
 use Rattle.fix_journal.specs.declared.heads.Head.TheVariants.{Closed, Record, Broken}
-use Rattle.fix_journal.specs.Format.{OPEN, NAME, IsPayload, body_of, recorded, front, IsJournal, Breaks}
+use Rattle.fix_journal.specs.Format.{OPEN, IsPayload, body_of, front, IsJournal, Breaks}
 use Rattle.fix_journal.specs.Journal.{gates_from}
 use Rattle.fix_journal.specs.Opening.{Judges, IsWithin, IsUntouched, HasLength, IsNamed}
 use Rattle.fix_journal.proofs.Records.{front_push}
@@ -63,16 +61,17 @@ begins old end laws le long named = record {
 -- the gate is closed
 pub ends : (file : List ℕ) (gate : ℕ) (gates : List ℕ) → gate < length file → IsUpTo file gate gates → Judges Closed (drop gate file) → (payloads : List (List ℕ)) × IsJournal file payloads × (gates ++ gate ∷ [] ≡ gates_from 9 payloads)
 ends file gate gates lt so_far shut =
-    let first = get_or (drop gate file) 0 0 in
-    (so_far.payloads,
-    record {
-      gate = first;
-      behind = drop 1 (drop gate file);
-      is = so_far.is ∙ ap (λ l. front so_far.payloads ++ l) (split (drop gate file) (omega (arith, lt, length-drop gate file)));
-      closed = shut;
-      each = so_far.each;
-    },
-    so_far.gates_are)
+    let first = get_or (drop gate file) 0 0 in (
+      so_far.payloads,
+      record {
+        gate = first;
+        behind = drop 1 (drop gate file);
+        is = so_far.is ∙ ap (λ l. front so_far.payloads ++ l) (split (drop gate file) (omega (arith, lt, length-drop gate file)));
+        closed = shut;
+        each = so_far.each;
+      },
+      so_far.gates_are,
+    )
   where
     split : (l : List ℕ) → 1 ≤ length l → l ≡ get_or l 0 0 ∷ drop 1 l
     split [] le = absurd (omega (arith, le))

@@ -1,6 +1,6 @@
 -- What the gates of a journal say of its file.
-use Rattle.std.proofs.Common.{◌≡◌, ℕ, ◌+◌, ◌-◌, ◌<◌, ◌≤◌, suc, Bool, false, List, [], ◌∷◌, ◌++◌, length, get_or, Option, Some, None, refl, sym, ◌∙◌, ap, subst, arith, length-append}
-use Rattle.std.specs.Prelude.{IfSome, IsSome, is_some}
+use Rattle.std.proofs.Common.{◌≡◌, ℕ, ◌+◌, ◌-◌, ◌<◌, ◌≤◌, suc, Bool, false, List, ◌∷◌, length, get_or, Option, Some, None, refl, sym, ◌∙◌, ap, subst, arith, length-append}
+use Rattle.std.specs.Prelude.{IfSome, is_some}
 use Rattle.fix_disk.specs.Disk.{DiskSeen, HasRange}
 use Rattle.fix_journal.specs.Format.{OPEN, NAME, front, IsJournal}
 use Rattle.fix_journal.specs.AtRest.{IsAtRest}

@@ -1,10 +1,10 @@
 -- A file has one list of records.
-use Rattle.std.proofs.Common.{◌≡◌, ◌≢◌, ℕ, ◌<◌, suc, List, [], ◌∷◌, ◌++◌, length, take, drop, get_or, refl, sym, ◌∙◌, ap, arith, append_assoc}
+use Rattle.std.proofs.Common.{◌≡◌, ◌≢◌, ℕ, suc, List, [], ◌∷◌, ◌++◌, length, take, drop, get_or, refl, sym, ◌∙◌, ap, arith, append_assoc}
 use Rattle.std.specs.Prelude.{All}
 use Rattle.std.specs.Int.{w32, to_be_bytes, from_be_bytes}
 use Rattle.std.proofs.lemmas.Nat.{from_be_bytes-to_be_bytes_4}
 use Rattle.std.proofs.lemmas.List.{take_at, drop_at}
-use Rattle.fix_journal.specs.Format.{OPEN, IsPayload, body_of, recorded, front, IsJournal}
+use Rattle.fix_journal.specs.Format.{OPEN, IsPayload, body_of, recorded, IsJournal}
 
 same_length : (p q : List ℕ) → IsPayload p → IsPayload q → to_be_bytes w32 (length p) ≡ to_be_bytes w32 (length q) → length p ≡ length q
 same_length p q fits fits' same =
@@ -19,9 +19,10 @@ one_body p q x y fits fits' same =
     let second = to_be_bytes w32 (length q) in
     let whole : first ++ (p ++ x) ≡ second ++ (q ++ y) = sym (append_assoc first p x) ∙ same ∙ append_assoc second q y in
     let long : length p ≡ length q = same_length p q fits fits' (sym (take_at first (p ++ x) 4 refl) ∙ ap (take 4) whole ∙ take_at second (q ++ y) 4 refl) in
-    let rest : p ++ x ≡ q ++ y = sym (drop_at first (p ++ x) 4 refl) ∙ ap (drop 4) whole ∙ drop_at second (q ++ y) 4 refl in
-    (sym (take_at p x (length p) refl) ∙ ap (take (length p)) rest ∙ take_at q y (length p) (sym long),
-        sym (drop_at p x (length p) refl) ∙ ap (drop (length p)) rest ∙ drop_at q y (length p) (sym long))
+    let rest : p ++ x ≡ q ++ y = sym (drop_at first (p ++ x) 4 refl) ∙ ap (drop 4) whole ∙ drop_at second (q ++ y) 4 refl in (
+      sym (take_at p x (length p) refl) ∙ ap (take (length p)) rest ∙ take_at q y (length p) (sym long),
+      sym (drop_at p x (length p) refl) ∙ ap (drop (length p)) rest ∙ drop_at q y (length p) (sym long),
+    )
 
 pub first_of : (p : List ℕ) (ps : List (List ℕ)) → All IsPayload (p ∷ ps) → IsPayload p
 first_of p ps each = each 0 [] (omega arith)

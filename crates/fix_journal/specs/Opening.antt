@@ -1,5 +1,5 @@
 -- What the opening of a journal finds in its file, and does to it.
-use Rattle.std.specs.Prelude.{◌≡◌, ◌≢◌, ◌⊎◌, ◌↔◌, ℕ, ◌+◌, ◌<◌, ◌≤◌, Bool, true, false, List, [], ◌∷◌, ◌++◌, length, take, drop, slice_index, Option, Some, IsSome, IfSome, Vec, Result, Ok, Err, OnOk, ⊤}
+use Rattle.std.specs.Prelude.{◌≡◌, ◌≢◌, ◌⊎◌, ◌↔◌, ℕ, ◌+◌, ◌<◌, ◌≤◌, Bool, true, false, List, [], ◌∷◌, ◌++◌, length, take, drop, slice_index, Option, Some, None, IsSome, IfSome, Vec, Result, Ok, Err, OnOk, ⊤}
 use Rattle.fix_base.specs.Seen.{Rises}
 use Rattle.fix_disk.specs.Disk.{DiskSeen, Only, failures}
 use Rattle.fix_disk.specs.Moments.{LeavesOnly}
@@ -9,10 +9,11 @@ use Rattle.fix_journal.specs.declared.heads.Head.TheVariants.{Closed, Record, Br
 use Rattle.std.specs.declared.alloc.Global.{Global}
 use Rattle.fix_journal.specs.declared.fault.OpenFault.{OpenFault}
 use Rattle.fix_journal.specs.declared.fault.OpenFault.TheVariants.{DiskFault, Damaged, OutOfMemory}
-use Rattle.fix_journal.specs.Journal.{gates_from}
+use Rattle.fix_journal.specs.Journal.{JournalSeen, Holds, Lasts, gates_from}
 use Rattle.fix_journal.specs.declared.surveying.Kind.{Kind}
-use Rattle.fix_journal.specs.declared.surveying.Kind.TheVariants.{Short, Shut, Named, Misnamed}
-use Rattle.fix_journal.specs.Format.{OPEN, NAME, MOST_PAYLOAD, IsPayload, body_of, front, IsMade, IsJournal, HasRecords, HoldsNoRecord, Breaks}
+use Rattle.fix_journal.specs.declared.surveying.Kind.TheVariants.{Unmade, Named, Misnamed}
+use Rattle.fix_journal.specs.Format.{OPEN, NAME, IsPayload, body_of, front, IsMade, IsJournal, HasRecords, HoldsNoRecord, Breaks, IsDamagedAt}
+use Rattle.fix_journal.specs.AtRest.{IsAtRest}
 
 -- of the bytes from a gate on
 abbrev pub Judges : Head → List ℕ → Type 0
@@ -47,11 +48,16 @@ Scans (Err DiskFault) file = ⊤
 Scans (Err (Damaged place)) file = Breaks file place
 Scans (Err OutOfMemory) file = ⊤
 
-abbrev pub open_failures : {T : Type 0} → Result T OpenFault → ℕ
-open_failures (Ok x) = 0
-open_failures (Err DiskFault) = 1
-open_failures (Err (Damaged place)) = 0
-open_failures (Err OutOfMemory) = 0
+-- why there is no journal, if there is none
+abbrev pub fault_of : {T : Type 0} → Result T OpenFault → Option OpenFault
+fault_of (Ok x) = None
+fault_of (Err fault) = Some fault
+
+abbrev pub open_failures : Option OpenFault → ℕ
+open_failures None = 0
+open_failures (Some DiskFault) = 1
+open_failures (Some (Damaged place)) = 0
+open_failures (Some OutOfMemory) = 0
 
 -- it has this, and a crash leaves just it
 pub record Rests (seen : DiskSeen) (P : List ℕ → Type 0) : Type 0 where
@@ -66,15 +72,17 @@ IsClosed file = (1 ≤ length file) × (slice_index file 0 ≢ OPEN)
 abbrev pub IsShort : List ℕ → Type 0
 IsShort file = length file < 10
 
+abbrev pub IsUnmadeBy : Bool → List ℕ → Type 0
+IsUnmadeBy true file = IsShort file
+IsUnmadeBy false file = IsClosed file
+
 abbrev pub IsKind : Kind → List ℕ → Type 0
-IsKind Short file = IsShort file
-IsKind Shut file = IsClosed file
+IsKind (Unmade is_short) file = IsUnmadeBy is_short file
 IsKind (Named end) file = (length file ≡ end) × IsNamed file
 IsKind Misnamed file = IsMade file × (take 8 (drop 1 file) ≢ NAME)
 
 abbrev pub HasTen : Kind → Type 0
-HasTen Short = ⊤
-HasTen Shut = ⊤
+HasTen (Unmade is_short) = ⊤
 HasTen (Named end) = 10 ≤ end
 HasTen Misnamed = ⊤
 
@@ -86,3 +94,35 @@ pub record Makes {T : Type 0} (answer : Result T DiskFailed) (old new : DiskSeen
   pub any_moment : LeavesOnly old new (λ c. HasRecords c [])
   pub now : new.TellsImages → (c : List ℕ) → new.image c → HasRecords c []
   pub cause : Rises (failures answer) old.faults new.faults
+
+-- the gates that were found, of the file as it is read at first, and how it is then; the first place at which it breaks the format
+abbrev pub Finds : Result (Vec ℕ Global) OpenFault → DiskSeen → List ℕ → Type 0
+Finds (Ok gates) new file = (payloads : List (List ℕ)) × HasRecords file payloads × IsAtRest new (length (front payloads)) payloads × (gates.items ≡ gates_from 9 payloads)
+Finds (Err DiskFault) new file = ⊤
+Finds (Err (Damaged place)) new file = IsDamagedAt file place
+Finds (Err OutOfMemory) new file = ⊤
+
+-- what a crash may leave of a journal that is being opened: what it might have left before, and of an unmade file one that is unmade or has no records
+abbrev pub IsLeftByOpening : DiskSeen → List ℕ → Type 0
+IsLeftByOpening old c = old.image c ⊎ (((file : List ℕ) × (old.bytes ≡ Some file) × (IsMade file → ⊥)) × HasRecords c [])
+
+-- what an opening does to a disk
+pub record Opens (fault : Option OpenFault) (old new : DiskSeen) : Type 0 where
+  -- a made file stays as it is
+  pub made_same : IfSome old.bytes (λ file. IsMade file → new.bytes ≡ old.bytes)
+  pub any_moment : LeavesOnly old new (IsLeftByOpening old)
+  pub now : new.TellsImages → (c : List ℕ) → new.image c → IsLeftByOpening old c
+  pub tells_bytes : IsSome new.bytes ↔ IsSome old.bytes
+  pub tells_images : new.TellsImages ↔ old.TellsImages
+  pub cause : Rises (open_failures fault) old.faults new.faults
+
+-- a journal that was opened has the records of the file as it was read at first, and a crash leaves them
+pub record IsOpened {D : Type 0} (disk : D → DiskSeen) (old : DiskSeen) (journal : JournalSeen D) : Type 0 where
+  pub goes_on : journal.stopped ≡ false
+  pub records : IfSome old.bytes (λ file. (payloads : List (List ℕ)) × HasRecords file payloads × (journal.count ≡ length payloads) × Holds (disk journal.disk) payloads × Lasts (disk journal.disk) payloads)
+
+-- a file is damaged at the first place at which it breaks the format
+abbrev pub IsCause : OpenFault → List ℕ → Type 0
+IsCause DiskFault file = ⊤
+IsCause (Damaged place) file = IsDamagedAt file place
+IsCause OutOfMemory file = ⊤

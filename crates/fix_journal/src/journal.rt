@@ -1,11 +1,13 @@
-ghost use Rattle.std.specs.Prelude.{◌≡◌, ◌+◌, ◌^◌, ◌<◌, ◌≤◌, ◌++◌, ◌∷◌, [], false, length, vec_len, vec_capacity, IfOk};
+ghost use Rattle.std.specs.Prelude.{◌≡◌, ◌+◌, ◌^◌, ◌<◌, ◌≤◌, ◌++◌, ◌∷◌, [], false, length, vec_len, vec_capacity, IfOk, IfErr, IfSome, Some, None};
 ghost use Rattle.fix_journal.specs.Format.{body_of};
 ghost use Rattle.fix_journal.specs.Journal.{AppendAnswers, JournalAppends, ReadAnswers, JournalReads};
+ghost use Rattle.fix_journal.specs.Opening.{IsOpened, IsCause, Opens};
 
 use crate::appending::append_at;
-use crate::{AppendFault, ReadFault};
+use crate::opening::find;
+use crate::{AppendFault, OpenFault, ReadFault};
 use fix_disk::{Disk, DiskFailed, put};
-use std::alloc::AllocError;
+use std::alloc::{AllocError, Global};
 use std::marker::Model;
 
 // The most bytes of a payload.
@@ -33,7 +35,34 @@ impl<D: Disk> Model for Journal<D> {
     ghost invariant = { λ j. IsSound (D.disk j.disk) j.gates.items j.stopped };
 }
 
+/// A journal that wasn't opened: its disk, and why.
+#[derive(Drop)]
+pub struct OpenRefused<D: Disk> {
+    pub disk: D,
+    pub fault: OpenFault,
+}
+
 impl<D: Disk> Journal<D> {
+    /// Opens the journal on a disk, which syncs first. An unmade file becomes a journal without
+    /// records.
+    pub fn open(alloc: Global, disk: D) -> Result<Journal<D>, OpenRefused<D>>
+        ensures opened { IfOk result (IsOpened D.disk (D.disk disk)) }
+        ensures refused { IfErr result (λ r. IfSome (D.disk disk).bytes (IsCause r.fault)) }
+        ensures moves { IfOk result (λ j. Opens None (D.disk disk) (D.disk j.disk)) }
+        ensures moves_refused { IfErr result (λ r. Opens (Some r.fault) (D.disk disk) (D.disk r.disk)) }
+    {
+        let mut disk = disk;
+        match find(alloc, &mut disk) {
+            Ok(gates) => Ok(Journal {
+                disk,
+                gates,
+                staged: Vec::new(alloc),
+                stopped: false,
+            }),
+            Err(fault) => Err(OpenRefused { disk, fault }),
+        }
+    }
+
     /// Appends a record of at least one byte, and answers its index. At Ok it is on the disk.
     pub fn append(&mut self, payload: &[u8]) -> Result<u64, AppendFault>
         requires { 1 ≤ length payload.now }

@@ -6,9 +6,10 @@ mod fault;
 mod heads;
 mod journal;
 mod making;
+mod opening;
 mod scanning;
 mod surveying;
 mod synced;
 
 pub use fault::{AppendFault, OpenFault, ReadFault};
-pub use journal::Journal;
+pub use journal::{Journal, OpenRefused};

@@ -1,7 +1,7 @@
 ghost use Rattle.std.specs.Prelude.{◌≡◌, ◌+◌, ◌<◌, ◌≤◌, ◌-◌, drop, length, IfOk, IfSome};
 ghost use Rattle.fix_base.specs.Seen.{Rises};
 ghost use Rattle.fix_disk.specs.Disk.{failures};
-ghost use Rattle.fix_journal.specs.Opening.{Judges, IsWithin, IsUntouched, Scans, open_failures, HasLength, IsNamed};
+ghost use Rattle.fix_journal.specs.Opening.{Judges, IsWithin, IsUntouched, Scans, open_failures, fault_of, HasLength, IsNamed};
 
 use crate::OpenFault;
 use crate::heads::{Head, judge};
@@ -34,7 +34,7 @@ pub(crate) fn scan<D: Disk>(alloc: Global, disk: &mut D, end: u64) -> Result<Vec
     ensures some { IfOk result (λ gates. 1 ≤ length gates.items) }
     ensures found { IfSome (D.disk disk.old).bytes (Scans result) }
     ensures untouched { IsUntouched (D.disk disk.old) (D.disk disk.new) }
-    ensures cause { Rises (open_failures result) (D.disk disk.old).faults (D.disk disk.new).faults }
+    ensures cause { Rises (open_failures (fault_of result)) (D.disk disk.old).faults (D.disk disk.new).faults }
 {
     let mut gates = Vec::new(alloc);
     let mut gate = 9;

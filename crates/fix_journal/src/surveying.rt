@@ -5,12 +5,11 @@ ghost use Rattle.fix_journal.specs.Opening.{IsKind, HasTen, HasLength, IsUntouch
 
 use fix_disk::{Disk, DiskFailed};
 
-// What a file is: unmade and shorter than ten bytes; unmade and closed; made with the name, of so
-// many bytes; made with another name.
+// What a file is: unmade, since it is too short, or else with a gate that isn't open; made with the
+// name, of so many bytes; made with another name.
 #[derive(Clone, Copy)]
 pub(crate) enum Kind {
-    Short,
-    Shut,
+    Unmade(bool),
     Named(u64),
     Misnamed,
 }
@@ -23,10 +22,10 @@ fn kind_by(head: &[u8], end: u64) -> Kind
     ensures ten { HasTen result }
 {
     if head[0] != 1 {
-        return Kind::Shut;
+        return Kind::Unmade(false);
     }
     if end < 10 {
-        return Kind::Short;
+        return Kind::Unmade(true);
     }
     if head == b"\x01FIXJRNL1".as_slice() {
         Kind::Named(end)
@@ -44,7 +43,7 @@ fn kind_of<D: Disk>(disk: &mut D, end: u64) -> Result<Kind, DiskFailed>
     ensures cause { Rises (failures result) (D.disk disk.old).faults (D.disk disk.new).faults }
 {
     if end == 0 {
-        return Ok(Kind::Short);
+        return Ok(Kind::Unmade(true));
     }
     let mut head = [0; 9];
     let count = end.min(9) as usize;

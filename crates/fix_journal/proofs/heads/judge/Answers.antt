@@ -1,4 +1,4 @@
-use Rattle.std.proofs.Common.{◌≡◌, ℕ, ◌<◌, get_or, List, sym, ◌∙◌, ap, subst, arith, rules}
+use Rattle.std.proofs.Common.{◌≡◌, ℕ, ◌<◌, get_or, arith, rules}
 use Rattle.fix_journal.proofs.HeadLemmas.{small_size, a_record}
 use Rattle.fix_journal.proofs.heads.judge.Goals as goal
 

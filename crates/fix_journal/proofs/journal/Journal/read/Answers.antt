@@ -1,4 +1,4 @@
-use Rattle.std.proofs.Common.{◌≡◌, ◌+◌, ◌-◌, ◌<◌, ◌≤◌, ◌++◌, length, get_or, suc, sym, ◌∙◌, ap, subst, arith, rules, Ok}
+use Rattle.std.proofs.Common.{◌≡◌, ◌+◌, ◌-◌, ◌<◌, ◌≤◌, length, get_or, suc, sym, ◌∙◌, ap, subst, arith, rules, Ok}
 use Rattle.std.proofs.lemmas.List.{get_or_default, take_at}
 use Rattle.fix_journal.specs.Journal.{JournalReads}
 use Rattle.fix_journal.proofs.SoundLemmas.{calm, read_range}
