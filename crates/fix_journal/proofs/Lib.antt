@@ -11,3 +11,4 @@ mod HeadLemmas
 mod ScanLemmas
 mod MakeLemmas
 mod OpenLemmas
+mod Meaning
