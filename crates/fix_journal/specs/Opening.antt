@@ -106,10 +106,18 @@ Finds (Err OutOfMemory) new file = ⊤
 abbrev pub IsLeftByOpening : DiskSeen → List ℕ → Type 0
 IsLeftByOpening old c = old.image c ⊎ (((file : List ℕ) × (old.bytes ≡ Some file) × (IsMade file → ⊥)) × HasRecords c [])
 
+-- a refusal for want of memory leaves the bytes as they are
+abbrev pub StaysWithoutMemory : Option OpenFault → DiskSeen → DiskSeen → Type 0
+StaysWithoutMemory None old new = ⊤
+StaysWithoutMemory (Some DiskFault) old new = ⊤
+StaysWithoutMemory (Some (Damaged place)) old new = ⊤
+StaysWithoutMemory (Some OutOfMemory) old new = new.bytes ≡ old.bytes
+
 -- what an opening does to a disk
 pub record Opens (fault : Option OpenFault) (old new : DiskSeen) : Type 0 where
   -- a made file stays as it is
   pub made_same : IfSome old.bytes (λ file. IsMade file → new.bytes ≡ old.bytes)
+  pub refused_same : StaysWithoutMemory fault old new
   pub any_moment : LeavesOnly old new (IsLeftByOpening old)
   pub now : new.TellsImages → (c : List ℕ) → new.image c → IsLeftByOpening old c
   pub tells_bytes : IsSome new.bytes ↔ IsSome old.bytes

@@ -2,7 +2,7 @@ ghost use Rattle.std.specs.Prelude.{◌≡◌, ◌+◌, ◌≤◌, min, take, Li
 ghost use Rattle.fix_journal.specs.Opening.{Judges, IsWithin};
 
 // The most bytes of a payload.
-const MOST_PAYLOAD: u64 = 1_114_112;
+pub(crate) const MOST_PAYLOAD: u64 = 1_114_112;
 
 // What stands at a gate: it is closed; there is a record of so many bytes and a gate behind it; it
 // is open and there is no record.

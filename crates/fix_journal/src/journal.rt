@@ -4,14 +4,12 @@ ghost use Rattle.fix_journal.specs.Journal.{AppendAnswers, JournalAppends, ReadA
 ghost use Rattle.fix_journal.specs.Opening.{IsOpened, IsCause, Opens};
 
 use crate::appending::append_at;
+use crate::heads::MOST_PAYLOAD;
 use crate::opening::find;
 use crate::{AppendFault, OpenFault, ReadFault};
 use fix_disk::{Disk, DiskFailed, put};
 use std::alloc::{AllocError, Global};
 use std::marker::Model;
-
-// The most bytes of a payload.
-const MOST_PAYLOAD: usize = 1_114_112;
 
 /// Records on a disk. Contracts see the disk, how many records there are, and whether the disk failed.
 #[derive(Drop)]
@@ -72,7 +70,7 @@ impl<D: Disk> Journal<D> {
         if self.stopped {
             return Err(AppendFault::Stopped);
         }
-        if payload.len() > MOST_PAYLOAD {
+        if payload.len() as u64 > MOST_PAYLOAD {
             return Err(AppendFault::TooLong);
         }
         let index = self.gates.len() - 1;
