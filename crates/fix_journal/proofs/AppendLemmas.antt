@@ -90,6 +90,7 @@ module _ (gate : ℕ) (bytes : List ℕ) (old mid : DiskSeen) (mid_laws : IsLawf
     kept = λ payloads payload rests fits is. tt;
     any_moment = λ payloads payload rests fits is. stage_moments old mid mid_laws gate bytes payloads payload rests fits is (Err e) writes;
     now = λ payloads payload rests fits is. stage_now old mid mid_laws gate bytes payloads payload rests fits is (Err e) writes;
+    tells_bytes = writes.tells_bytes;
     cause = writes.cause;
     calls = λ some. omega (arith, writes.calls some);
   }
@@ -109,6 +110,7 @@ module _ (gate : ℕ) (bytes : List ℕ) (old mid : DiskSeen) (mid_laws : IsLawf
           let held = is_staged old mid mid_laws gate bytes payloads payload rests fits is x first in
           then_on old mid new (IsEither payloads payload) (stage_moments old mid mid_laws gate bytes payloads payload rests fits is (Ok x) first) (gate_moments mid new laws gate payloads payload rests.journal.each fits rests.at held answer second);
       now = λ payloads payload rests fits is. gate_now mid new laws gate payloads payload rests.journal.each fits rests.at (is_staged old mid mid_laws gate bytes payloads payload rests fits is x first) answer second;
+      tells_bytes = (λ some. first.tells_bytes.0 (second.tells_bytes.0 some), λ some. second.tells_bytes.1 (first.tells_bytes.1 some));
       cause = omega (arith, first.cause, second.cause);
       calls = λ some. omega (arith, first.calls some, second.calls (first.tells_bytes.1 some));
     }

@@ -3,3 +3,12 @@ mod Records
 mod Moments
 mod SyncedLemmas
 mod AppendLemmas
+mod Unique
+mod Gates
+mod SoundLemmas
+mod CallLemmas
+mod HeadLemmas
+mod ScanLemmas
+mod MakeLemmas
+mod OpenLemmas
+mod Meaning

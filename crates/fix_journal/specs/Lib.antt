@@ -1,3 +1,5 @@
 pub mod Format
 pub mod Synced
 pub mod AtRest
+pub mod Journal
+pub mod Opening

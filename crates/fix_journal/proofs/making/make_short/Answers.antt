@@ -1,0 +1,17 @@
+use Rattle.fix_journal.proofs.MakeLemmas.{short_failed, shut_first, short_done}
+use Rattle.fix_journal.proofs.making.make_short.Goals as goal
+
+pub make_closed-requires : goal.make_closed-requires
+make_closed-requires g c =
+    let disk = g.D.Disk.disk in
+    shut_first (disk c.args.disk.now) (disk c.write_synced.new.disk) (g.met.D.Disk.lawful _) (g.met.D.Disk.lawful _) c.requires c.in-Ok.field-0 c.in-Ok.ensures
+
+pub returns-in-Ok : goal.returns-in-Ok
+returns-in-Ok g c =
+    let disk = g.D.Disk.disk in
+    short_done (disk c.args.disk.now) (disk c.write_synced.new.disk) (g.met.D.Disk.lawful _) (g.met.D.Disk.lawful _) c.requires c.in-Ok.field-0 c.make_closed.result (disk c.make_closed.new.disk) c.in-Ok.ensures c.make_closed.ensures
+
+pub returns-in-Err : goal.returns-in-Err
+returns-in-Err g c =
+    let disk = g.D.Disk.disk in
+    short_failed (disk c.args.disk.now) (disk c.write_synced.new.disk) (g.met.D.Disk.lawful _) (g.met.D.Disk.lawful _) c.requires c.in-Err.field-0 c.in-Err.ensures

@@ -1,0 +1,163 @@
+ghost use Rattle.std.specs.Prelude.{◌≡◌, ◌+◌, ◌^◌, ◌<◌, ◌≤◌, ◌++◌, ◌∷◌, [], false, length, vec_len, vec_capacity, IfOk, IfErr, IfSome, Some, None};
+ghost use Rattle.fix_journal.specs.Format.{body_of};
+ghost use Rattle.fix_journal.specs.Journal.{AppendAnswers, JournalAppends, ReadAnswers, JournalReads};
+ghost use Rattle.fix_journal.specs.Opening.{IsOpened, IsCause, Opens};
+
+use crate::appending::append_at;
+use crate::heads::MOST_PAYLOAD;
+use crate::opening::find;
+use crate::{AppendFault, OpenFault, ReadFault};
+use fix_disk::{Disk, DiskFailed, put};
+use std::alloc::{AllocError, Global};
+use std::marker::Model;
+
+/// Records on a disk. Contracts see the disk, how many records there are, and whether the disk failed.
+#[derive(Drop)]
+pub struct Journal<D: Disk> {
+    disk: D,
+    // The places of the records' gates, and behind them that of the closed gate.
+    gates: Vec<u64>,
+    // The bytes of an append. They are kept to be used again.
+    staged: Vec<u8>,
+    stopped: bool,
+}
+
+impl<D: Disk> Model for Journal<D> {
+    ghost use Rattle.std.specs.Prelude.{◌-◌, length};
+    ghost use Rattle.fix_journal.specs.Journal.{JournalSeen, IsSound};
+
+    ghost Value = { JournalSeen D };
+
+    ghost view = { λ j. record { disk = j.disk; count = length j.gates.items - 1; stopped = j.stopped } };
+
+    ghost invariant = { λ j. IsSound (D.disk j.disk) j.gates.items j.stopped };
+}
+
+/// A journal that wasn't opened: its disk, and why.
+#[derive(Drop)]
+pub struct OpenRefused<D: Disk> {
+    pub disk: D,
+    pub fault: OpenFault,
+}
+
+impl<D: Disk> Journal<D> {
+    /// Opens the journal on a disk, which syncs first. An unmade file becomes a journal without
+    /// records.
+    pub fn open(alloc: Global, disk: D) -> Result<Journal<D>, OpenRefused<D>>
+        ensures opened { IfOk result (IsOpened D.disk (D.disk disk)) }
+        ensures refused { IfErr result (λ r. IfSome (D.disk disk).bytes (IsCause r.fault)) }
+        ensures moves { IfOk result (λ j. Opens None (D.disk disk) (D.disk j.disk)) }
+        ensures moves_refused { IfErr result (λ r. Opens (Some r.fault) (D.disk disk) (D.disk r.disk)) }
+    {
+        let mut disk = disk;
+        match find(alloc, &mut disk) {
+            Ok(gates) => Ok(Journal {
+                disk,
+                gates,
+                staged: Vec::new(alloc),
+                stopped: false,
+            }),
+            Err(fault) => Err(OpenRefused { disk, fault }),
+        }
+    }
+
+    /// Appends a record of at least one byte, and answers its index. At Ok it is on the disk.
+    pub fn append(&mut self, payload: &[u8]) -> Result<u64, AppendFault>
+        requires { 1 ≤ length payload.now }
+        ensures answers { AppendAnswers result (length payload.now) self.old self.new }
+        ensures moves { self.old.stopped ≡ false → JournalAppends result payload.now (D.disk self.old.disk) (D.disk self.new.disk) }
+    {
+        if self.stopped {
+            return Err(AppendFault::Stopped);
+        }
+        if payload.len() as u64 > MOST_PAYLOAD {
+            return Err(AppendFault::TooLong);
+        }
+        let index = self.gates.len() - 1;
+        let gate = self.gates[index];
+        if stage(&mut self.gates, &mut self.staged, gate, payload).is_err() {
+            return Err(AppendFault::OutOfMemory);
+        }
+        match append_at(&mut self.disk, gate, &self.staged) {
+            Ok(()) => {
+                put(&mut self.gates, gate + self.staged.len() as u64);
+                Ok(index as u64)
+            }
+            Err(DiskFailed) => {
+                self.stopped = true;
+                Err(AppendFault::DiskFault)
+            }
+        }
+    }
+
+    /// Gives the payload of the record with this index.
+    pub fn read(&mut self, index: u64, into: &mut Vec<u8>) -> Result<(), ReadFault>
+        requires { index < self.old.count }
+        ensures answers { ReadAnswers result self.old self.new }
+        ensures moves { JournalReads result index into.new.items (D.disk self.old.disk) (D.disk self.new.disk) }
+    {
+        if self.stopped {
+            return Err(ReadFault::Stopped);
+        }
+        let start = self.gates[index as usize].saturating_add(5);
+        let size = self.gates[index as usize + 1].saturating_sub(start);
+        if fill_up(into, size).is_err() {
+            return Err(ReadFault::OutOfMemory);
+        }
+        match self.disk.read_at(start, into) {
+            Ok(()) => Ok(()),
+            Err(DiskFailed) => {
+                self.stopped = true;
+                Err(ReadFault::DiskFault)
+            }
+        }
+    }
+
+    /// How many records there are.
+    pub fn count(&self) -> u64
+        ensures { result ≡ self.now.count }
+    {
+        self.gates.len() as u64 - 1
+    }
+
+    /// The disk.
+    pub fn into_disk(self) -> D
+        ensures { result ≡ self.disk }
+    {
+        self.disk
+    }
+}
+
+// Puts the bytes of an append together, and takes room for its gate. A file that would pass the
+// greatest length has no room.
+fn stage(
+    gates: &mut Vec<u64>,
+    staged: &mut Vec<u8>,
+    gate: u64,
+    payload: &[u8],
+) -> Result<(), AllocError>
+    requires { length payload.now ≤ 1114112 }
+    ensures gates { gates.new.items ≡ gates.old.items }
+    ensures staged { IfOk result (λ _. staged.new.items ≡ body_of payload.now ++ 0 ∷ []) }
+    ensures room { IfOk result (λ _. vec_len gates.new < vec_capacity gates.new) }
+    ensures small { IfOk result (λ _. gate + length payload.now + 5 < 2 ^ 64) }
+{
+    if gate > u64::MAX - 2_000_000 {
+        return Err(AllocError);
+    }
+    gates.reserve(1)?;
+    staged.clear();
+    staged.extend_from_slice(&(payload.len() as u32).to_be_bytes())?;
+    staged.extend_from_slice(payload)?;
+    staged.push(0)?;
+    Ok(())
+}
+
+// Room for so many bytes.
+fn fill_up(room: &mut Vec<u8>, size: u64) -> Result<(), AllocError>
+    ensures { IfOk result (λ _. length room.new.items ≡ size) }
+{
+    room.clear();
+    room.resize(size as usize, 0)?;
+    Ok(())
+}

@@ -1,0 +1,40 @@
+ghost use Rattle.fix_journal.specs.Opening.{Rests, IsClosed, IsShort, IsUnmadeBy, Makes};
+
+use crate::synced::write_synced;
+use fix_disk::{Disk, DiskFailed};
+
+// Makes the journal in a file whose gate is closed. The name and the closed gate behind it are on
+// the disk before the file's gate is opened.
+fn make_closed<D: Disk>(disk: &mut D) -> Result<(), DiskFailed>
+    requires { Rests (D.disk disk.old) IsClosed }
+    ensures { Makes result (D.disk disk.old) (D.disk disk.new) }
+{
+    match write_synced(disk, 1, b"FIXJRNL1\0") {
+        Ok(()) => write_synced(disk, 0, &[1]),
+        Err(DiskFailed) => Err(DiskFailed),
+    }
+}
+
+// Makes the journal in a file of less than ten bytes. Its gate is closed on the disk before the
+// file grows to ten.
+fn make_short<D: Disk>(disk: &mut D) -> Result<(), DiskFailed>
+    requires { Rests (D.disk disk.old) IsShort }
+    ensures { Makes result (D.disk disk.old) (D.disk disk.new) }
+{
+    match write_synced(disk, 0, &[0]) {
+        Ok(()) => make_closed(disk),
+        Err(DiskFailed) => Err(DiskFailed),
+    }
+}
+
+// Makes the journal in an unmade file.
+pub(crate) fn make<D: Disk>(disk: &mut D, is_short: bool) -> Result<(), DiskFailed>
+    requires { Rests (D.disk disk.old) (IsUnmadeBy is_short) }
+    ensures { Makes result (D.disk disk.old) (D.disk disk.new) }
+{
+    if is_short {
+        make_short(disk)
+    } else {
+        make_closed(disk)
+    }
+}

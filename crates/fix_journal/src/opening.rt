@@ -1,0 +1,40 @@
+ghost use Rattle.std.specs.Prelude.{◌≤◌, length, IfOk, IfSome};
+ghost use Rattle.fix_journal.specs.Opening.{Rests, IsUnmadeBy, IsNamed, HasLength, Finds, Opens, fault_of};
+
+use crate::OpenFault;
+use crate::making::make;
+use crate::scanning::scan;
+use crate::surveying::{Kind, survey};
+use fix_disk::{Disk, DiskFailed};
+use std::alloc::Global;
+
+// Makes the journal in an unmade file, and gives the place of its closed gate.
+fn start<D: Disk>(alloc: Global, disk: &mut D, is_short: bool) -> Result<Vec<u64>, OpenFault>
+    requires { Rests (D.disk disk.old) (IsUnmadeBy is_short) }
+    ensures some { IfOk result (λ gates. 1 ≤ length gates.items) }
+    ensures finds { IfSome (D.disk disk.old).bytes (Finds result (D.disk disk.new)) }
+    ensures opens { Opens (fault_of result) (D.disk disk.old) (D.disk disk.new) }
+{
+    let mut gates = Vec::new(alloc);
+    if gates.push(9).is_err() {
+        return Err(OpenFault::OutOfMemory);
+    }
+    match make(disk, is_short) {
+        Ok(()) => Ok(gates),
+        Err(DiskFailed) => Err(OpenFault::DiskFault),
+    }
+}
+
+// Finds the gates of a journal, which it makes in an unmade file.
+pub(crate) fn find<D: Disk>(alloc: Global, disk: &mut D) -> Result<Vec<u64>, OpenFault>
+    ensures some { IfOk result (λ gates. 1 ≤ length gates.items) }
+    ensures finds { IfSome (D.disk disk.old).bytes (Finds result (D.disk disk.new)) }
+    ensures opens { Opens (fault_of result) (D.disk disk.old) (D.disk disk.new) }
+{
+    match survey(disk) {
+        Ok(Kind::Unmade(is_short)) => start(alloc, disk, is_short),
+        Ok(Kind::Named(end)) => scan(alloc, disk, end),
+        Ok(Kind::Misnamed) => Err(OpenFault::Damaged(1)),
+        Err(DiskFailed) => Err(OpenFault::DiskFault),
+    }
+}
