@@ -1,0 +1,4 @@
+pub mod PartLemmas
+pub mod TagLemmas
+pub mod TableLemmas
+pub mod RoomLemmas

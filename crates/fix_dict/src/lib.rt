@@ -1,0 +1,18 @@
+//! Dictionaries: what a counterparty's rules of engagement say, read from a JSON file. This is the
+//! step from a file's bytes to the fields, the layouts of messages and the values that are allowed.
+#![tactic(auto)]
+
+mod fault;
+mod build;
+mod field;
+mod fields;
+mod kinds;
+mod members;
+mod message;
+mod messages;
+mod parts;
+mod paths;
+mod rule;
+mod tags;
+
+pub use fault::DictFault;
