@@ -6,3 +6,4 @@ pub mod Fields
 pub mod Members
 pub mod Keyed
 pub mod Messages
+pub mod Book

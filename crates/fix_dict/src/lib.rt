@@ -2,6 +2,7 @@
 //! step from a file's bytes to the fields, the layouts of messages and the values that are allowed.
 #![tactic(auto)]
 
+mod dictionary;
 mod fault;
 mod build;
 mod field;
@@ -15,4 +16,5 @@ mod paths;
 mod rule;
 mod tags;
 
+pub use dictionary::Dictionary;
 pub use fault::DictFault;
