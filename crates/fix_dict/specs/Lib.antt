@@ -7,3 +7,4 @@ pub mod Members
 pub mod Keyed
 pub mod Messages
 pub mod Book
+pub mod Allowed

@@ -4,9 +4,11 @@ ghost use Rattle.serde_json.specs.View.{view};
 ghost use Rattle.fix_dict.specs.Parts.{text_at};
 ghost use Rattle.fix_dict.specs.Faults.{Tells, IsMemory};
 ghost use Rattle.fix_dict.specs.Book.{book_in, version, kind_of, layout_of, IsJson, Says};
+ghost use Rattle.fix_dict.specs.Allowed.{allows};
 ghost use Rattle.fix_dict.specs.declared.fault.DictFault.TheVariants.{NotJson};
 
 use crate::DictFault;
+use crate::allowed::is_allowed_by;
 use crate::build::members_of;
 use crate::field::read_fields;
 use crate::fields::Fields;
@@ -73,6 +75,17 @@ impl Dictionary {
         match self.fields.get(tag) {
             Some(rule) => Some(rule.kind),
             None => None,
+        }
+    }
+
+    /// Whether the dictionary lists no values for the tag, or this one. Of a `MultipleValueString` each
+    /// part between spaces has to be listed.
+    pub fn allows(&self, tag: Tag, value: &[u8]) -> bool
+        ensures { result ≡ allows self.now tag value.now }
+    {
+        match self.fields.get(tag) {
+            Some(rule) => is_allowed_by(rule, value),
+            None => true,
         }
     }
 

@@ -4,6 +4,7 @@
 
 mod dictionary;
 mod fault;
+mod allowed;
 mod build;
 mod field;
 mod fields;
@@ -14,7 +15,9 @@ mod messages;
 mod parts;
 mod paths;
 mod rule;
+mod samples;
 mod tags;
 
 pub use dictionary::Dictionary;
 pub use fault::DictFault;
+pub use samples::{SAMPLE_42, SAMPLE_44};
