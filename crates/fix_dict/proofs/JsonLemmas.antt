@@ -8,11 +8,11 @@ use Rattle.serde_json.specs.Find.{get, as_str, as_object}
 use Rattle.fix_dict.specs.declared.fault.DictFault.{DictFault}
 use Rattle.fix_dict.specs.declared.fault.DictFault.TheVariants.{NotJson, BadShape, DuplicateTag, UnknownTag, DuplicateType, DepthPassed, OutOfMemory}
 use Rattle.fix_dict.specs.Parts.{list_in, list_at, items_at, text_at, tag_at, has}
-use Rattle.fix_dict.specs.Faults.{and_then, inside, need}
+use Rattle.fix_dict.specs.Faults.{and_then, inside, need, IsMemory}
 use Rattle.fix_dict.specs.Fields.{FieldTable, some_text, texts_in, listed_values, values_in, field_tag, kind_at, field_in, fields_in}
 use Rattle.fix_dict.specs.Members.{TagSet, new_tag, own_tag, member_shape, judged_member, judged_items, inside_group}
 use Rattle.fix_dict.specs.Messages.{MessageTable, most_groups, type_in, new_type, message_in, messages_in}
-use Rattle.fix_dict.specs.Book.{version, book_in}
+use Rattle.fix_dict.specs.Book.{Book, version, book_in, IsJson}
 
 abbrev is_json : DictFault → Bool
 is_json NotJson = false
@@ -148,3 +148,7 @@ book_fits d =
 
 pub never_no_json : (d : Data) → book_in d ≡ Err NotJson → ⊥
 never_no_json d e = true≢false (sym (book_fits d) ∙ ap fits e)
+
+pub refused : (answer : Result Book DictFault) (bytes : List ℕ) → IfErr answer (λ e. (IsMemory e → ⊥) → (d : Data) → IsJson bytes d → book_in d ≡ Err e) → IfErr answer (λ e. e ≡ NotJson → (d : Data) → IsJson bytes d → ⊥)
+refused (Ok book) bytes h = h
+refused (Err e) bytes h = λ is d json. never_no_json d (h (λ m. true≢false (sym (ap is_json (sym is ∙ m)))) d json ∙ ap Err is)

@@ -52,12 +52,9 @@ impl Dictionary {
     pub fn read(alloc: Global, json: &[u8]) -> Result<Dictionary, DictFault>
         ensures ok { IfOk result (λ dictionary. Says json.now (Ok dictionary)) }
         ensures err { IfErr result (λ e. (IsMemory e → ⊥) → (e ≡ NotJson → ⊥) → Says json.now (Err e)) }
-        ensures not_json { IfErr result (λ e. (IsMemory e → ⊥) → (d : Data) → IsJson json.now d → book_in d ≡ Err e) }
+        ensures not_json { IfErr result (λ e. e ≡ NotJson → (d : Data) → IsJson json.now d → ⊥) }
     {
-        match Value::from_slice(alloc, json) {
-            Ok(value) => dictionary_of(alloc, &value),
-            Err(e) => Err(json_fault(e.is_memory())),
-        }
+        read_json(alloc, json)
     }
 
     /// The version that the dictionary is for: BeginString (8).
@@ -108,6 +105,17 @@ impl Dictionary {
         ensures { result.now ≡ self.now.trailer }
     {
         &self.trailer
+    }
+}
+
+fn read_json(alloc: Global, json: &[u8]) -> Result<Dictionary, DictFault>
+    ensures ok { IfOk result (λ dictionary. Says json.now (Ok dictionary)) }
+    ensures err { IfErr result (λ e. (IsMemory e → ⊥) → (e ≡ NotJson → ⊥) → Says json.now (Err e)) }
+    ensures not_json { IfErr result (λ e. (IsMemory e → ⊥) → (d : Data) → IsJson json.now d → book_in d ≡ Err e) }
+{
+    match Value::from_slice(alloc, json) {
+        Ok(value) => dictionary_of(alloc, &value),
+        Err(e) => Err(json_fault(e.is_memory())),
     }
 }
 
