@@ -1,5 +1,5 @@
 -- A table as the code keeps it, by keys that the order tells apart.
-use Rattle.std.proofs.Common.{◌≡◌, Ordering, Less, Equal, Greater, ℕ, nat_cmp, Vec, List, [], ◌∷◌, Option, Some, None, cond, refl, sym, ap, ◌∙◌}
+use Rattle.std.proofs.Common.{◌≡◌, Ordering, Less, Equal, Greater, ℕ, nat_cmp, Vec, List, [], ◌∷◌, Some, cond, refl, sym, ap, ◌∙◌}
 use Rattle.std.specs.FinMap.Entries.{by_order, find-put}
 use Rattle.std.specs.declared.alloc.Global.{Global}
 use Rattle.std.specs.Ordering.{eq_by_cmp, is_eq, match_ordering}
@@ -41,7 +41,7 @@ module _ {X : Type 0} where
   put_is k v [] = refl
   put_is k v (e ∷ es) =
       elim (slice_cmp nat_cmp k.items e.0.items) as (λ r. by_bytes (match_ordering r ((k, v) ∷ e ∷ es) ((e.0, v) ∷ es) (e ∷ tree.insert_entry (λ x y. slice_cmp nat_cmp x.items y.items) es k v))
-          ≡ by_order r ((k.items, v) ∷ (e.0.items, e.1) ∷ by_bytes es) ((e.0.items, v) ∷ by_bytes es) ((e.0.items, e.1) ∷ table.put (slice_cmp nat_cmp) k.items v (by_bytes es))) [
+      ≡ by_order r ((k.items, v) ∷ (e.0.items, e.1) ∷ by_bytes es) ((e.0.items, v) ∷ by_bytes es) ((e.0.items, e.1) ∷ table.put (slice_cmp nat_cmp) k.items v (by_bytes es))) [
         | Less ↦ refl
         | Equal ↦ refl
         | Greater ↦ ap (λ l. (e.0.items, e.1) ∷ l) (put_is k v es)

@@ -1,7 +1,6 @@
 -- What a dictionary says, and the dictionary that a JSON value is.
-use Rattle.std.specs.Prelude.{◌≡◌, ℕ, List, [], false, codes, bytes_eq, if◌then◌else◌, Option, Some, None, option_map, option_and_then, Result, Ok, Err, refl}
+use Rattle.std.specs.Prelude.{◌≡◌, ℕ, List, [], false, codes, bytes_eq, if◌then◌else◌, Option, Some, None, option_map, option_and_then, Result, Ok, refl}
 use Rattle.std.specs.Coded.{Coded, code_by, coded×, coded_ℕ, coded_list}
-use Rattle.std.specs.Ordering.{nat_cmp}
 use Rattle.std.specs.Str.{IsUtf8}
 use Rattle.std.specs.FinMap as table
 use Rattle.std.specs.FinSet as set

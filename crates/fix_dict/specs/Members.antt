@@ -1,12 +1,11 @@
 -- The members of a message, of a header, of a trailer or of a group: the first wrong place among
 -- them, and the layout that they say.
-use Rattle.std.specs.Prelude.{◌≡◌, ℕ, zero, suc, ◌+◌, Bool, true, false, not, ◌&&◌, ◌==◌, if◌then◌else◌, List, [], ◌∷◌, ◌++◌, map, codes, Option, Some, None, is_some, unwrap_or, Result, Ok, Err}
+use Rattle.std.specs.Prelude.{ℕ, zero, suc, ◌+◌, Bool, true, false, not, ◌&&◌, ◌==◌, if◌then◌else◌, List, [], ◌∷◌, map, codes, Option, Some, None, is_some, unwrap_or, Result, Ok, Err}
 use Rattle.std.specs.Ordering.{nat_cmp}
 use Rattle.std.specs.FinMap as table
 use Rattle.std.specs.FinSet as set
 use Rattle.serde_json.specs.Data.{Data}
 use Rattle.serde_json.specs.Find.{as_object}
-use Rattle.fix_fields.specs.Shapes.{Shapes, no_more}
 use Rattle.fix_fields.specs.Members.{shapes_of}
 use Rattle.fix_fields.specs.declared.layout.Member.{Member}
 use Rattle.fix_fields.specs.declared.layout.Member.TheVariants.{Plain, Group}

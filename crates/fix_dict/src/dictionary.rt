@@ -171,11 +171,27 @@ fn dictionary_of(alloc: Global, value: &Value) -> Result<Dictionary, DictFault>
         return Err(bad_shape(alloc, "header"));
     };
     let mut seen = Tags::new(alloc);
-    judge_members(alloc, MOST_GROUPS, &fields, "header", false, &mut seen, header_items)?;
+    judge_members(
+        alloc,
+        MOST_GROUPS,
+        &fields,
+        "header",
+        false,
+        &mut seen,
+        header_items,
+    )?;
     let Some(trailer_items) = list_at(value, "trailer") else {
         return Err(bad_shape(alloc, "trailer"));
     };
-    judge_members(alloc, MOST_GROUPS, &fields, "trailer", false, &mut seen, trailer_items)?;
+    judge_members(
+        alloc,
+        MOST_GROUPS,
+        &fields,
+        "trailer",
+        false,
+        &mut seen,
+        trailer_items,
+    )?;
     let Some(types) = list_at(value, "messages") else {
         return Err(bad_shape(alloc, "messages"));
     };

@@ -21,7 +21,6 @@ impl Model for Fields {
     ghost use Rattle.std.specs.FinMap as tables;
     ghost use Rattle.std.specs.Coded.{coded_ℕ};
     ghost use Rattle.fix_dict.specs.declared.rule.FieldRule.{FieldRule};
-
     ghost use Rattle.fix_dict.specs.contracts.rule.FieldRule as rule;
 
     ghost Value = { tables.FinMap nat_cmp FieldRule };

@@ -2,10 +2,10 @@
 //! step from a file's bytes to the fields, the layouts of messages and the values that are allowed.
 #![tactic(auto)]
 
-mod dictionary;
-mod fault;
 mod allowed;
 mod build;
+mod dictionary;
+mod fault;
 mod field;
 mod fields;
 mod kinds;
@@ -14,7 +14,11 @@ mod message;
 mod messages;
 mod parts;
 mod paths;
+#[cfg(test)]
+mod refusal_tests;
 mod rule;
+#[cfg(test)]
+mod sample_tests;
 mod samples;
 mod tags;
 

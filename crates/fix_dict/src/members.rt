@@ -5,9 +5,9 @@ ghost use Rattle.fix_dict.specs.Members.{member_shape, with_members, own_tag, ju
 ghost use Rattle.fix_dict.specs.Faults.{Tells};
 
 use crate::DictFault;
+use crate::fields::Fields;
 use crate::parts::{flag_at, has, items_at, tag_at};
 use crate::paths::{bad_shape, within};
-use crate::fields::Fields;
 use crate::tags::Tags;
 use fix_base::Tag;
 use serde_json::Value;
@@ -54,7 +54,13 @@ fn member_shape(leads: bool, item: &Value) -> Result<Tag, &'static str>
 }
 
 // The member's tag, or the first thing wrong with the member itself.
-fn own_tag(alloc: Global, fields: &Fields, seen: &Tags, leads: bool, item: &Value) -> Result<Tag, DictFault>
+fn own_tag(
+    alloc: Global,
+    fields: &Fields,
+    seen: &Tags,
+    leads: bool,
+    item: &Value,
+) -> Result<Tag, DictFault>
     ensures ok { IfOk result (λ tag. own_tag fields.now seen.now (member_shape leads (view item.now)) ≡ Ok tag) }
     ensures err { IfErr result (Tells (own_tag fields.now seen.now (member_shape leads (view item.now)))) }
 {

@@ -95,7 +95,15 @@ fn read_message(
         return Err(bad_shape(alloc, "members"));
     };
     let mut seen = Tags::new(alloc);
-    judge_members(alloc, MOST_GROUPS, fields, "members", false, &mut seen, items)?;
+    judge_members(
+        alloc,
+        MOST_GROUPS,
+        fields,
+        "members",
+        false,
+        &mut seen,
+        items,
+    )?;
     let members = members_of(alloc, MOST_GROUPS, items)?;
     messages.insert(kind, Layout { members })?;
     Ok(())

@@ -50,7 +50,11 @@ impl Messages {
         self.get(kind).is_some()
     }
 
-    pub fn insert(&mut self, kind: Vec<u8>, layout: Layout) -> Result<(), AllocFailed<(Vec<u8>, Layout)>>
+    pub fn insert(
+        &mut self,
+        kind: Vec<u8>,
+        layout: Layout,
+    ) -> Result<(), AllocFailed<(Vec<u8>, Layout)>>
         ensures { OnOk result (self.new ≡ table.insert self.old kind.items layout) }
     {
         self.layouts.insert(kind, layout)?;
