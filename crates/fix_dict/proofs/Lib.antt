@@ -1,0 +1,6 @@
+pub mod PartLemmas
+pub mod TagLemmas
+pub mod TableLemmas
+pub mod RoomLemmas
+pub mod AllowedLemmas
+pub mod JsonLemmas

@@ -1,0 +1,213 @@
+ghost use Rattle.std.specs.Prelude.{◌≡◌, IfOk, IfErr, Ok, Err, option_and_then, option_copied, codes, true, false};
+ghost use Rattle.serde_json.specs.Data.{Data};
+ghost use Rattle.serde_json.specs.View.{view};
+ghost use Rattle.fix_dict.specs.Parts.{text_at};
+ghost use Rattle.fix_dict.specs.Faults.{Tells, IsMemory};
+ghost use Rattle.fix_dict.specs.Book.{book_in, version, kind_of, layout_of, IsJson, Says};
+ghost use Rattle.fix_dict.specs.Allowed.{allows};
+ghost use Rattle.fix_dict.specs.declared.fault.DictFault.TheVariants.{NotJson};
+
+use crate::DictFault;
+use crate::allowed::is_allowed_by;
+use crate::build::members_of;
+use crate::field::read_fields;
+use crate::fields::Fields;
+use crate::members::judge_members;
+use crate::message::{MOST_GROUPS, read_messages};
+use crate::messages::Messages;
+use crate::parts::{list_at, text_at};
+use crate::paths::bad_shape;
+use crate::tags::Tags;
+use fix_base::{Begin, Tag};
+use fix_fields::{Layout, ValueKind};
+use serde_json::Value;
+use std::alloc::Global;
+use std::marker::Model;
+
+/// What a counterparty's rules of engagement say: the kinds and allowed values of fields, and the
+/// layouts of messages, of the header and of the trailer. Contracts see it as a `Book`.
+#[derive(Drop)]
+pub struct Dictionary {
+    begin: Begin,
+    fields: Fields,
+    header: Layout,
+    trailer: Layout,
+    messages: Messages,
+}
+
+impl Model for Dictionary {
+    ghost use Rattle.fix_dict.specs.Book.{Book, book_code};
+
+    ghost Value = { Book };
+
+    ghost coded = { book_code };
+
+    ghost view = { λ d. record { begin = d.begin; fields = d.fields; header = d.header; trailer = d.trailer; messages = d.messages } };
+}
+
+impl Dictionary {
+    /// The dictionary that a JSON file is, or the first wrong place of it: the members `begin`,
+    /// `fields`, `header`, `trailer` and `messages` are looked at in this order, arrays from their
+    /// first item on. NotJson comes just where the bytes are no JSON.
+    pub fn read(alloc: Global, json: &[u8]) -> Result<Dictionary, DictFault>
+        ensures ok { IfOk result (λ dictionary. Says json.now (Ok dictionary)) }
+        ensures err { IfErr result (λ e. (IsMemory e → ⊥) → (e ≡ NotJson → ⊥) → Says json.now (Err e)) }
+        ensures not_json { IfErr result (λ e. e ≡ NotJson → (d : Data) → IsJson json.now d → ⊥) }
+    {
+        read_json(alloc, json)
+    }
+
+    /// The version that the dictionary is for: BeginString (8).
+    pub fn begin(&self) -> Begin
+        ensures { result ≡ self.now.begin }
+    {
+        self.begin
+    }
+
+    /// What the values of the field with the tag are; None where the dictionary doesn't name it. It
+    /// costs the logarithm of the number of fields.
+    pub fn kind_of(&self, tag: Tag) -> Option<ValueKind>
+        ensures { result ≡ kind_of self.now tag }
+    {
+        match self.fields.get(tag) {
+            Some(rule) => Some(rule.kind),
+            None => None,
+        }
+    }
+
+    /// Whether the dictionary lists no values for the tag, or this one. Of a `MultipleValueString` each
+    /// part between spaces has to be listed.
+    pub fn allows(&self, tag: Tag, value: &[u8]) -> bool
+        ensures { result ≡ allows self.now tag value.now }
+    {
+        match self.fields.get(tag) {
+            Some(rule) => is_allowed_by(rule, value),
+            None => true,
+        }
+    }
+
+    /// The members of a message of this MsgType (35). It costs the logarithm of the number of types.
+    pub fn layout(&self, kind: &[u8]) -> Option<&Layout>
+        ensures { option_copied result ≡ layout_of self.now kind.now }
+    {
+        self.messages.get(kind)
+    }
+
+    /// The members of the header of every message.
+    pub fn header(&self) -> &Layout
+        ensures { result.now ≡ self.now.header }
+    {
+        &self.header
+    }
+
+    /// The members of the trailer of every message.
+    pub fn trailer(&self) -> &Layout
+        ensures { result.now ≡ self.now.trailer }
+    {
+        &self.trailer
+    }
+}
+
+fn read_json(alloc: Global, json: &[u8]) -> Result<Dictionary, DictFault>
+    ensures ok { IfOk result (λ dictionary. Says json.now (Ok dictionary)) }
+    ensures err { IfErr result (λ e. (IsMemory e → ⊥) → (e ≡ NotJson → ⊥) → Says json.now (Err e)) }
+    ensures not_json { IfErr result (λ e. (IsMemory e → ⊥) → (d : Data) → IsJson json.now d → book_in d ≡ Err e) }
+{
+    match Value::from_slice(alloc, json) {
+        Ok(value) => dictionary_of(alloc, &value),
+        Err(e) => Err(json_fault(e.is_memory())),
+    }
+}
+
+fn json_fault(is_memory: bool) -> DictFault
+    ensures memory { is_memory ≡ true → IsMemory result }
+    ensures not_json { is_memory ≡ false → result ≡ NotJson }
+{
+    if is_memory {
+        DictFault::OutOfMemory
+    } else {
+        DictFault::NotJson
+    }
+}
+
+// BeginString (8).
+fn version_at(value: &Value) -> Option<Begin>
+    ensures { result ≡ option_and_then version (text_at (codes "begin") (view value.now)) }
+{
+    match text_at(value, "begin") {
+        Some(text) => version(text.as_bytes()),
+        None => None,
+    }
+}
+
+fn version(text: &[u8]) -> Option<Begin>
+    ensures { result ≡ version text.now }
+{
+    if text == b"FIX.4.2".as_slice() {
+        return Some(Begin::Fix42);
+    }
+    if text == b"FIX.4.4".as_slice() {
+        return Some(Begin::Fix44);
+    }
+    None
+}
+
+fn dictionary_of(alloc: Global, value: &Value) -> Result<Dictionary, DictFault>
+    ensures ok { IfOk result (λ dictionary. book_in (view value.now) ≡ Ok dictionary) }
+    ensures err { IfErr result (Tells (book_in (view value.now))) }
+{
+    if !value.is_object() {
+        return Err(bad_shape(alloc, ""));
+    }
+    let Some(begin) = version_at(value) else {
+        return Err(bad_shape(alloc, "begin"));
+    };
+    let Some(rules) = list_at(value, "fields") else {
+        return Err(bad_shape(alloc, "fields"));
+    };
+    let mut fields = Fields::new(alloc);
+    read_fields(alloc, &mut fields, rules)?;
+    let Some(header_items) = list_at(value, "header") else {
+        return Err(bad_shape(alloc, "header"));
+    };
+    let mut seen = Tags::new(alloc);
+    judge_members(
+        alloc,
+        MOST_GROUPS,
+        &fields,
+        "header",
+        false,
+        &mut seen,
+        header_items,
+    )?;
+    let Some(trailer_items) = list_at(value, "trailer") else {
+        return Err(bad_shape(alloc, "trailer"));
+    };
+    judge_members(
+        alloc,
+        MOST_GROUPS,
+        &fields,
+        "trailer",
+        false,
+        &mut seen,
+        trailer_items,
+    )?;
+    let Some(types) = list_at(value, "messages") else {
+        return Err(bad_shape(alloc, "messages"));
+    };
+    let mut messages = Messages::new(alloc);
+    read_messages(alloc, &fields, &mut messages, types)?;
+    let header = Layout {
+        members: members_of(alloc, MOST_GROUPS, header_items)?,
+    };
+    let trailer = Layout {
+        members: members_of(alloc, MOST_GROUPS, trailer_items)?,
+    };
+    Ok(Dictionary {
+        begin,
+        fields,
+        header,
+        trailer,
+        messages,
+    })
+}
