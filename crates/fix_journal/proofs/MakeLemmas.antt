@@ -8,7 +8,7 @@ use Rattle.fix_disk.specs.Moments.{LeavesOnly}
 use Rattle.fix_disk.specs.declared.disk.DiskFailed.{DiskFailed}
 use Rattle.fix_journal.specs.Format.{OPEN, NAME, IsPayload, IsJournal, HasRecords}
 use Rattle.fix_journal.specs.Synced.{WritesSynced, TornFrom}
-use Rattle.fix_journal.specs.Opening.{Rests, IsClosed, IsShort, Makes}
+use Rattle.fix_journal.specs.Opening.{Rests, IsClosed, IsShort, KeepsBehind, Makes}
 use Rattle.fix_journal.proofs.Files.{gate_torn, gate_written}
 use Rattle.fix_journal.proofs.Moments.{weaker, then_on}
 use Rattle.fix_journal.proofs.SoundLemmas.{some_same, told_case}
@@ -75,11 +75,36 @@ ready_torn d c ready torn =
 ready_made : (file : List ℕ) → IsReady file → IsJournal (overwritten 0 (1 ∷ []) file) []
 ready_made file ready = empty_journal (overwritten 0 (1 ∷ []) file) ready.1 (ap (overwritten 0 (1 ∷ [])) ready.2 ∙ gate_written [] ready.0 1 0 (NAME ++ 0 ∷ ready.1) refl)
 
+-- a write that keeps what stands behind, and two of them
+keeps_behind : {T : Type 0} (x : T) (at : ℕ) (bytes : List ℕ) (old new : DiskSeen) (P : List ℕ → Type 0) → Rests old P → WritesSynced (Ok x) at bytes old new → ((file : List ℕ) → P file → drop 10 (overwritten at bytes file) ≡ drop 10 file) → KeepsBehind old.bytes new.bytes
+keeps_behind x at bytes old new P rests writes does = told_case old.bytes (λ file. IfSome new.bytes (λ now. drop 10 now ≡ drop 10 file)) (λ file is.
+    let now : new.bytes ≡ Some (overwritten at bytes file) = subst (λ o. IfSome o (λ f. new.bytes ≡ Some (overwritten at bytes f))) is writes.file in
+    subst (λ o. IfSome o (λ l. drop 10 l ≡ drop 10 file)) (sym now) (does file (subst (λ o. IfSome o P) is rests.holds)))
+
+keeps_both : (a b c : Option (List ℕ)) → (IsSome a → IsSome b) → KeepsBehind a b → KeepsBehind b c → KeepsBehind a c
+keeps_both None b c some first second = tt
+keeps_both (Some x) None c some first second = absurd (true≢false (sym (some refl)))
+keeps_both (Some x) (Some y) None some first second = tt
+keeps_both (Some x) (Some y) (Some z) some first second = second ∙ first
+
+short_behind : (file : List ℕ) → IsShort file → drop 10 (overwritten 0 (0 ∷ []) file) ≡ drop 10 file
+short_behind [] short = refl
+short_behind (x ∷ file) short = refl
+
+closed_behind : (file : List ℕ) → IsClosed file → drop 10 (overwritten 1 (NAME ++ 0 ∷ []) file) ≡ drop 10 file
+closed_behind [] shut = absurd (omega (arith, shut.0))
+closed_behind (x ∷ file) shut = refl
+
+ready_behind : (file : List ℕ) → IsReady file → drop 10 (overwritten 0 (1 ∷ []) file) ≡ drop 10 file
+ready_behind [] ready = refl
+ready_behind (x ∷ file) ready = refl
+
 module _ (old mid : DiskSeen) (laws : IsLawful old) (mid_laws : IsLawful mid) where
   module _ (rests : Rests old IsClosed) where
     pub closed_failed : {T : Type 0} (e : DiskFailed) → WritesSynced {T = T} (Err e) 1 (NAME ++ 0 ∷ []) old mid → Makes {T = T} (Err e) old mid
     closed_failed e writes = record {
       kept = tt;
+      behind = tt;
       tells_bytes = writes.tells_bytes;
       tells_images = writes.tells_images;
       any_moment = step_moments (Err e) 1 (NAME ++ 0 ∷ []) old mid IsClosed (λ c. HasRecords c []) laws mid_laws rests writes closed_torn;
@@ -90,6 +115,7 @@ module _ (old mid : DiskSeen) (laws : IsLawful old) (mid_laws : IsLawful mid) wh
     pub closed_done : {T U : Type 0} (x : U) (answer : Result T DiskFailed) (new : DiskSeen) → IsLawful new → WritesSynced {T = U} (Ok x) 1 (NAME ++ 0 ∷ []) old mid → WritesSynced answer 0 (1 ∷ []) mid new → Makes answer old new
     closed_done x answer new new_laws first second = record {
       kept = kept answer second;
+      behind = behind answer second;
       tells_bytes = (λ t. first.tells_bytes.0 (second.tells_bytes.0 t), λ t. second.tells_bytes.1 (first.tells_bytes.1 t));
       tells_images = (λ t. first.tells_images.0 (second.tells_images.0 t), λ t. second.tells_images.1 (first.tells_images.1 t));
       any_moment = then_on old mid new (λ c. HasRecords c [])
@@ -106,10 +132,17 @@ module _ (old mid : DiskSeen) (laws : IsLawful old) (mid_laws : IsLawful mid) wh
         kept (Ok y) second = rests_after y 0 (1 ∷ []) mid new IsReady (λ file. IsJournal file []) ready second ready_made
         kept (Err e) second = tt
 
+        behind : {S : Type 0} (answer : Result S DiskFailed) → WritesSynced answer 0 (1 ∷ []) mid new → OnOk answer (KeepsBehind old.bytes new.bytes)
+        behind (Ok y) second = keeps_both old.bytes mid.bytes new.bytes first.tells_bytes.1
+            (keeps_behind x 1 (NAME ++ 0 ∷ []) old mid IsClosed rests first closed_behind)
+            (keeps_behind y 0 (1 ∷ []) mid new IsReady ready second ready_behind)
+        behind (Err e) second = tt
+
   module _ (rests : Rests old IsShort) where
     pub short_failed : {T : Type 0} (e : DiskFailed) → WritesSynced {T = T} (Err e) 0 (0 ∷ []) old mid → Makes {T = T} (Err e) old mid
     short_failed e writes = record {
       kept = tt;
+      behind = tt;
       tells_bytes = writes.tells_bytes;
       tells_images = writes.tells_images;
       any_moment = step_moments (Err e) 0 (0 ∷ []) old mid IsShort (λ c. HasRecords c []) laws mid_laws rests writes short_torn;
@@ -123,6 +156,7 @@ module _ (old mid : DiskSeen) (laws : IsLawful old) (mid_laws : IsLawful mid) wh
     pub short_done : {T U : Type 0} (x : U) (answer : Result T DiskFailed) (new : DiskSeen) → WritesSynced {T = U} (Ok x) 0 (0 ∷ []) old mid → Makes answer mid new → Makes answer old new
     short_done x answer new first second = record {
       kept = second.kept;
+      behind = behind answer second;
       tells_bytes = (λ t. first.tells_bytes.0 (second.tells_bytes.0 t), λ t. second.tells_bytes.1 (first.tells_bytes.1 t));
       tells_images = (λ t. first.tells_images.0 (second.tells_images.0 t), λ t. second.tells_images.1 (first.tells_images.1 t));
       any_moment = then_on old mid new (λ c. HasRecords c [])
@@ -131,3 +165,7 @@ module _ (old mid : DiskSeen) (laws : IsLawful old) (mid_laws : IsLawful mid) wh
       now = second.now;
       cause = omega (arith, first.cause, second.cause);
     }
+      where
+        behind : {S : Type 0} (answer : Result S DiskFailed) → Makes answer mid new → OnOk answer (KeepsBehind old.bytes new.bytes)
+        behind (Ok y) second = keeps_both old.bytes mid.bytes new.bytes first.tells_bytes.1 (keeps_behind x 0 (0 ∷ []) old mid IsShort rests first short_behind) second.behind
+        behind (Err e) second = tt

@@ -1,7 +1,7 @@
 -- A file has one list of records, or one first place at which it breaks the format.
-use Rattle.std.proofs.Common.{◌≡◌, ◌≢◌, inl, inr, ℕ, ◌≤◌, List, [], ◌∷◌, ◌++◌, length, take, drop, get_or, refl, sym, ◌∙◌, ap, subst, arith, append_assoc, length-append}
+use Rattle.std.proofs.Common.{◌≡◌, ◌≢◌, inl, inr, ℕ, List, [], ◌∷◌, ◌++◌, length, take, drop, get_or, refl, sym, ◌∙◌, ap, arith, append_assoc, length-append}
 use Rattle.std.specs.Prelude.{All}
-use Rattle.fix_journal.specs.Format.{OPEN, NAME, IsPayload, body_of, recorded, front, IsMade, IsJournal, HasRecords, HoldsNoRecord, Breaks, IsDamagedAt}
+use Rattle.fix_journal.specs.Format.{OPEN, IsPayload, body_of, recorded, front, IsMade, IsJournal, HasRecords, HoldsNoRecord, IsDamagedAt}
 use Rattle.fix_journal.proofs.Gates.{length-front}
 use Rattle.fix_journal.proofs.Unique.{one_body, first_of, later_of, unique}
 

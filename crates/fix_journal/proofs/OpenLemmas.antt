@@ -9,7 +9,7 @@ use Rattle.fix_journal.specs.declared.fault.OpenFault.{OpenFault}
 use Rattle.fix_journal.specs.declared.fault.OpenFault.TheVariants.{DiskFault, Damaged, OutOfMemory}
 use Rattle.fix_journal.specs.Format.{IsMade, HasRecords, front}
 use Rattle.fix_journal.specs.Journal.{Holds, Lasts}
-use Rattle.fix_journal.specs.Opening.{Rests, IsUntouched, IsUnmadeBy, Makes, Finds, IsLeftByOpening, StaysWithoutMemory, Opens, open_failures}
+use Rattle.fix_journal.specs.Opening.{Rests, IsUntouched, IsUnmadeBy, Makes, Finds, IsLeftByOpening, StaysWithoutMemory, KeepsBehind, KeepsWhereOpened, Opens, open_failures}
 use Rattle.fix_journal.proofs.Moments.{weaker, then_on}
 use Rattle.fix_journal.proofs.SoundLemmas.{told_case}
 use Rattle.fix_journal.proofs.MakeLemmas.{at_told}
@@ -26,10 +26,15 @@ stays_later (Some DiskFault) old mid new is stays = tt
 stays_later (Some (Damaged place)) old mid new is stays = tt
 stays_later (Some OutOfMemory) old mid new is stays = stays ∙ is
 
+behind_later : (fault : Option OpenFault) (old mid new : DiskSeen) → mid.bytes ≡ old.bytes → KeepsWhereOpened fault mid new → KeepsWhereOpened fault old new
+behind_later None old mid new is behind = subst (λ o. KeepsBehind o new.bytes) is behind
+behind_later (Some fault) old mid new is behind = tt
+
 -- an opening behind calls that write nothing
 pub opens_later : (fault : Option OpenFault) (old mid new : DiskSeen) → IsLawful mid → IsUntouched old mid → Rises 0 old.faults mid.faults → Opens fault mid new → Opens fault old new
 opens_later fault old mid new laws untouched before opens = record {
   made_same = subst (λ o. IfSome o (λ file. IsMade file → new.bytes ≡ o)) untouched.bytes opens.made_same;
+  behind = behind_later fault old mid new untouched.bytes opens.behind;
   refused_same = stays_later fault old mid new untouched.bytes opens.refused_same;
   any_moment = then_on old mid new (IsLeftByOpening old)
       (weaker old mid old.image (IsLeftByOpening old) untouched.moments (λ p c left. inl left))
@@ -50,9 +55,10 @@ module _ {T : Type 0} (answer : Result T DiskFailed) (is_short : Bool) (old new 
       let there = at_told old.bytes some in
       (there.0, there.1, not_made is_short there.0 (subst (λ o. IfSome o (IsUnmadeBy is_short)) there.1 rests.holds))
 
-  pub opens_making : (fault : Option OpenFault) → open_failures fault ≡ failures answer → StaysWithoutMemory fault old new → Opens fault old new
-  opens_making fault same stays = record {
+  pub opens_making : (fault : Option OpenFault) → open_failures fault ≡ failures answer → StaysWithoutMemory fault old new → KeepsWhereOpened fault old new → Opens fault old new
+  opens_making fault same stays behind = record {
     refused_same = stays;
+    behind = behind;
     made_same = told_case old.bytes (λ file. IsMade file → new.bytes ≡ old.bytes) (λ file is made. absurd (not_made is_short file (subst (λ o. IfSome o (IsUnmadeBy is_short)) is rests.holds) made));
     any_moment = weaker old new (λ c. HasRecords c []) (IsLeftByOpening old) makes.any_moment (λ p c has. inr (unmade (laws.tells_bytes (laws.tells_now (makes.any_moment.told p))), has));
     now = λ told c left. inr (unmade (laws.tells_bytes (makes.tells_images.0 told)), makes.now told c left);

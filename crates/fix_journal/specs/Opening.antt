@@ -86,9 +86,14 @@ HasTen (Unmade is_short) = ⊤
 HasTen (Named end) = 10 ≤ end
 HasTen Misnamed = ⊤
 
+-- what stands behind the first ten bytes stays
+abbrev pub KeepsBehind : Option (List ℕ) → Option (List ℕ) → Type 0
+KeepsBehind old new = IfSome old (λ file. IfSome new (λ now. drop 10 now ≡ drop 10 file))
+
 -- what the making of a journal does to a disk: a crash at any moment of it leaves an unmade file or a journal without records
 pub record Makes {T : Type 0} (answer : Result T DiskFailed) (old new : DiskSeen) : Type 0 where
   pub kept : OnOk answer (Rests new (λ file. IsJournal file []))
+  pub behind : OnOk answer (KeepsBehind old.bytes new.bytes)
   pub tells_bytes : IsSome new.bytes ↔ IsSome old.bytes
   pub tells_images : new.TellsImages ↔ old.TellsImages
   pub any_moment : LeavesOnly old new (λ c. HasRecords c [])
@@ -113,11 +118,17 @@ StaysWithoutMemory (Some DiskFault) old new = ⊤
 StaysWithoutMemory (Some (Damaged place)) old new = ⊤
 StaysWithoutMemory (Some OutOfMemory) old new = new.bytes ≡ old.bytes
 
+-- what stands in an opened file behind the first ten bytes stays
+abbrev pub KeepsWhereOpened : Option OpenFault → DiskSeen → DiskSeen → Type 0
+KeepsWhereOpened None old new = KeepsBehind old.bytes new.bytes
+KeepsWhereOpened (Some fault) old new = ⊤
+
 -- what an opening does to a disk
 pub record Opens (fault : Option OpenFault) (old new : DiskSeen) : Type 0 where
   -- a made file stays as it is
   pub made_same : IfSome old.bytes (λ file. IsMade file → new.bytes ≡ old.bytes)
   pub refused_same : StaysWithoutMemory fault old new
+  pub behind : KeepsWhereOpened fault old new
   pub any_moment : LeavesOnly old new (IsLeftByOpening old)
   pub now : new.TellsImages → (c : List ℕ) → new.image c → IsLeftByOpening old c
   pub tells_bytes : IsSome new.bytes ↔ IsSome old.bytes

@@ -157,3 +157,34 @@ fn a_payload_has_no_meaning_here(rt: HostRuntime) -> Result<(), Fail> {
     );
     Ok(())
 }
+
+#[test]
+fn an_unmade_file_keeps_what_stands_behind_its_gate(rt: HostRuntime) -> Result<(), Fail> {
+    let journal = opened(rt.alloc(), holding(rt.alloc(), b"\0unmade...xyz")?)?;
+    assert_eq!(rt;
+        journal.into_disk().bytes(),
+        b"\x01FIXJRNL1\0xyz".as_slice()
+    );
+    Ok(())
+}
+
+// What a stop at this call of the making of a file leaves.
+fn making_stopped_at(alloc: Global, call: u64) -> Result<Result<u64, OpenFault>, OutOfMemory> {
+    match Journal::open(alloc, blank(alloc, &[], Some(call))?) {
+        Ok(_) => Err(OutOfMemory),
+        Err(refused) => match refused.fault {
+            OpenFault::DiskFault => meaning(alloc, refused.disk.bytes()),
+            _ => Err(OutOfMemory),
+        },
+    }
+}
+
+#[test]
+fn a_stop_in_the_making_leaves_no_record(rt: HostRuntime) -> Result<(), Fail> {
+    assert_eq!(rt; making_stopped_at(rt.alloc(), 1)?, Ok(0));
+    assert_eq!(rt; making_stopped_at(rt.alloc(), 3)?, Ok(0));
+    assert_eq!(rt; making_stopped_at(rt.alloc(), 5)?, Ok(0));
+    assert_eq!(rt; making_stopped_at(rt.alloc(), 7)?, Ok(0));
+    assert_eq!(rt; making_stopped_at(rt.alloc(), 8)?, Ok(0));
+    Ok(())
+}
