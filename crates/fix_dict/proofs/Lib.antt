@@ -4,3 +4,4 @@ pub mod TableLemmas
 pub mod RoomLemmas
 pub mod AllowedLemmas
 pub mod JsonLemmas
+pub mod TwiceLemmas

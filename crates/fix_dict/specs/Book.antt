@@ -13,6 +13,7 @@ use Rattle.fix_base.specs.contracts.identity.Begin as begin_type
 use Rattle.fix_fields.specs.declared.kind.ValueKind.{ValueKind}
 use Rattle.fix_fields.specs.Shapes.{Shapes, shapes_code}
 use Rattle.fix_fields.specs.Members.{shapes_of}
+use Rattle.fix_fields.specs.NoTwice.{HasNoTwice}
 use Rattle.fix_dict.specs.contracts.rule.FieldRule as rule_type
 use Rattle.fix_dict.specs.declared.fault.DictFault.{DictFault}
 use Rattle.fix_dict.specs.Parts.{list_at, text_at}
@@ -43,6 +44,16 @@ kind_of book tag = option_map (λ r. r.kind) (table.get book.fields tag)
 
 abbrev pub layout_of : Book → List ℕ → Option Shapes
 layout_of book type = table.get book.messages type
+
+-- each layout has no tag twice
+abbrev pub AreTold : MessageTable → Type 0
+AreTold messages = (type : List ℕ) (layout : Shapes) → table.get messages type ≡ Some layout → HasNoTwice layout
+
+-- the members of each layout can be told apart by their tags
+pub record IsTold (book : Book) : Type 0 where
+  pub header : HasNoTwice book.header
+  pub trailer : HasNoTwice book.trailer
+  pub messages : AreTold book.messages
 
 -- ---- the dictionary of a JSON value
 

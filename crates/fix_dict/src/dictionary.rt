@@ -3,7 +3,7 @@ ghost use Rattle.serde_json.specs.Data.{Data};
 ghost use Rattle.serde_json.specs.View.{view};
 ghost use Rattle.fix_dict.specs.Parts.{text_at};
 ghost use Rattle.fix_dict.specs.Faults.{Tells, IsMemory};
-ghost use Rattle.fix_dict.specs.Book.{book_in, version, kind_of, layout_of, IsJson, Says};
+ghost use Rattle.fix_dict.specs.Book.{book_in, version, kind_of, layout_of, IsJson, Says, IsTold};
 ghost use Rattle.fix_dict.specs.Allowed.{allows};
 ghost use Rattle.fix_dict.specs.declared.fault.DictFault.TheVariants.{NotJson};
 
@@ -51,6 +51,7 @@ impl Dictionary {
     /// first item on. NotJson comes just where the bytes are no JSON.
     pub fn read(alloc: Global, json: &[u8]) -> Result<Dictionary, DictFault>
         ensures ok { IfOk result (λ dictionary. Says json.now (Ok dictionary)) }
+        ensures told { IfOk result (λ dictionary. IsTold dictionary) }
         ensures err { IfErr result (λ e. (IsMemory e → ⊥) → (e ≡ NotJson → ⊥) → Says json.now (Err e)) }
         ensures not_json { IfErr result (λ e. e ≡ NotJson → (d : Data) → IsJson json.now d → ⊥) }
     {
