@@ -101,10 +101,10 @@ comes_group : (seen middle after : TagSet) (k : ℕ) (required : Bool) (inner s 
 comes_group seen middle after k required inner s new led g h = record {
   told = (off (has_tag k inner) (λ on. g.apart k on (in_new seen k)), off (has_tag k s) (λ on. h.apart k on (g.keeps k (in_new seen k))), (λ u on. off (has_tag u s) (λ x. h.apart u x (g.adds u on))), led, g.told, h.told);
   apart = λ t on old. or_either (t == k) (has_tag t inner || has_tag t s) (λ is. true≢false (sym old ∙ ap (set.contains seen) (same t k is) ∙ new))
-    (or_either (has_tag t inner) (has_tag t s) (λ x. g.apart t x (in_old seen k t old)) (λ x. h.apart t x (g.keeps t (in_old seen k t old)))) on;
+      (or_either (has_tag t inner) (has_tag t s) (λ x. g.apart t x (in_old seen k t old)) (λ x. h.apart t x (g.keeps t (in_old seen k t old)))) on;
   keeps = λ t old. h.keeps t (g.keeps t (in_old seen k t old));
   adds = λ t on. or_either (t == k) (has_tag t inner || has_tag t s) (λ is. h.keeps t (g.keeps t (ap (set.contains (set.insert seen k)) (same t k is) ∙ in_new seen k)))
-    (or_either (has_tag t inner) (has_tag t s) (λ x. h.keeps t (g.adds t x)) (h.adds t)) on;
+      (or_either (has_tag t inner) (has_tag t s) (λ x. h.keeps t (g.adds t x)) (h.adds t)) on;
 }
 
 -- ---- one member
@@ -116,7 +116,7 @@ record Shaped (leads has_group : Bool) (found : ℕ) (ds : List Data) (tag : ℕ
 
 shaped : (top flag has_field has_group leads : Bool) (f g : Option ℕ) (ds : List Data) (tag : ℕ)
     → (if not top then Err [] else (if not flag then Err (codes "required") else (if has_field then (if has_group then Err [] else tag_or f (codes "tag"))
-      else (if leads then Err (codes "tag") else (if has_group then with_members g ds else Err (codes "tag")))))) ≡ Ok tag
+    else (if leads then Err (codes "tag") else (if has_group then with_members g ds else Err (codes "tag")))))) ≡ Ok tag
     → Shaped leads has_group (unwrap_or (if has_field then f else g) 1) ds tag
 shaped false flag has_field has_group leads f g ds tag h = absurd (no _ tag h)
 shaped true false has_field has_group leads f g ds tag h = absurd (no _ tag h)
@@ -152,9 +152,9 @@ joined false k found required judge inner groups ds rest seen middle after is ne
     subst (λ t. Comes seen after (plain t required (shapes_of rest))) (sym is)
     (comes_plain seen after k required (shapes_of rest) new (subst (λ s. Comes s after (shapes_of rest)) (sym (ap (set_of (set.insert seen k)) h)) more))
   where
-  set_of : TagSet → Result TagSet DictFault → TagSet
-  set_of other (Ok s) = s
-  set_of other (Err e) = other
+    set_of : TagSet → Result TagSet DictFault → TagSet
+    set_of other (Ok s) = s
+    set_of other (Err e) = other
 
 -- ---- one after another
 
@@ -162,9 +162,9 @@ items_come : (judge : TagSet → List Data → Result TagSet DictFault) (inner :
     → judged_items judge fields name leads index seen ds ≡ Ok after → Comes seen after (shapes_of (map (member_in inner) ds))
 items_come judge inner groups fields name leads index seen after [] h = subst (λ s. Comes seen s no_more) (ap (set_in seen) h) (comes_none seen)
   where
-  set_in : TagSet → Result TagSet DictFault → TagSet
-  set_in other (Ok s) = s
-  set_in other (Err e) = other
+    set_in : TagSet → Result TagSet DictFault → TagSet
+    set_in other (Ok s) = s
+    set_in other (Err e) = other
 items_come judge inner groups fields name leads index seen after (d ∷ ds) h =
     let first = leads && (index == 0) in
     let c = came (inside name index (judged_member judge fields first seen d)) _ after h in
@@ -190,9 +190,10 @@ items_led judge inner fields name seen after (d ∷ ds) some h =
 
 groups_come : (room : ℕ) (fields : FieldTable) → GroupsCome (inside_group room fields) (inner_members room)
 groups_come zero fields seen after ds some h = absurd (no _ after h)
-groups_come (suc room) fields seen after ds some h =
-    (items_come (inside_group room fields) (inner_members room) (groups_come room fields) fields (codes "members") true 0 seen after ds h,
-    items_led (inside_group room fields) (inner_members room) fields (codes "members") seen after ds some h)
+groups_come (suc room) fields seen after ds some h = (
+  items_come (inside_group room fields) (inner_members room) (groups_come room fields) fields (codes "members") true 0 seen after ds h,
+  items_led (inside_group room fields) (inner_members room) fields (codes "members") seen after ds some h,
+)
 
 pub no_twice : (room : ℕ) (fields : FieldTable) (name : List ℕ) (leads : Bool) (seen after : TagSet) (ds : List Data)
     → judged_items (inside_group room fields) fields name leads 0 seen ds ≡ Ok after → HasNoTwice (shapes_of (members_in room ds))
