@@ -161,7 +161,7 @@ fn is_sample_44(alloc: Global) -> bool {
         && is_layout(alloc, dictionary.layout(b"8"), REPORT_44)
 }
 
-// Fields 21 and 54 list values, and 58 lists none. No field is 999.
+// Fields 21 and 54 list values, and 55 and 58 list none. No field is 999.
 fn allows_what_is_listed(alloc: Global) -> bool {
     let Ok(dictionary) = Dictionary::read(alloc, SAMPLE_42.as_bytes()) else {
         return false;
@@ -170,8 +170,10 @@ fn allows_what_is_listed(alloc: Global) -> bool {
         && allows(&dictionary, 21, b"3")
         && !allows(&dictionary, 21, b"4")
         && !allows(&dictionary, 21, b"1 2")
+        && allows(&dictionary, 54, b"1")
         && allows(&dictionary, 54, b"9")
         && !allows(&dictionary, 54, b"0")
+        && allows(&dictionary, 55, b"any")
         && allows(&dictionary, 58, b"any")
         && allows(&dictionary, 999, b"any")
 }
