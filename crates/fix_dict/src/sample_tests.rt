@@ -51,6 +51,22 @@ const NUM_IN_GROUP: [u32; 2] = [78, 453];
 
 const DATA: [u32; 2] = [89, 96];
 
+// Values, and whether fields 21 and 54 list them. No other field lists any.
+const VALUES: [(&str, bool, bool); 12] = [
+    ("0", false, false),
+    ("1", true, true),
+    ("2", true, true),
+    ("3", true, true),
+    ("4", false, true),
+    ("5", false, true),
+    ("6", false, true),
+    ("7", false, true),
+    ("8", false, true),
+    ("9", false, true),
+    ("10", false, false),
+    ("1 2", false, false),
+];
+
 fn push_members(out: &mut String, layout: &Layout) -> Result<(), AllocError> {
     for (i, member) in layout.members.iter().enumerate() {
         if i > 0 {
@@ -137,12 +153,44 @@ fn has_the_kinds(dictionary: &Dictionary) -> bool {
         && are_of(dictionary, &DATA, ValueKind::Data)
 }
 
+fn allow_any(dictionary: &Dictionary, tags: &[u32]) -> bool {
+    for tag in tags {
+        if *tag != 21 && *tag != 54 && !allows(dictionary, *tag, b"any") {
+            return false;
+        }
+    }
+    true
+}
+
+fn has_the_values(dictionary: &Dictionary) -> bool {
+    for (value, in_21, in_54) in &VALUES {
+        if allows(dictionary, 21, value.as_bytes()) != *in_21 {
+            return false;
+        }
+        if allows(dictionary, 54, value.as_bytes()) != *in_54 {
+            return false;
+        }
+    }
+    allow_any(dictionary, &STRING)
+        && allow_any(dictionary, &SEQ_NUM)
+        && allow_any(dictionary, &LENGTH)
+        && allow_any(dictionary, &INT)
+        && allow_any(dictionary, &CHAR)
+        && allow_any(dictionary, &BOOLEAN)
+        && allow_any(dictionary, &QTY)
+        && allow_any(dictionary, &PRICE)
+        && allow_any(dictionary, &UTC_TIMESTAMP)
+        && allow_any(dictionary, &NUM_IN_GROUP)
+        && allow_any(dictionary, &DATA)
+}
+
 fn is_sample_42(alloc: Global) -> bool {
     let Ok(dictionary) = Dictionary::read(alloc, SAMPLE_42.as_bytes()) else {
         return false;
     };
     dictionary.begin() == Begin::Fix42
         && has_the_kinds(&dictionary)
+        && has_the_values(&dictionary)
         && has_shared_layouts(alloc, &dictionary)
         && is_layout(alloc, dictionary.layout(b"D"), ORDER_42)
         && is_layout(alloc, dictionary.layout(b"8"), REPORT_42)
@@ -156,6 +204,7 @@ fn is_sample_44(alloc: Global) -> bool {
     };
     dictionary.begin() == Begin::Fix44
         && has_the_kinds(&dictionary)
+        && has_the_values(&dictionary)
         && has_shared_layouts(alloc, &dictionary)
         && is_layout(alloc, dictionary.layout(b"D"), ORDER_44)
         && is_layout(alloc, dictionary.layout(b"8"), REPORT_44)
