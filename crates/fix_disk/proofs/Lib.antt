@@ -1,8 +1,8 @@
-mod Overwritten
+pub mod Overwritten
 mod StateLemmas
 mod ImageLemmas
 mod LogLemmas
 mod PastLemmas
-mod WriteLemmas
+pub mod WriteLemmas
 mod FileLemmas
 mod StreamLemmas

@@ -6,9 +6,11 @@ mod AppendLemmas
 mod Unique
 mod Gates
 mod SoundLemmas
+mod AsRead
 mod CallLemmas
 mod HeadLemmas
 mod ScanLemmas
 mod MakeLemmas
 mod OpenLemmas
 mod Meaning
+mod PayloadLemmas
