@@ -1,16 +1,16 @@
 mod Files
 mod Records
-mod Moments
+pub mod Moments
 mod SyncedLemmas
 mod AppendLemmas
-mod Unique
-mod Gates
-mod SoundLemmas
+pub mod Unique
+pub mod Gates
+pub mod SoundLemmas
 mod AsRead
 mod CallLemmas
 mod HeadLemmas
 mod ScanLemmas
 mod MakeLemmas
 mod OpenLemmas
-mod Meaning
-mod PayloadLemmas
+pub mod Meaning
+pub mod PayloadLemmas

@@ -13,7 +13,7 @@ use Rattle.fix_disk.specs.Moments.{LeavesOnly}
 use Rattle.fix_journal.specs.declared.fault.OpenFault.{OpenFault}
 use Rattle.fix_journal.specs.declared.fault.OpenFault.TheVariants as open_fault
 use Rattle.fix_journal.specs.Format.{front}
-use Rattle.fix_journal.specs.Journal.{JournalSeen, Holds, append_failures, JournalAppends}
+use Rattle.fix_journal.specs.Journal.{JournalSeen, Holds, Lasts}
 use Rattle.fix_journal.specs.Opening.{open_failures, fault_of}
 use Rattle.fix_store.specs.declared.folding.Folded.{Folded}
 use Rattle.fix_store.specs.declared.reading.Spelt.{Spelt}
@@ -71,6 +71,7 @@ pub record IsWithin (f : Fold) (count : ℕ) : Type 0 where
 -- the journal's file has these records, so many
 pub record IsKeptOf (seen : DiskSeen) (count : ℕ) (records : List Record) (f : Fold) : Type 0 where
   pub holds : Holds seen (map spelled records)
+  pub lasts : Lasts seen (map spelled records)
   pub counts : count ≡ length records
   pub folds : IsFoldOf records f
 
