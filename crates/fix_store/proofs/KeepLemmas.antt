@@ -160,7 +160,7 @@ sound_read disk journal new f sound count same images stopped is = record {
       (k.0, subst (λ n. IsKeptOf (disk new.disk) n k.0 f) (sym count) (kept_read (disk journal.disk) (disk new.disk) journal.count k.0 f same images k.1));
 }
 
-pushed : Record → Entry
+abbrev pushed : Record → Entry
 pushed (Push entry) = entry
 pushed (Expect number) = NO_ENTRY
 pushed (Reset time) = NO_ENTRY
