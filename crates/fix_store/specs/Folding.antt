@@ -116,9 +116,13 @@ pub record IsNext (payloads : List (List ℕ)) (index : ℕ) (f : Fold) (r : Rec
   pub keepable : IsKeepable r
   pub numbered : HasNumber r (stored_in f)
 
--- one step of the walk
-abbrev pub Takes : {T : Type 0} → Result T OpenFault → ℕ → List (List ℕ) → Fold → Fold → Type 0
-Takes (Ok x) index payloads old new = (r : Record) × IsNext payloads index old r × (new ≡ fold_with index old r)
-Takes (Err open_fault.DiskFault) index payloads old new = ⊤
-Takes (Err (open_fault.Damaged place)) index payloads old new = ((r : Record) → IsNext payloads index old r → ⊥) × (place ≡ length (front (take index payloads)))
-Takes (Err open_fault.OutOfMemory) index payloads old new = ⊤
+-- one step of the walk, whatever the disk gave back
+abbrev pub Steps : ℕ → Fold → Fold → Type 0
+Steps index old new = (r : Record) × HasNumber r (stored_in old) × (new ≡ fold_with index old r)
+
+-- one step of the walk, over a disk that tells its file
+abbrev pub Takes : Option OpenFault → ℕ → List (List ℕ) → Fold → Fold → Type 0
+Takes None index payloads old new = (r : Record) × IsNext payloads index old r × (new ≡ fold_with index old r)
+Takes (Some open_fault.DiskFault) index payloads old new = ⊤
+Takes (Some (open_fault.Damaged place)) index payloads old new = ((r : Record) → IsNext payloads index old r → ⊥) × (place ≡ length (front (take index payloads)))
+Takes (Some open_fault.OutOfMemory) index payloads old new = ⊤
