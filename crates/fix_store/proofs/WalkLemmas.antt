@@ -73,7 +73,7 @@ pub record IsWalking {D : Type 0} (disk : D → DiskSeen) (old now : JournalSeen
 pub walk_begins : {D : Type 0} (disk : D → DiskSeen) (old : JournalSeen D) (f : Fold) → IsLawful (disk old.disk) → old.stopped ≡ false → f ≡ new_fold → IsWalking disk old old 0 f
 walk_begins disk old f laws still new = record {
   goes_on = record { count = refl; stopped = still };
-  within = subst (λ g. IsWithin g 0) (sym new) (record { few = omega arith; each = All-nil (λ i. i < 0) });
+  within = subst (λ g. IsWithin g 0) (sym new) (record { few = omega arith; expected = (omega arith, omega arith); each = All-nil (λ i. i < 0) });
   found = λ payloads holds le. ([], refl, subst (IsFoldOf []) (sym new) nothing_yet);
   reads = reads_none (disk old.disk) laws;
 }
@@ -100,7 +100,7 @@ module _ {D : Type 0} (disk : D → DiskSeen) (old now : JournalSeen D) (index :
     pub walks_on : IsWalking disk old new (index + 1) g
     walks_on = record {
       goes_on = record { count = goes.count ∙ walk.goes_on.count; stopped = goes.stopped };
-      within = subst (λ h. IsWithin h (index + 1)) (sym steps.2) (within_step f steps.0 index index (index + 1) walk.within steps.1 (omega arith) (omega arith));
+      within = subst (λ h. IsWithin h (index + 1)) (sym steps.3) (within_step f steps.0 index index (index + 1) walk.within steps.1 steps.2 (omega arith) (omega arith));
       found = found_next;
       reads = reads_then 0 (disk old.disk) (disk now.disk) (disk new.disk) laws walk.reads reads;
     }

@@ -63,9 +63,10 @@ pub record IsFoldOf (records : List Record) (f : Fold) : Type 0 where
   pub stored : stored_in f ≡ stored_of (folded_all new_end records)
   pub places : ArePlaces records f.places (folded_all new_end records).out
 
--- its places are indexes of so many records
+-- its places are indexes of so many records, and its numbers are in their ranges
 pub record IsWithin (f : Fold) (count : ℕ) : Type 0 where
   pub few : length f.places ≤ LAST_NUMBER
+  pub expected : IsKeepable (Expect f.expected)
   pub each : All (λ index. index < count) f.places
 
 -- the journal's file has these records, so many
@@ -118,7 +119,7 @@ pub record IsNext (payloads : List (List ℕ)) (index : ℕ) (f : Fold) (r : Rec
 
 -- one step of the walk, whatever the disk gave back
 abbrev pub Steps : ℕ → Fold → Fold → Type 0
-Steps index old new = (r : Record) × HasNumber r (stored_in old) × (new ≡ fold_with index old r)
+Steps index old new = (r : Record) × IsKeepable r × HasNumber r (stored_in old) × (new ≡ fold_with index old r)
 
 -- one step of the walk, over a disk that tells its file
 abbrev pub Takes : Option OpenFault → ℕ → List (List ℕ) → Fold → Fold → Type 0
