@@ -4,7 +4,7 @@ ghost use Rattle.fix_disk.specs.Disk.{failures};
 
 use crate::{Disk, DiskFailed};
 use std::fs::{self, File, OpenOptions, TryLockError};
-use std::io::{self, ErrorKind};
+use std::io::{self, ErrorKind, Seek, SeekFrom};
 use std::os::unix::fs::FileExt;
 
 /// Why a file isn't, or is no longer, a disk.
@@ -88,16 +88,16 @@ fn settle(rt: &HostRuntime, path: &str, file: &File) -> io::Result<()> {
 
 const LAST_PLACE: u64 = (1 << 63) - 1;
 
+// How many bytes a file has. Its end is sought and its times are not asked for: since Linux 6.13 a
+// file whose times were asked for gets new ones at its next write, which makes the sync dearer.
 fn length(file: &Result<File, FileRefusal>) -> Result<u64, DiskFailed>
     ensures { IsErr file.now → IsErr result }
 {
-    match file {
-        Ok(file) => match file.metadata() {
-            Ok(found) => Ok(found.len()),
-            Err(_) => Err(DiskFailed),
-        },
-        Err(_) => Err(DiskFailed),
-    }
+    let Ok(open) = file else {
+        return Err(DiskFailed);
+    };
+    let mut open = open;
+    open.seek(SeekFrom::End(0)).map_err(|_| DiskFailed)
 }
 
 fn read_from(file: &Result<File, FileRefusal>, at: u64, room: &mut [u8]) -> Result<(), DiskFailed>

@@ -10,6 +10,7 @@ pub mod AsRead
 mod CallLemmas
 mod HeadLemmas
 mod ScanLemmas
+mod WindowLemmas
 mod MakeLemmas
 mod OpenLemmas
 pub mod Meaning

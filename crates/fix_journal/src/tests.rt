@@ -29,12 +29,16 @@ fn opened(alloc: Global, disk: MemoryDisk) -> Result<Journal<MemoryDisk>, OutOfM
     }
 }
 
+fn found(alloc: Global, disk: MemoryDisk) -> Result<u64, OpenFault> {
+    match Journal::open(alloc, disk) {
+        Ok(journal) => Ok(journal.count()),
+        Err(refused) => Err(refused.fault),
+    }
+}
+
 // How many records a file has, or why it isn't opened.
 fn meaning(alloc: Global, bytes: &[u8]) -> Result<Result<u64, OpenFault>, OutOfMemory> {
-    match Journal::open(alloc, holding(alloc, bytes)?) {
-        Ok(journal) => Ok(Ok(journal.count())),
-        Err(refused) => Ok(Err(refused.fault)),
-    }
+    Ok(found(alloc, holding(alloc, bytes)?))
 }
 
 #[test]
@@ -186,5 +190,47 @@ fn a_stop_in_the_making_leaves_no_record(rt: HostRuntime) -> Result<(), Fail> {
     assert_eq!(rt; making_stopped_at(rt.alloc(), 5)?, Ok(0));
     assert_eq!(rt; making_stopped_at(rt.alloc(), 7)?, Ok(0));
     assert_eq!(rt; making_stopped_at(rt.alloc(), 8)?, Ok(0));
+    Ok(())
+}
+
+// Records of one byte, more than one read holds, and one that is longer than a read behind them.
+fn many(alloc: Global, count: usize) -> Result<Vec<u8>, OutOfMemory> {
+    let mut file = Vec::from_slice(alloc, b"\x01FIXJRNL1")?;
+    for _ in 0..count {
+        file.extend_from_slice(b"\x01\0\0\0\x01x")?;
+    }
+    file.extend_from_slice(b"\x01\0\x01\x86\xa0")?;
+    file.resize(file.len().saturating_add(100_000), 1)?;
+    file.extend_from_slice(&[0])?;
+    Ok(file)
+}
+
+fn large(alloc: Global, bytes: &[u8]) -> Result<MemoryDisk, OutOfMemory> {
+    let mut disk = MemoryDisk::new(alloc, 300_000, 0, Vec::new(alloc), None)?;
+    match disk.write_at(0, bytes) {
+        Ok(()) => Ok(disk),
+        Err(_) => Err(OutOfMemory),
+    }
+}
+
+#[test]
+fn records_are_found_behind_what_one_read_gives(rt: HostRuntime) -> Result<(), Fail> {
+    let alloc = rt.alloc();
+    let mut file = many(alloc, 20_000)?;
+    let mut journal = opened(alloc, large(alloc, &file)?)?;
+    let mut into = Vec::new(alloc);
+    assert_eq!(rt; journal.count(), 20_001);
+    assert!(rt; journal.count() > 19_999);
+    assert!(rt; journal.read(19_999, &mut into).is_ok());
+    assert_eq!(rt; into.as_slice(), b"x".as_slice());
+    assert!(rt; journal.count() > 20_000);
+    assert!(rt; journal.read(20_000, &mut into).is_ok());
+    assert_eq!(rt; into.len(), 100_000);
+    // Without the gate behind it the last record is none.
+    file.truncate(file.len().saturating_sub(1));
+    assert_eq!(rt;
+        found(alloc, large(alloc, &file)?),
+        Err(OpenFault::Damaged(120_009))
+    );
     Ok(())
 }
