@@ -41,7 +41,7 @@ pub fn take_frames<O: Outside>(
     requires valid { IsValidIdentity party.now.identity }
     requires range { IsInRange state.old }
     ensures range { IsInRange state.new }
-    ensures notes { Goes (O.seen o.old) (O.seen o.new) (λ notes. Taken party.now.identity (live state.old reader.old) notes result (live state.new reader.new)) }
+    ensures notes { Goes (O.seen o.old) (O.seen o.new) (λ notes. Taken party.now.identity (live state.old reader.old.ahead) notes result (live state.new reader.new.ahead)) }
 {
     while let Some(frame) = reader.next() {
         handle(o, party, state, frame)?;

@@ -29,7 +29,7 @@ fn take_bytes<O: Outside>(
     requires valid { IsValidIdentity party.now.identity }
     requires range { IsInRange state.old }
     ensures range { IsInRange state.new }
-    ensures notes { Goes (O.seen o.old) (O.seen o.new) (λ notes. Fed party.now.identity bytes.now (live state.old reader.old) notes result (live state.new reader.new)) }
+    ensures notes { Goes (O.seen o.old) (O.seen o.new) (λ notes. Fed party.now.identity bytes.now (live state.old reader.old.ahead) notes result (live state.new reader.new.ahead)) }
 {
     match reader.feed(bytes) {
         Ok(()) => take_frames(o, party, state, reader),
@@ -49,7 +49,7 @@ fn hear<O: Outside>(
     requires range { IsInRange state.old }
     requires room { length room.old ≡ 65536 }
     ensures range { IsInRange state.new }
-    ensures notes { Goes (O.seen o.old) (O.seen o.new) (λ notes. Heard party.now.identity (live state.old reader.old) notes result (live state.new reader.new)) }
+    ensures notes { Goes (O.seen o.old) (O.seen o.new) (λ notes. Heard party.now.identity (live state.old reader.old.ahead) notes result (live state.new reader.new.ahead)) }
 {
     match o.read(room) {
         ReadTurn::Bytes(n) => take_bytes(o, party, state, reader, &room[..n]),
@@ -76,7 +76,7 @@ pub fn take_reading(state: &mut State, reading: u64)
 fn look<O: Outside>(o: &mut O, state: &mut State, reader: &Reader) -> Result<(), Ending>
     requires { IsInRange state.old }
     ensures range { IsInRange state.new }
-    ensures notes { Goes (O.seen o.old) (O.seen o.new) (λ notes. Clocked (live state.old reader.now) notes result (live state.new reader.now)) }
+    ensures notes { Goes (O.seen o.old) (O.seen o.new) (λ notes. Clocked (live state.old reader.now.ahead) notes result (live state.new reader.now.ahead)) }
 {
     match o.now() {
         Ok(reading) => {
@@ -99,7 +99,7 @@ fn meet<O: Outside>(
     requires range { IsInRange state.old }
     requires room { length room.old ≡ 65536 }
     ensures range { IsInRange state.new }
-    ensures notes { Goes (O.seen o.old) (O.seen o.new) (λ notes. AndThen (Heard party.now.identity) Clocked (live state.old reader.old) notes result (live state.new reader.new)) }
+    ensures notes { Goes (O.seen o.old) (O.seen o.new) (λ notes. AndThen (Heard party.now.identity) Clocked (live state.old reader.old.ahead) notes result (live state.new reader.new.ahead)) }
 {
     hear(o, party, state, reader, room)?;
     look(o, state, reader)
@@ -110,7 +110,7 @@ fn meet<O: Outside>(
 fn keep_expected<O: Outside>(o: &mut O, state: &mut State, reader: &Reader) -> Result<(), Ending>
     requires { IsInRange state.old }
     ensures range { IsInRange state.new }
-    ensures notes { Goes (O.seen o.old) (O.seen o.new) (λ notes. KeptExpected (live state.old reader.now) notes result (live state.new reader.now)) }
+    ensures notes { Goes (O.seen o.old) (O.seen o.new) (λ notes. KeptExpected (live state.old reader.now.ahead) notes result (live state.new reader.now.ahead)) }
 {
     if state.kept == state.expected {
         return Ok(());
@@ -153,7 +153,7 @@ fn turn<O: Outside>(
     requires range { IsInRange state.old }
     requires room { length room.old ≡ 65536 }
     ensures range { IsInRange state.new }
-    ensures notes { Goes (O.seen o.old) (O.seen o.new) (λ notes. Turn party.now.identity (live state.old reader.old) notes result (live state.new reader.new)) }
+    ensures notes { Goes (O.seen o.old) (O.seen o.new) (λ notes. Turn party.now.identity (live state.old reader.old.ahead) notes result (live state.new reader.new.ahead)) }
 {
     let met = meet(o, party, state, reader, room);
     if settles(&met) {
@@ -175,7 +175,7 @@ fn run<O: Outside>(
     requires range { IsInRange state.old }
     requires room { length room.old ≡ 65536 }
     ensures range { IsInRange state.new }
-    ensures notes { Goes (O.seen o.old) (O.seen o.new) (λ notes. Turns party.now.identity turns (live state.old reader.old) notes result (live state.new reader.new)) }
+    ensures notes { Goes (O.seen o.old) (O.seen o.new) (λ notes. Turns party.now.identity turns (live state.old reader.old.ahead) notes result (live state.new reader.new.ahead)) }
 {
     for done in 0..turns {
         turn(o, party, state, reader, room)?;
@@ -211,7 +211,7 @@ pub fn run_and_cut<O: Outside>(
     requires range { IsInRange state.old }
     requires room { length room.old ≡ 65536 }
     ensures range { IsInRange state.new }
-    ensures notes { Goes (O.seen o.old) (O.seen o.new) (λ notes. Ran party.now.identity turns (live state.old reader.old) notes result (live state.new reader.new)) }
+    ensures notes { Goes (O.seen o.old) (O.seen o.new) (λ notes. Ran party.now.identity turns (live state.old reader.old.ahead) notes result (live state.new reader.new.ahead)) }
 {
     let ran = run(o, party, state, reader, room, turns);
     match ran {
