@@ -59,19 +59,32 @@ def small_frames(size):
     return pieces
 
 
+def peak_memory(process):
+    """The most memory that the process has held so far, in kB."""
+    with open("/proc/%d/status" % process) as lines:
+        found = re.search(r"^VmHWM:\s+(\d+) kB", lines.read(), re.M)
+    return int(found.group(1)) if found else 0
+
+
 class Run:
     """What a child process used."""
 
     def __init__(self, words, wire, out, lines):
         start = time.monotonic()
         child = subprocess.Popen(words, stdin=wire, stdout=out, stderr=lines)
-        _, status, used = os.wait4(child.pid, 0)
+        self.memory = 0
+        # The peak that wait4 tells is at least this script's own, so the child's is looked at while it runs.
+        while True:
+            self.memory = peak_memory(child.pid) or self.memory
+            ended, status, used = os.wait4(child.pid, os.WNOHANG)
+            if ended:
+                break
+            time.sleep(0.002)
         child.returncode = os.waitstatus_to_exitcode(status)
         self.status = child.returncode
         self.wall = time.monotonic() - start
         self.user, self.system = used.ru_utime, used.ru_stime
         self.cpu = used.ru_utime + used.ru_stime
-        self.memory = used.ru_maxrss
 
 
 def serve(work, path):
