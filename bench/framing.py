@@ -97,11 +97,12 @@ def serve(work, path):
     return run
 
 
-def orders(work, count, runs):
-    """The best run over so many orders."""
+def orders(work, count, runs, peer=None):
+    """The best run over so many orders, and the most memory of all the runs. The other reader, where
+    one is given, reads the same stream in turn with the program."""
     path = written(os.path.join(work, "orders%d" % count), session(count))
     made = time.monotonic()
-    best = None
+    best, memory, other = None, 0, None
     for _ in range(runs):
         if time.monotonic() - made > 60:
             written(path, session(count))
@@ -109,13 +110,23 @@ def orders(work, count, runs):
         run = serve(work, path)
         if run.status != 0 or run.taken != count:
             raise SystemExit("status %d, %d of %d orders taken" % (run.status, run.taken, count))
+        memory = max(memory, run.memory)
         if best is None or run.cpu < best.cpu:
             best = run
+        if peer:
+            other = least(other, peer_reading(peer, path))
     size = os.path.getsize(path)
     print("%7d orders, %d bytes: CPU %.3f s (user %.3f, system %.3f), wall %.3f s: %.3f us an order, %s orders/s, %.1f MB/s; peak memory %d kB"
           % (count, size, best.cpu, best.user, best.system, best.wall, best.cpu / count * 1e6,
-             format(int(count / best.cpu), ","), size / best.cpu / 1e6, best.memory))
-    return path, best.cpu / count, best.memory
+             format(int(count / best.cpu), ","), size / best.cpu / 1e6, memory))
+    if peer:
+        print("the other reader, frames and fields: %.3f us an order" % (other * 1e6))
+        bar("the whole program as fast as it, so many times", other / (best.cpu / count), 1, True)
+    return path, best.cpu / count, memory
+
+
+def least(one, other):
+    return other if one is None else min(one, other)
 
 
 def reading(program, mode, path, piece, times, runs):
@@ -124,22 +135,15 @@ def reading(program, mode, path, piece, times, runs):
     for _ in range(runs):
         text = subprocess.run([program, mode, path, str(piece), str(times)], check=True, capture_output=True, text=True)
         found = re.search(r"frames=(\d+) .*cpu_us=(\d+)", text.stdout + text.stderr)
-        cpu, frames = int(found.group(2)) / 1e6 / times, int(found.group(1)) // times
-        if best is None or cpu < best:
-            best = cpu
+        best, frames = least(best, int(found.group(2)) / 1e6 / times), int(found.group(1)) // times
     return best, frames
 
 
-def peer_reading(program, path, runs):
-    """The least CPU time of a frame, in seconds, by the other reader's `both`."""
-    best = None
-    for _ in range(runs):
-        text = subprocess.run([program, path, "1", str(PIECE)], check=True, capture_output=True, text=True).stdout
-        found = re.search(r"^both +frames=(\d+) cpu=([0-9.]+)s", text, re.M)
-        cpu = float(found.group(2)) / int(found.group(1))
-        if best is None or cpu < best:
-            best = cpu
-    return best
+def peer_reading(program, path):
+    """The CPU time of a frame, in seconds, by the other reader's `both`."""
+    text = subprocess.run([program, path, "1", str(PIECE)], check=True, capture_output=True, text=True).stdout
+    found = re.search(r"^both +frames=(\d+) cpu=([0-9.]+)s", text, re.M)
+    return float(found.group(2)) / int(found.group(1))
 
 
 def bar(what, ratio, bound, least=False):
@@ -149,14 +153,19 @@ def bar(what, ratio, bound, least=False):
 
 def alone(work, program, path, peer, runs):
     """The Reader alone: over the orders, and over what is hard for it."""
-    for mode in ("frames", "walk", "fields"):
-        cpu, frames = reading(program, mode, path, PIECE, 2, runs)
-        print("Reader, %s: %.3f us a frame" % (mode, cpu / frames * 1e6))
-        if peer is not None:
-            if mode == "fields":
-                bar("as fast as the other reader, so many times", peer / (cpu / frames), 4, True)
-            else:
-                print("  as fast as the other reader, so many times: %.2f" % (peer / (cpu / frames)))
+    modes, other = {}, None
+    for _ in range(runs):
+        for mode in ("frames", "walk", "fields"):
+            cpu, frames = reading(program, mode, path, PIECE, 2, 1)
+            modes[mode] = least(modes.get(mode), cpu / frames)
+        if peer:
+            other = least(other, peer_reading(peer, path))
+    for mode, cpu in modes.items():
+        print("Reader, %s: %.3f us a frame" % (mode, cpu * 1e6))
+        if peer and mode == "frames":
+            print("  as fast as the other reader, so many times: %.2f" % (other / cpu))
+        elif peer:
+            bar("as fast as the other reader, so many times", other / cpu, 4, True)
     long = written(os.path.join(work, "long"), [sealed(b"35=D\x0158=" + b"x" * (GREATEST - 9) + b"\x01")])
     whole, _ = reading(program, "frames", long, 2 * GREATEST, 50, runs)
     bytewise, _ = reading(program, "frames", long, 1, 5, runs)
@@ -183,17 +192,12 @@ def main():
     words.add_argument("--runs", type=int, default=5)
     given = words.parse_args()
     with tempfile.TemporaryDirectory(dir=given.work) as work:
-        path, few, few_memory = orders(work, 100_000, given.runs)
-        peer = None
-        if given.peer:
-            peer = peer_reading(given.peer, path, given.runs)
-            print("the other reader, frames and fields: %.3f us an order" % (peer * 1e6))
-            bar("the whole program as fast as it, so many times", peer / few, 1, True)
+        path, few, few_memory = orders(work, 100_000, given.runs, given.peer)
         _, many, many_memory = orders(work, 400_000, given.runs)
         bar("time of an order, of 400,000 against 100,000", many / few, 1.3)
         bar("peak memory, the greater against the less", max(many_memory, few_memory) / min(many_memory, few_memory), 1.1)
         if given.reader:
-            alone(work, given.reader, path, peer, given.runs)
+            alone(work, given.reader, path, given.peer, given.runs)
 
 
 if __name__ == "__main__":
