@@ -45,7 +45,7 @@ pub fn take_frames<O: Outside>(
     requires opens { (O.seen o.old).open_at ≡ Some state.old.last }
     ensures range { IsInRange state.new }
     ensures opens { (O.seen o.new).open_at ≡ open_behind result state.new }
-    ensures notes { Goes (O.seen o.old) (O.seen o.new) (λ notes. Taken party.now.identity (live state.old reader.old) notes result (live state.new reader.new)) }
+    ensures notes { Goes (O.seen o.old) (O.seen o.new) (λ notes. Taken party.now.identity (live state.old reader.old.ahead) notes result (live state.new reader.new.ahead)) }
 {
     while let Some(frame) = reader.next() {
         handle(o, party, state, frame)?;

@@ -40,7 +40,7 @@ impl Model for Session {
 
     ghost Value = { Seat };
 
-    ghost view = { λ s. record { identity = s.party.identity; live = live s.state s.reader; stopped = s.stopped } };
+    ghost view = { λ s. record { identity = s.party.identity; live = live s.state s.reader.ahead; stopped = s.stopped } };
 
     ghost invariant = { λ s. IsValidIdentity s.party.identity × IsInRange s.state × (length s.room.items ≡ 65536) };
 }

@@ -31,7 +31,7 @@ fn take_bytes<O: Outside>(
     requires opens { (O.seen o.old).open_at ≡ Some state.old.last }
     ensures range { IsInRange state.new }
     ensures opens { (O.seen o.new).open_at ≡ open_behind result state.new }
-    ensures notes { Goes (O.seen o.old) (O.seen o.new) (λ notes. Fed party.now.identity bytes.now (live state.old reader.old) notes result (live state.new reader.new)) }
+    ensures notes { Goes (O.seen o.old) (O.seen o.new) (λ notes. Fed party.now.identity bytes.now (live state.old reader.old.ahead) notes result (live state.new reader.new.ahead)) }
 {
     match reader.feed(bytes) {
         Ok(()) => take_frames(o, party, state, reader),
@@ -53,7 +53,7 @@ fn hear<O: Outside>(
     requires opens { (O.seen o.old).open_at ≡ Some state.old.last }
     ensures range { IsInRange state.new }
     ensures opens { (O.seen o.new).open_at ≡ open_behind result state.new }
-    ensures notes { Goes (O.seen o.old) (O.seen o.new) (λ notes. Heard party.now.identity (live state.old reader.old) notes result (live state.new reader.new)) }
+    ensures notes { Goes (O.seen o.old) (O.seen o.new) (λ notes. Heard party.now.identity (live state.old reader.old.ahead) notes result (live state.new reader.new.ahead)) }
 {
     match o.read(room) {
         ReadTurn::Bytes(n) => take_bytes(o, party, state, reader, &room[..n]),
@@ -82,7 +82,7 @@ fn look<O: Outside>(o: &mut O, state: &mut State, reader: &Reader) -> Result<(),
     requires opens { (O.seen o.old).open_at ≡ Some state.old.last }
     ensures range { IsInRange state.new }
     ensures opens { (O.seen o.new).open_at ≡ open_behind result state.new }
-    ensures notes { Goes (O.seen o.old) (O.seen o.new) (λ notes. Clocked (live state.old reader.now) notes result (live state.new reader.now)) }
+    ensures notes { Goes (O.seen o.old) (O.seen o.new) (λ notes. Clocked (live state.old reader.now.ahead) notes result (live state.new reader.now.ahead)) }
 {
     match o.now() {
         Ok(reading) => {
@@ -107,7 +107,7 @@ fn meet<O: Outside>(
     requires opens { (O.seen o.old).open_at ≡ Some state.old.last }
     ensures range { IsInRange state.new }
     ensures opens { (O.seen o.new).open_at ≡ open_behind result state.new }
-    ensures notes { Goes (O.seen o.old) (O.seen o.new) (λ notes. AndThen (Heard party.now.identity) Clocked (live state.old reader.old) notes result (live state.new reader.new)) }
+    ensures notes { Goes (O.seen o.old) (O.seen o.new) (λ notes. AndThen (Heard party.now.identity) Clocked (live state.old reader.old.ahead) notes result (live state.new reader.new.ahead)) }
 {
     hear(o, party, state, reader, room)?;
     look(o, state, reader)
@@ -120,7 +120,7 @@ fn keep_expected<O: Outside>(o: &mut O, state: &mut State, reader: &Reader) -> R
     requires opens { (O.seen o.old).open_at ≡ Some state.old.last }
     ensures range { IsInRange state.new }
     ensures opens { (O.seen o.new).open_at ≡ open_behind result state.new }
-    ensures notes { Goes (O.seen o.old) (O.seen o.new) (λ notes. KeptExpected (live state.old reader.now) notes result (live state.new reader.now)) }
+    ensures notes { Goes (O.seen o.old) (O.seen o.new) (λ notes. KeptExpected (live state.old reader.now.ahead) notes result (live state.new reader.now.ahead)) }
 {
     if state.kept == state.expected {
         return Ok(());
@@ -165,7 +165,7 @@ fn turn<O: Outside>(
     requires opens { (O.seen o.old).open_at ≡ Some state.old.last }
     ensures range { IsInRange state.new }
     ensures opens { (O.seen o.new).open_at ≡ open_behind result state.new }
-    ensures notes { Goes (O.seen o.old) (O.seen o.new) (λ notes. Turn party.now.identity (live state.old reader.old) notes result (live state.new reader.new)) }
+    ensures notes { Goes (O.seen o.old) (O.seen o.new) (λ notes. Turn party.now.identity (live state.old reader.old.ahead) notes result (live state.new reader.new.ahead)) }
 {
     let met = meet(o, party, state, reader, room);
     if settles(&met) {
@@ -189,7 +189,7 @@ fn run<O: Outside>(
     requires opens { (O.seen o.old).open_at ≡ Some state.old.last }
     ensures range { IsInRange state.new }
     ensures opens { (O.seen o.new).open_at ≡ open_behind result state.new }
-    ensures notes { Goes (O.seen o.old) (O.seen o.new) (λ notes. Turns party.now.identity turns (live state.old reader.old) notes result (live state.new reader.new)) }
+    ensures notes { Goes (O.seen o.old) (O.seen o.new) (λ notes. Turns party.now.identity turns (live state.old reader.old.ahead) notes result (live state.new reader.new.ahead)) }
 {
     for done in 0..turns {
         turn(o, party, state, reader, room)?;
@@ -227,7 +227,7 @@ pub fn run_and_cut<O: Outside>(
     requires opens { (O.seen o.old).open_at ≡ Some state.old.last }
     ensures range { IsInRange state.new }
     ensures opens { (O.seen o.new).open_at ≡ open_behind result state.new }
-    ensures notes { Goes (O.seen o.old) (O.seen o.new) (λ notes. Ran party.now.identity turns (live state.old reader.old) notes result (live state.new reader.new)) }
+    ensures notes { Goes (O.seen o.old) (O.seen o.new) (λ notes. Ran party.now.identity turns (live state.old reader.old.ahead) notes result (live state.new reader.new.ahead)) }
 {
     let ran = run(o, party, state, reader, room, turns);
     match ran {

@@ -62,7 +62,8 @@ pub fn body_of(alloc: Global, frame: &[u8]) -> Result<Bytes, OutOfMemory>
 {
     let mut rest = body_fields(frame);
     let mut due = None;
-    let mut body = Vec::new(alloc);
+    // Room for all of it at once, so that it isn't moved as it grows.
+    let mut body = Vec::with_capacity(alloc, rest.len())?;
     while !rest.is_empty() {
         let Some((field, behind)) = field_at(rest, due) else {
             return Ok(Bytes::from_vec(body));

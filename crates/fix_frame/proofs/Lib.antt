@@ -1,5 +1,6 @@
 pub mod Items
 pub mod Steps
+pub mod Waiting
 pub mod Drains
 pub mod Sealables
 pub mod Samples

@@ -1,7 +1,21 @@
--- What a reader gives.
-use Rattle.std.specs.Prelude.{◌≡◌, ℕ, List, [], Option, None, Some}
+-- What is seen of a reader, and what it gives.
+use Rattle.std.specs.Prelude.{◌≡◌, ◌+◌, ◌<◌, ℕ, List, [], ◌++◌, length, Option, None, Some}
 use Rattle.fix_base.specs.Stream.{Ahead, Item, Frame, Takes, TakesAll, frames}
 use Rattle.fix_frame.specs.Answer.{Waits}
+
+-- the bytes from its place on, and how many bytes it keeps in all: these, and those before them
+-- that were read and not let go of
+pub record ReaderSeen : Type 0 where
+  pub ahead : Ahead
+  pub kept : ℕ
+
+-- beside the bytes from its place on it keeps fewer than 65,536
+abbrev pub KeepsFew : ReaderSeen → Type 0
+KeepsFew r = r.kept < length r.ahead.bytes + 65536
+
+-- with fewer than so many bytes from the place on no item stands there, whichever bytes come
+pub record WaitsBelow (a : Ahead) (n : ℕ) : Type 0 where
+  pub waits : (more : List ℕ) → length (a.bytes ++ more) < n → Waits (record { may_mark = a.may_mark; bytes = a.bytes ++ more })
 
 -- items without a frame, from one place to another
 pub record Skips (a b : Ahead) : Type 0 where
@@ -20,6 +34,16 @@ pub record GivesNone (a b : Ahead) : Type 0 where
   pub skips : Skips a b
   pub end : Waits b
 
-abbrev pub GivesNext : Ahead → Ahead → Option (List ℕ) → Type 0
-GivesNext a b (Some frame) = GivesFrame a b frame
-GivesNext a b None = GivesNone a b
+-- a frame was given; nothing was let go of, since the frame is lent from what is kept
+pub record NextFrame (a b : ReaderSeen) (frame : List ℕ) : Type 0 where
+  pub gives : GivesFrame a.ahead b.ahead frame
+  pub kept : b.kept ≡ a.kept
+
+-- none was, and little is kept beside the bytes that wait
+pub record NextNone (a b : ReaderSeen) : Type 0 where
+  pub gives : GivesNone a.ahead b.ahead
+  pub few : KeepsFew b
+
+abbrev pub GivesNext : ReaderSeen → ReaderSeen → Option (List ℕ) → Type 0
+GivesNext a b (Some frame) = NextFrame a b frame
+GivesNext a b None = NextNone a b

@@ -1,7 +1,7 @@
-ghost use Rattle.std.specs.Prelude.{◌≤◌};
-ghost use Rattle.fix_base.specs.Front.{Scans, ScansOf};
+ghost use Rattle.std.specs.Prelude.{◌≤◌, ◌<◌, ◌++◌, ℕ, List, length};
+ghost use Rattle.fix_base.specs.Front.{Scans, ScansOf, IsPartOf};
 ghost use Rattle.fix_base.specs.Frame.{IsBody, IsHead, IsTrailer};
-ghost use Rattle.fix_base.specs.Shape.{HasShape};
+ghost use Rattle.fix_base.specs.Shape.{HasShape, IsShape};
 ghost use Rattle.fix_frame.specs.Span.{parts_of};
 
 use crate::places::{SOH, after_any, after_length, after_sum, after_version};
@@ -62,4 +62,18 @@ pub fn span_of(bytes: &[u8]) -> Result<Span<'_>, Stop>
         sum,
         rest,
     })
+}
+
+/// How many bytes there have to be before they can be more than the front of a shape: those before
+/// the SOH of its body. 0 where the head does not tell it yet.
+pub fn least_of(bytes: &[u8]) -> usize
+    ensures { (more : List ℕ) → length (bytes.now ++ more) < result → IsPartOf IsShape (bytes.now ++ more) }
+{
+    let Ok((length, behind)) = after_head(bytes) else {
+        return 0;
+    };
+    let Ok(rest) = after_text(behind, b"35=") else {
+        return 0;
+    };
+    bytes.len() - rest.len() + (length - 4)
 }

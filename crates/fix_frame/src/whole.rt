@@ -10,7 +10,7 @@ use std::alloc::{AllocError, Global};
 
 /// Adds a copy of each frame that is whole now.
 fn drain(alloc: Global, reader: &mut Reader, out: &mut Vec<Bytes>) -> Result<(), OutOfMemory>
-    ensures { OnOk result (GivesAll reader.old reader.new out.old.items out.new.items) }
+    ensures { OnOk result (GivesAll reader.old.ahead reader.new.ahead out.old.items out.new.items) }
 {
     while let Some(frame) = reader.next() {
         let copy = Bytes::copy(alloc, frame)?;

@@ -8,8 +8,8 @@ abbrev pub invariant-loop-frame : goal.invariant-loop-frame
 invariant-loop-frame g l = record {
   range : IsInRange l.state;
   opens : (g.O.Outside.seen l.o).open_at ≡ Some l.state.last;
-  done : Left l.party.identity (live l.initial.state l.initial.reader) (g.O.Outside.seen l.initial.o) (g.O.Outside.seen l.o) (live l.state l.reader);
+  done : Left l.party.identity (live l.initial.state l.initial.reader.ahead) (g.O.Outside.seen l.initial.o) (g.O.Outside.seen l.o) (live l.state l.reader.ahead);
 }
 
 abbrev pub decreases-loop-frame : goal.decreases-loop-frame
-decreases-loop-frame g l = length l.reader.bytes
+decreases-loop-frame g l = length l.reader.ahead.bytes

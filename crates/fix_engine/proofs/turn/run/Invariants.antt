@@ -9,5 +9,5 @@ invariant-loop-done g l = record {
   range : IsInRange l.state;
   opens : (g.O.Outside.seen l.o).open_at ≡ Some l.state.last;
   room : length l.room ≡ 65536;
-  done : SoFar (OneTurn l.party.identity) (g.O.Outside.seen l.initial.o) (g.O.Outside.seen l.o) (live l.initial.state l.initial.reader) (replicate l.turns tt) (live l.state l.reader) (replicate (l.turns - l.done) tt);
+  done : SoFar (OneTurn l.party.identity) (g.O.Outside.seen l.initial.o) (g.O.Outside.seen l.o) (live l.initial.state l.initial.reader.ahead) (replicate l.turns tt) (live l.state l.reader.ahead) (replicate (l.turns - l.done) tt);
 }

@@ -7,7 +7,7 @@ use Rattle.fix_fields.proofs.EnvelopeLemmas.{body_more, field_bytes}
 use Rattle.fix_fields.proofs.reading.body_of.Goals as goal
 
 pub loop-rest-init : goal.loop-rest-init
-loop-rest-init c = of_start c.args.frame.now c.body_fields-rest.result.now _ c.body_fields-rest.ensures (λ all. ap (λ (t : List ℕ). t ++ body_of all) (sym c.new-body.ensures.items))
+loop-rest-init c = of_start c.args.frame.now c.body_fields-rest.result.now _ c.body_fields-rest.ensures (λ all. ap (λ (t : List ℕ). t ++ body_of all) (sym c.in_ok-body.ensures.items))
 
 pub returns-in_default : goal.returns-in_default
 returns-in_default c =
