@@ -1,0 +1,3 @@
+pub mod ZoneLemmas
+pub mod WindowLemmas
+pub mod ReadLemmas
