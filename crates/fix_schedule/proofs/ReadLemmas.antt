@@ -1,5 +1,5 @@
 -- What lawful settings say of a session's hours.
-use Rattle.std.proofs.Common.{◌≡◌, ℕ, ◌<◌, ◌≤◌, true, [], ◌∷◌, List, Option, Some, None, option_map, refl, ap, arith}
+use Rattle.std.proofs.Common.{subst, sym, length, get_or, ◌≡◌, ℕ, ◌<◌, ◌≤◌, true, [], ◌∷◌, List, Option, Some, None, option_map, refl, ap, arith}
 use Rattle.std.specs.Prelude.{is_some}
 use Rattle.std.specs.List.{AllByRecursion}
 use Rattle.fix_base.specs.Lists.{here}
@@ -77,3 +77,8 @@ no_end_day s lawful none = at s.end_day refl
     at : (o : Option ℕ) → s.end_day ≡ o → o ≡ None
     at None e = refl
     at (Some n) e = absurd (start_day_beside s n lawful e none)
+
+-- what each session has, the first has
+pub first_is : (sessions : List SessionSettings) (s : SessionSettings) → AllByRecursion IsLawful sessions → 0 < length sessions → s ≡ get_or sessions 0 s → IsLawful s
+first_is [] s all some is = absurd (omega arith)
+first_is (x ∷ xs) s all some is = subst IsLawful (sym is) all.0

@@ -1,7 +1,7 @@
 -- The window of a time.
-use Rattle.std.specs.Prelude.{◌≡◌, ℕ, ℤ, pos, negsuc, ◌+ℤ◌, ◌<ℤ◌, ◌≤ℤ◌, Option, Some, None}
+use Rattle.std.specs.Prelude.{◌≡◌, ℕ, ℤ, pos, negsuc, ◌<ℤ◌, ◌≤ℤ◌, Option, Some, None}
 use Rattle.fix_schedule.specs.declared.hours.Hours.{Hours}
-use Rattle.fix_schedule.specs.Days.{Counts, days_to_end}
+use Rattle.fix_schedule.specs.Days.{Counts, IsLastDay}
 use Rattle.fix_schedule.specs.Zone.{IsInstant}
 
 -- a time before 1970 is given as 0
@@ -12,11 +12,13 @@ given (negsuc n) = 0
 -- the window that starts on a civil day, where the time lies in it: the day counts, the start isn't
 -- after the time and the end isn't before it
 pub record IsWindowOn (hours : Hours) (time : ℕ) (day : ℤ) (window : ℕ × ℕ) : Type 0 where
+  pub last : ℤ
   pub start : ℤ
   pub end : ℤ
   pub counts : Counts hours day
+  pub ends_on : IsLastDay hours day last
   pub starts : IsInstant hours.rule day hours.start_time start
-  pub ends : IsInstant hours.rule (day +ℤ pos (days_to_end hours)) hours.end_time end
+  pub ends : IsInstant hours.rule last hours.end_time end
   pub from : start ≤ℤ pos time
   pub to : pos time ≤ℤ end
   pub pair : window ≡ (given start, given end)

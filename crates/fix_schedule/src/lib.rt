@@ -6,6 +6,8 @@ mod hours;
 mod instant;
 mod schedule;
 mod search;
+#[cfg(test)]
+mod tests;
 
 pub use fault::ScheduleFault;
 pub use schedule::Schedule;

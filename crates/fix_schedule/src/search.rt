@@ -1,8 +1,8 @@
 //! The search for the window of a time: a few days near it are enough.
-ghost use Rattle.std.specs.Prelude.{◌≡◌, ℕ, ℤ, pos, neg_ℤ, ◌≤◌, ◌↔◌, IsTrue, IsNone, IfSome, MatchOption};
+ghost use Rattle.std.specs.Prelude.{◌≡◌, ℕ, ℤ, pos, neg_ℤ, ◌<◌, ◌≤◌, ◌↔◌, IsTrue, IsNone, IfSome, MatchOption};
 ghost use Rattle.jiff_core.specs.Calendar.{IsBetween};
 ghost use Rattle.fix_base.specs.Payload.{LAST_TIME};
-ghost use Rattle.fix_schedule.specs.Days.{Counts, days_to_end, days_round as round_by};
+ghost use Rattle.fix_schedule.specs.Days.{Counts, EndsAfter};
 ghost use Rattle.fix_schedule.specs.Window.{given, IsWindowOn, IsLatestWindow};
 
 use crate::hours::Hours;
@@ -74,13 +74,13 @@ fn counts(hours: &Hours, day: i64) -> bool
 
 // How many days behind the day on which it starts a window ends.
 fn days_behind(hours: &Hours) -> u32
-    ensures value { result ≡ days_to_end hours.now }
+    ensures ends { EndsAfter hours.now result }
     ensures bound { result ≤ 7 }
 {
     match hours.week {
-        Some(week) if week.start_day != week.end_day => u32::from(
-            (week.end_day + 7 - week.start_day) % 7,
-        ),
+        Some(week) if week.start_day != week.end_day => {
+            u32::from((week.end_day + 7 - week.start_day) % 7)
+        }
         Some(_) => days_round(hours, 7),
         None => days_round(hours, 1),
     }
@@ -88,7 +88,8 @@ fn days_behind(hours: &Hours) -> u32
 
 // None where EndTime is after StartTime, else this many days.
 fn days_round(hours: &Hours, days: u32) -> u32
-    ensures { result ≡ round_by hours.now.start_time hours.now.end_time days }
+    ensures none { hours.now.start_time < hours.now.end_time → result ≡ 0 }
+    ensures all { hours.now.end_time ≤ hours.now.start_time → result ≡ days }
 {
     if hours.start_time < hours.end_time {
         0

@@ -22,4 +22,4 @@ loop-back-preserved c =
 pub returns-clause-none : goal.returns-clause-none
 returns-clause-none c _ =
     let none = rw (first_day c.args.time c.requires) at c.loop-back.invariant in
-    none_at_all c.args.hours.now c.args.time c.loop-back.back (rw c.days_behind-days.ensures.value at c.loop-back-test.false) none
+    none_at_all c.args.hours.now c.args.time c.loop-back.back c.days_behind-days.result c.days_behind-days.ensures.ends c.loop-back-test.false none
