@@ -5,7 +5,7 @@ ghost use Rattle.fix_schedule.specs.Zone.{offsets_in, IsInstant};
 
 use jiff_core::Offset;
 use jiff_core::civil::{Date, DateTime, Time};
-use jiff_tz::{AmbiguousOffset, AmbiguousTimestamp, posix};
+use jiff_tz::{AmbiguousOffset, AmbiguousTimestamp, Disambiguation, posix};
 
 /// The instant, in microseconds since 1970-01-01 00:00:00 UTC, at which a zone's clock shows this
 /// many seconds behind the midnight that begins a civil day. A time that the clock jumps over is
@@ -21,7 +21,9 @@ pub fn instant_of(rule: &Option<posix::TimeZone>, day: i64, second: u32) -> i64
         time: Time::from_second(second, 0),
     };
     let offset = offsets_of(rule, dt);
-    let instant = AmbiguousTimestamp { dt, offset }.compatible().unwrap();
+    let choice = AmbiguousTimestamp { dt, offset };
+    // the offset before a change: it moves a skipped time forward, and is the earlier of two instants
+    let instant = choice.disambiguate(Disambiguation::Compatible).unwrap();
     instant.floor_second() * 1_000_000
 }
 
