@@ -1,0 +1,4 @@
+pub mod ZoneLemmas
+pub mod DayLemmas
+pub mod WindowLemmas
+pub mod ReadLemmas

@@ -1,0 +1,4 @@
+pub mod Zone
+pub mod Days
+pub mod Window
+pub mod Read
