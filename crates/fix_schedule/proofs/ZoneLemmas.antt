@@ -8,11 +8,14 @@ use Rattle.jiff_core.specs.Time.{time_nanos}
 use Rattle.jiff_core.specs.Calendar.{IsBetween}
 use Rattle.jiff_core.specs.Timestamp.{nanos_of_seconds, IsTimestampNanos}
 use Rattle.jiff_core.specs.declared.Offset.{Offset}
+use Rattle.jiff_core.specs.declared.Timestamp.{Timestamp}
+use Rattle.jiff_core.specs.declared.error.Error.{Error}
+use Rattle.std.specs.Prelude.{Result, IsOk}
 use Rattle.jiff_core.specs.declared.civil.datetime.DateTime.{DateTime}
 use Rattle.jiff_core.proofs.DateLemmas.{epoch_day_injective}
 use Rattle.jiff_core.proofs.DateTimeLemmas.{civil_nanos-parts, time_nanos_bound}
 use Rattle.jiff_core.proofs.SignedLemmas.{signed_arith, fits_between}
-use Rattle.jiff_tz.specs.Ambiguous.{compatible_offset, instant_of}
+use Rattle.jiff_tz.specs.Ambiguous.{compatible_offset, instant_of, IsInstantAt}
 use Rattle.jiff_tz.specs.PosixRule.{rule_nanos, in_window, in_span, saturating_add, saturating_sub, shift_between, ambiguous_behind, ambiguous_ahead, ambiguous_by, ambiguous_at_by}
 use Rattle.jiff_tz.specs.declared.ambiguous.AmbiguousOffset.{AmbiguousOffset}
 use Rattle.jiff_tz.specs.declared.ambiguous.AmbiguousOffset.TheVariants.{Unambiguous, Gap, Fold}
@@ -108,9 +111,13 @@ one_instant rule day second a b x y =
 pub whole_seconds : (civil : DateTime) (offset : Offset) (second : ℕ) (n s : ℤ) → time_nanos civil.time ≡ second * 1_000_000_000 → n ≡ instant_of civil offset → s ≡ int_div_euclid n (pos 1_000_000_000) → (s *ℤ pos 1_000_000) *ℤ pos 1000 ≡ instant_of civil offset
 whole_seconds civil offset second n s time is floor = omega (arith, signed_arith, time, is, floor, civil_nanos-parts civil)
 
--- an instant of the days that are looked at is one of jiff's
-pub instant_in : (civil : DateTime) (offset : Offset) (day : ℤ) → epoch_day civil.date ≡ day → IsBetween (neg_ℤ (pos 100)) (pos 50000) day → IsTimestampNanos (instant_of civil offset)
-instant_in civil offset day on near = omega (arith, signed_arith, on, near, offset.in_range, civil_nanos-parts civil, time_nanos_bound civil.time)
+instant_in : (civil : DateTime) (offset : Offset) (day : ℤ) → epoch_day civil.date ≡ day → IsBetween (neg_ℤ (pos 100)) (pos 50000) day → IsTimestampNanos (instant_of civil offset)
+instant_in civil offset day on near =
+    omega (arith, signed_arith, on, near, offset.in_range, civil_nanos-parts civil, time_nanos_bound civil.time)
+
+-- the days that are looked at have instants at every offset
+pub has_instant : (civil : DateTime) {offset : Offset} (day : ℤ) (r : Result Timestamp Error) → IsInstantAt civil offset r → epoch_day civil.date ≡ day → IsBetween (neg_ℤ (pos 100)) (pos 50000) day → IsOk r
+has_instant civil {offset} day r at on near = at.succeeds.1 (instant_in civil offset day on near)
 
 -- what is left of the casts of a small number
 pub small : (z : ℤ) → IsBetween (neg_ℤ (pos 9_000_000_000_000_000)) (pos 9_000_000_000_000_000) z → to_z w64 (of_z w64 z) ≡ z

@@ -34,6 +34,11 @@ abbrev pub IsWindow : Option Hours → ℕ → ℕ × ℕ → Type 0
 IsWindow None time window = window ≡ (0, 18446744073709551615)
 IsWindow (Some hours) time window = IsLatestWindow hours time window
 
+-- the time lies in the window of no civil day
+abbrev pub HasNoWindow : Option Hours → ℕ → Type 0
+HasNoWindow None time = ⊥
+HasNoWindow (Some hours) time = (day : ℤ) (window : ℕ × ℕ) → IsWindowOn hours time day window → ⊥
+
 -- both times have a window, and these start at the same time
 pub record AreInOne (schedule : Option Hours) (a b : ℕ) : Type 0 where
   pub first : ℕ × ℕ

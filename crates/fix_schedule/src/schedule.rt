@@ -1,8 +1,8 @@
-ghost use Rattle.std.specs.Prelude.{◌≡◌, ℕ, ◌≤◌, ◌↔◌, IsTrue, IsOk, IfOk, IfErr, IfSome, Some, option_map};
+ghost use Rattle.std.specs.Prelude.{◌≡◌, ℕ, ◌≤◌, ◌↔◌, IsTrue, IsOk, IfOk, IfErr, IfSome, IsNone, Some, option_map};
 ghost use Rattle.fix_base.specs.Payload.{LAST_TIME};
 ghost use Rattle.fix_settings.specs.Lawful.{IsLawful};
 ghost use Rattle.fix_schedule.specs.Read.{IsScheduleOf, IsNoRule, IsRuleOf};
-ghost use Rattle.fix_schedule.specs.Window.{IsWindow, AreInOne};
+ghost use Rattle.fix_schedule.specs.Window.{IsWindow, HasNoWindow, AreInOne};
 
 use crate::fault::ScheduleFault;
 use crate::hours::{Hours, Week};
@@ -62,6 +62,7 @@ impl Schedule {
         requires { micros ≤ LAST_TIME }
         ensures known { IfSome result (λ window. IsWindow self.now micros window) }
         ensures each { (window : ℕ × ℕ) → IsWindow self.now micros window → result ≡ Some window }
+        ensures none { IsNone result → HasNoWindow self.now micros }
     {
         match &self.hours {
             Some(hours) => window_of(hours, micros),

@@ -1,14 +1,13 @@
 use Rattle.std.proofs.Common.{◌≡◌, ◌*◌, arith, to_z-of_z}
 use Rattle.jiff_core.specs.Date.{epoch_day}
 use Rattle.jiff_core.specs.Time.{time_nanos}
-use Rattle.jiff_tz.specs.Ambiguous.{compatible_offset}
-use Rattle.fix_schedule.proofs.ZoneLemmas.{instant_in, is_instant}
+use Rattle.fix_schedule.proofs.ZoneLemmas.{has_instant, is_instant}
 use Rattle.fix_schedule.proofs.instant.instant_of.Goals as goal
 
 pub unwrap-instant-requires : goal.unwrap-instant-requires
 unwrap-instant-requires c =
     let on : epoch_day c.unwrap-date.result ≡ c.args.day = rw (c.unwrap-date.ensures, to_z-of_z c.ranges.day) at c.from_unix_epoch_day.ensures.value in
-    c.disambiguate.ensures.succeeds.1 (instant_in (record { date = c.unwrap-date.result; time = c.from_second.result }) (compatible_offset c.offsets_of-offset.result) c.args.day on c.requires.day_in)
+    has_instant (record { date = c.unwrap-date.result; time = c.from_second.result }) c.args.day c.disambiguate.result c.disambiguate.ensures on c.requires.day_in
 
 pub returns : goal.returns
 returns c =

@@ -1,4 +1,4 @@
-use Rattle.std.proofs.Common.{sym, subst, arith}
+use Rattle.std.proofs.Common.{sym, subst}
 use Rattle.std.specs.List.{AllByRecursion}
 use Rattle.fix_settings.specs.Lawful.{IsLawful}
 use Rattle.fix_schedule.proofs.ReadLemmas.{first_is}
