@@ -1,6 +1,6 @@
-ghost use Rattle.std.specs.Prelude.{◌≤◌, ◌<◌, ◌++◌, ℕ, List, length};
-ghost use Rattle.fix_base.specs.Front.{Scans, ScansOf, IsPartOf};
-ghost use Rattle.fix_base.specs.Frame.{IsBody, IsHead, IsTrailer};
+ghost use Rattle.std.specs.Prelude.{◌≡◌, ◌≤◌, ◌<◌, ◌+◌, ◌-◌, ◌++◌, ℕ, List, length, codes};
+ghost use Rattle.fix_base.specs.Front.{Begins, Scans, ScansOf, IsPartOf};
+ghost use Rattle.fix_base.specs.Frame.{IsBody, IsHead, IsText, IsTrailer};
 ghost use Rattle.fix_base.specs.Shape.{HasShape, IsShape};
 ghost use Rattle.fix_frame.specs.Span.{parts_of};
 
@@ -67,7 +67,8 @@ pub fn span_of(bytes: &[u8]) -> Result<Span<'_>, Stop>
 /// How many bytes there have to be before they can be more than the front of a shape: those before
 /// the SOH of its body. 0 where the head does not tell it yet.
 pub fn least_of(bytes: &[u8]) -> usize
-    ensures { (more : List ℕ) → length (bytes.now ++ more) < result → IsPartOf IsShape (bytes.now ++ more) }
+    ensures waits { (more : List ℕ) → length (bytes.now ++ more) < result → IsPartOf IsShape (bytes.now ++ more) }
+    ensures told { (n : ℕ) (behind rest : List ℕ) → Begins (IsHead n) bytes.now behind → Begins (IsText (codes "35=")) behind rest → result ≡ length bytes.now - length rest + (n - 4) }
 {
     let Ok((length, behind)) = after_head(bytes) else {
         return 0;
