@@ -6,3 +6,4 @@ mod PastLemmas
 mod WriteLemmas
 mod FileLemmas
 mod StreamLemmas
+mod RoomLemmas
