@@ -9,6 +9,7 @@ mod SoundLemmas
 mod CallLemmas
 mod HeadLemmas
 mod ScanLemmas
+mod WindowLemmas
 mod MakeLemmas
 mod OpenLemmas
 mod Meaning

@@ -3,3 +3,4 @@ pub mod Synced
 pub mod AtRest
 pub mod Journal
 pub mod Opening
+pub mod Window

@@ -2,6 +2,7 @@ ghost use Rattle.std.specs.Prelude.{◌≡◌, ◌+◌, ◌^◌, ◌<◌, ◌≤
 ghost use Rattle.fix_journal.specs.Format.{body_of};
 ghost use Rattle.fix_journal.specs.Journal.{AppendAnswers, JournalAppends, ReadAnswers, JournalReads};
 ghost use Rattle.fix_journal.specs.Opening.{IsOpened, IsCause, Opens};
+ghost use Rattle.fix_journal.specs.Window.{OpenCalls};
 
 use crate::appending::append_at;
 use crate::heads::MOST_PAYLOAD;
@@ -48,6 +49,8 @@ impl<D: Disk> Journal<D> {
         ensures refused { IfErr result (λ r. IfSome (D.disk disk).bytes (IsCause r.fault)) }
         ensures moves { IfOk result (λ j. Opens None (D.disk disk) (D.disk j.disk)) }
         ensures moves_refused { IfErr result (λ r. Opens (Some r.fault) (D.disk disk) (D.disk r.disk)) }
+        ensures calls { IfOk result (λ j. OpenCalls (D.disk disk) (D.disk j.disk)) }
+        ensures calls_refused { IfErr result (λ r. OpenCalls (D.disk disk) (D.disk r.disk)) }
     {
         let mut disk = disk;
         match find(alloc, &mut disk) {

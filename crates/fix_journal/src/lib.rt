@@ -13,6 +13,7 @@ mod surveying;
 mod synced;
 #[cfg(test)]
 mod tests;
+mod window;
 
 pub use fault::{AppendFault, OpenFault, ReadFault};
 pub use journal::{Journal, OpenRefused};

@@ -1,4 +1,5 @@
 ghost use Rattle.fix_journal.specs.Opening.{Rests, IsClosed, IsShort, IsUnmadeBy, Makes};
+ghost use Rattle.fix_journal.specs.Window.{CallsAtMost};
 
 use crate::synced::write_synced;
 use fix_disk::{Disk, DiskFailed};
@@ -7,7 +8,8 @@ use fix_disk::{Disk, DiskFailed};
 // the disk before the file's gate is opened.
 fn make_closed<D: Disk>(disk: &mut D) -> Result<(), DiskFailed>
     requires { Rests (D.disk disk.old) IsClosed }
-    ensures { Makes result (D.disk disk.old) (D.disk disk.new) }
+    ensures makes { Makes result (D.disk disk.old) (D.disk disk.new) }
+    ensures calls { CallsAtMost 4 (D.disk disk.old) (D.disk disk.new) }
 {
     match write_synced(disk, 1, b"FIXJRNL1\0") {
         Ok(()) => write_synced(disk, 0, &[1]),
@@ -19,7 +21,8 @@ fn make_closed<D: Disk>(disk: &mut D) -> Result<(), DiskFailed>
 // file grows to ten.
 fn make_short<D: Disk>(disk: &mut D) -> Result<(), DiskFailed>
     requires { Rests (D.disk disk.old) IsShort }
-    ensures { Makes result (D.disk disk.old) (D.disk disk.new) }
+    ensures makes { Makes result (D.disk disk.old) (D.disk disk.new) }
+    ensures calls { CallsAtMost 6 (D.disk disk.old) (D.disk disk.new) }
 {
     match write_synced(disk, 0, &[0]) {
         Ok(()) => make_closed(disk),
@@ -30,7 +33,8 @@ fn make_short<D: Disk>(disk: &mut D) -> Result<(), DiskFailed>
 // Makes the journal in an unmade file.
 pub(crate) fn make<D: Disk>(disk: &mut D, is_short: bool) -> Result<(), DiskFailed>
     requires { Rests (D.disk disk.old) (IsUnmadeBy is_short) }
-    ensures { Makes result (D.disk disk.old) (D.disk disk.new) }
+    ensures makes { Makes result (D.disk disk.old) (D.disk disk.new) }
+    ensures calls { CallsAtMost 6 (D.disk disk.old) (D.disk disk.new) }
 {
     if is_short {
         make_short(disk)

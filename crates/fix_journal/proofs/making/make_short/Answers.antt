@@ -6,12 +6,12 @@ make_closed-requires g c =
     let disk = g.D.Disk.disk in
     shut_first (disk c.args.disk.now) (disk c.write_synced.new.disk) (g.met.D.Disk.lawful _) (g.met.D.Disk.lawful _) c.requires c.in-Ok.field-0 c.in-Ok.ensures
 
-pub returns-in-Ok : goal.returns-in-Ok
-returns-in-Ok g c =
+pub returns-in-Ok-clause-makes : goal.returns-in-Ok-clause-makes
+returns-in-Ok-clause-makes g c =
     let disk = g.D.Disk.disk in
-    short_done (disk c.args.disk.now) (disk c.write_synced.new.disk) (g.met.D.Disk.lawful _) (g.met.D.Disk.lawful _) c.requires c.in-Ok.field-0 c.make_closed.result (disk c.make_closed.new.disk) c.in-Ok.ensures c.make_closed.ensures
+    short_done (disk c.args.disk.now) (disk c.write_synced.new.disk) (g.met.D.Disk.lawful _) (g.met.D.Disk.lawful _) c.requires c.in-Ok.field-0 c.make_closed.result (disk c.make_closed.new.disk) c.in-Ok.ensures c.make_closed.ensures.makes
 
-pub returns-in-Err : goal.returns-in-Err
-returns-in-Err g c =
+pub returns-in-Err-clause-makes : goal.returns-in-Err-clause-makes
+returns-in-Err-clause-makes g c =
     let disk = g.D.Disk.disk in
     short_failed (disk c.args.disk.now) (disk c.write_synced.new.disk) (g.met.D.Disk.lawful _) (g.met.D.Disk.lawful _) c.requires c.in-Err.field-0 c.in-Err.ensures

@@ -5,9 +5,9 @@ use Rattle.fix_journal.proofs.opening.start.Goals as goal
 pub returns-in-Ok-clause-opens : goal.returns-in-Ok-clause-opens
 returns-in-Ok-clause-opens g c =
     let disk = g.D.Disk.disk in
-    opens_making _ c.args.is_short (disk c.args.disk.now) (disk c.make.new.disk) (g.met.D.Disk.lawful _) (g.met.D.Disk.lawful _) c.requires c.in-Ok.ensures _ refl tt c.in-Ok.ensures.behind
+    opens_making _ c.args.is_short (disk c.args.disk.now) (disk c.make.new.disk) (g.met.D.Disk.lawful _) (g.met.D.Disk.lawful _) c.requires c.in-Ok.ensures.makes _ refl tt c.in-Ok.ensures.makes.behind
 
 pub returns-in-Err-clause-opens : goal.returns-in-Err-clause-opens
 returns-in-Err-clause-opens g c =
     let disk = g.D.Disk.disk in
-    opens_making _ c.args.is_short (disk c.args.disk.now) (disk c.make.new.disk) (g.met.D.Disk.lawful _) (g.met.D.Disk.lawful _) c.requires c.in-Err.ensures _ refl tt tt
+    opens_making _ c.args.is_short (disk c.args.disk.now) (disk c.make.new.disk) (g.met.D.Disk.lawful _) (g.met.D.Disk.lawful _) c.requires c.in-Err.ensures.makes _ refl tt tt
