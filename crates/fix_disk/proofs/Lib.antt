@@ -1,9 +1,9 @@
-mod Overwritten
+pub mod Overwritten
 mod StateLemmas
 mod ImageLemmas
 mod LogLemmas
 mod PastLemmas
-mod WriteLemmas
+pub mod WriteLemmas
 mod FileLemmas
 mod StreamLemmas
 mod RoomLemmas

@@ -5,6 +5,7 @@ pub mod PriceLemmas
 pub mod FieldsLeft
 pub mod EnvelopeLemmas
 pub mod ListLemmas
+pub mod BodyLemmas
 pub mod DraftLemmas
 pub mod DraftBodies
 pub mod WritingLemmas

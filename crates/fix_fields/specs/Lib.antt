@@ -7,6 +7,7 @@ pub mod Faulty
 pub mod Lined
 pub mod Noted
 pub mod Header
+pub mod Bodies
 pub mod Drafts
 pub mod Drafted
 pub mod Shapes

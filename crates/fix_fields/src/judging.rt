@@ -55,7 +55,7 @@ pub fn is_draft_kind(kind: &[u8]) -> bool
 }
 
 // Whether the MsgType (35) is none of an administrative message.
-fn is_app_type(kind: &[u8]) -> bool
+pub(crate) fn is_app_type(kind: &[u8]) -> bool
     ensures { IsTrue result ↔ IsAppType kind.now }
 {
     match kind {

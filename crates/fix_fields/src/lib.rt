@@ -3,6 +3,7 @@
 //! message that an application asks an engine to send.
 #![tactic(auto)]
 
+mod bodies;
 mod dates;
 mod draft;
 mod draft_fields;
@@ -31,6 +32,7 @@ mod times;
 mod value;
 mod writing;
 
+pub use bodies::is_entry_body;
 pub use dates::month_year;
 pub use draft::Draft;
 pub use draft_fields::DraftFields;

@@ -84,7 +84,7 @@ fn keep(body: &mut Vec<u8>, field: &FieldRef<'_>, text: &[u8]) -> Result<(), All
     Ok(())
 }
 
-fn is_session_field(field: &FieldRef<'_>) -> bool
+pub(crate) fn is_session_field(field: &FieldRef<'_>) -> bool
     ensures { result ≡ is_session_tag (field_of field.now).tag }
 {
     let tag = field.tag.get();

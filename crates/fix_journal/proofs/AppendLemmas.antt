@@ -7,6 +7,7 @@ use Rattle.fix_disk.specs.declared.disk.DiskFailed.{DiskFailed}
 use Rattle.fix_journal.specs.Format.{OPEN, IsPayload, body_of, front, IsJournal}
 use Rattle.fix_journal.specs.Synced.{WritesSynced, TornFrom}
 use Rattle.fix_journal.specs.AtRest.{IsAtRest, IsEither, Appends}
+use Rattle.fix_journal.proofs.AsRead as read
 use Rattle.fix_journal.proofs.Files.{torn_front, gate_stays, staged, gate_torn, gate_written}
 use Rattle.fix_journal.proofs.Records.{front_push, is_before, is_after, gate_decides}
 use Rattle.fix_journal.proofs.Moments.{weaker, then_on}
@@ -90,7 +91,11 @@ module _ (gate : ℕ) (bytes : List ℕ) (old mid : DiskSeen) (mid_laws : IsLawf
     kept = λ payloads payload rests fits is. tt;
     any_moment = λ payloads payload rests fits is. stage_moments old mid mid_laws gate bytes payloads payload rests fits is (Err e) writes;
     now = λ payloads payload rests fits is. stage_now old mid mid_laws gate bytes payloads payload rests fits is (Err e) writes;
+    as_read = λ payloads payload rests fits is.
+        read.read_has mid (IsEither payloads payload)
+        (stage_now (read.as_read old) (read.as_read mid) (read.lawful mid) gate bytes payloads payload (read.at_rest old gate payloads rests) fits is (Err e) (read.writes (Err e) (gate + 1) bytes old mid writes));
     tells_bytes = writes.tells_bytes;
+    tells_images = writes.tells_images;
     cause = writes.cause;
     calls = λ some. omega (arith, writes.calls some);
   }
@@ -110,6 +115,11 @@ module _ (gate : ℕ) (bytes : List ℕ) (old mid : DiskSeen) (mid_laws : IsLawf
           let held = is_staged old mid mid_laws gate bytes payloads payload rests fits is x first in
           then_on old mid new (IsEither payloads payload) (stage_moments old mid mid_laws gate bytes payloads payload rests fits is (Ok x) first) (gate_moments mid new laws gate payloads payload rests.journal.each fits rests.at held answer second);
       now = λ payloads payload rests fits is. gate_now mid new laws gate payloads payload rests.journal.each fits rests.at (is_staged old mid mid_laws gate bytes payloads payload rests fits is x first) answer second;
+      as_read = λ payloads payload rests fits is.
+          let held = is_staged (read.as_read old) (read.as_read mid) (read.lawful mid) gate bytes payloads payload (read.at_rest old gate payloads rests) fits is x (read.writes (Ok x) (gate + 1) bytes old mid first) in
+          read.read_has new (IsEither payloads payload)
+          (gate_now (read.as_read mid) (read.as_read new) (read.lawful new) gate payloads payload rests.journal.each fits rests.at held answer (read.writes answer gate (1 ∷ []) mid new second));
+      tells_images = (λ told. first.tells_images.0 (second.tells_images.0 told), λ told. second.tells_images.1 (first.tells_images.1 told));
       tells_bytes = (λ some. first.tells_bytes.0 (second.tells_bytes.0 some), λ some. second.tells_bytes.1 (first.tells_bytes.1 some));
       cause = omega (arith, first.cause, second.cause);
       calls = λ some. omega (arith, first.calls some, second.calls (first.tells_bytes.1 some));

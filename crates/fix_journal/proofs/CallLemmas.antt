@@ -26,7 +26,9 @@ module _ (old new : DiskSeen) (gates : List ℕ) (sound : IsSound old gates fals
     kept = tt;
     any_moment = λ payloads holds. done.any_moment payloads payload (at_gate old gates sound gate gate_is payloads holds) fits is;
     now = λ payloads holds. done.now payloads payload (at_gate old gates sound gate gate_is payloads holds) fits is;
-    tells_bytes = done.tells_bytes.1;
+    as_read = λ payloads holds. done.as_read payloads payload (at_gate old gates sound gate gate_is payloads holds) fits is;
+    tells_bytes = done.tells_bytes;
+    tells_images = done.tells_images;
     cause = done.cause;
     calls = done.calls;
   }
@@ -39,7 +41,9 @@ module _ (old new : DiskSeen) (gates : List ℕ) (sound : IsSound old gates fals
           ((rests.file, rests.is, rests.journal), lasts new (gate + length staged) (payloads ++ payload ∷ []) rests);
       any_moment = λ payloads holds. done.any_moment payloads payload (at_gate old gates sound gate gate_is payloads holds) fits is;
       now = λ payloads holds. done.now payloads payload (at_gate old gates sound gate gate_is payloads holds) fits is;
-      tells_bytes = done.tells_bytes.1;
+      as_read = λ payloads holds. done.as_read payloads payload (at_gate old gates sound gate gate_is payloads holds) fits is;
+      tells_bytes = done.tells_bytes;
+      tells_images = done.tells_images;
       cause = done.cause;
       calls = done.calls;
     }
@@ -76,6 +80,7 @@ module _ (old new : DiskSeen) (laws : IsLawful old) where
         there.is ∙ ap Some (sym (filled ∙ ap (λ n. take n (drop at holds.0)) size ∙ ap (λ n. take (length there.payload) (drop n holds.0)) start ∙ there.bytes));
     same = reads.same;
     any_moment = read_moment (Ok x) at room reads;
+    tells_images = reads.time.tells_images;
     cause = reads.cause;
     calls = λ some. omega (arith, reads.time.clock some);
   }

@@ -22,6 +22,13 @@ pub last_gate : (at : ℕ) (ps : List (List ℕ)) (d : ℕ) → get_or (gates_fr
 last_gate at [] d = omega arith
 last_gate at (p ∷ ps) d = omega (arith, last_gate (at + 1 + length (body_of p)) ps d, length-append (body_of p) (recorded ps))
 
+-- the gate of each record
+pub gate_is : (at : ℕ) (ps : List (List ℕ)) (index d : ℕ) → index < length ps → get_or (gates_from at ps) index d ≡ at + length (recorded (take index ps))
+gate_is at [] index d lt = absurd (omega (arith, lt))
+gate_is at (p ∷ ps) zero d lt = omega arith
+gate_is at (p ∷ ps) (suc index) d lt =
+    omega (arith, gate_is (at + 1 + length (body_of p)) ps index d (omega (arith, lt)), length-append (body_of p) (recorded (take index ps)))
+
 pub gates-push : (at : ℕ) (ps : List (List ℕ)) (p : List ℕ) → gates_from at ps ++ (at + length (recorded (ps ++ p ∷ []))) ∷ [] ≡ gates_from at (ps ++ p ∷ [])
 gates-push at [] p =
     let next : at + length (recorded (p ∷ [])) ≡ at + 1 + length (body_of p) = omega (arith, length-append (body_of p) []) in

@@ -6,6 +6,7 @@ mod AppendLemmas
 mod Unique
 mod Gates
 mod SoundLemmas
+mod AsRead
 mod CallLemmas
 mod HeadLemmas
 mod ScanLemmas
@@ -13,3 +14,4 @@ mod WindowLemmas
 mod MakeLemmas
 mod OpenLemmas
 mod Meaning
+mod PayloadLemmas

@@ -11,11 +11,9 @@ use Rattle.fix_journal.specs.Synced.{WritesSynced, TornFrom}
 use Rattle.fix_journal.specs.Opening.{Rests, IsClosed, IsShort, KeepsBehind, Makes}
 use Rattle.fix_journal.proofs.Files.{gate_torn, gate_written}
 use Rattle.fix_journal.proofs.Moments.{weaker, then_on}
+use Rattle.fix_journal.proofs.AsRead.{at_told}
+use Rattle.fix_journal.proofs.AsRead as read
 use Rattle.fix_journal.proofs.SoundLemmas.{some_same, told_case}
-
-pub at_told : (o : Option (List ℕ)) → IsSome o → (file : List ℕ) × (o ≡ Some file)
-at_told None some = absurd (true≢false (sym some))
-at_told (Some file) some = (file, refl)
 
 -- what a crash leaves of a file at rest
 pub left_has : (seen : DiskSeen) (P : List ℕ → Type 0) → IsLawful seen → Rests seen P → seen.TellsImages → (d : List ℕ) → seen.image d → P d
@@ -33,6 +31,10 @@ module _ {T : Type 0} (answer : Result T DiskFailed) (at : ℕ) (bytes : List �
 
   step_moments : LeavesOnly old new Q
   step_moments = weaker old new (TornFrom old at bytes) Q writes.moments (λ p c from. left_by (writes.tells_images.0 (new_laws.tells_now p)) c from)
+
+step_read : {T : Type 0} (answer : Result T DiskFailed) (at : ℕ) (bytes : List ℕ) (old new : DiskSeen) (P Q : List ℕ → Type 0) → Rests old P → WritesSynced answer at bytes old new → ((d c : List ℕ) → P d → Torn at (length bytes) d c → Q c) → IfSome new.bytes Q
+step_read answer at bytes old new P Q rests writes gives =
+    read.read_has new Q (step_now answer at bytes (read.as_read old) (read.as_read new) P Q (read.lawful old) (read.lawful new) (read.rests old P rests) (read.writes answer at bytes old new writes) gives)
 
 rests_after : {T : Type 0} (x : T) (at : ℕ) (bytes : List ℕ) (old new : DiskSeen) (P Q : List ℕ → Type 0) → Rests old P → WritesSynced (Ok x) at bytes old new → ((file : List ℕ) → P file → Q (overwritten at bytes file)) → Rests new Q
 rests_after x at bytes old new P Q rests writes does = record {
@@ -109,6 +111,7 @@ module _ (old mid : DiskSeen) (laws : IsLawful old) (mid_laws : IsLawful mid) wh
       tells_images = writes.tells_images;
       any_moment = step_moments (Err e) 1 (NAME ++ 0 ∷ []) old mid IsClosed (λ c. HasRecords c []) laws mid_laws rests writes closed_torn;
       now = step_now (Err e) 1 (NAME ++ 0 ∷ []) old mid IsClosed (λ c. HasRecords c []) laws mid_laws rests writes closed_torn;
+      as_read = step_read (Err e) 1 (NAME ++ 0 ∷ []) old mid IsClosed (λ c. HasRecords c []) rests writes closed_torn;
       cause = writes.cause;
     }
 
@@ -122,6 +125,7 @@ module _ (old mid : DiskSeen) (laws : IsLawful old) (mid_laws : IsLawful mid) wh
           (step_moments (Ok x) 1 (NAME ++ 0 ∷ []) old mid IsClosed (λ c. HasRecords c []) laws mid_laws rests first closed_torn)
           (step_moments answer 0 (1 ∷ []) mid new IsReady (λ c. HasRecords c []) mid_laws new_laws ready second ready_torn);
       now = step_now answer 0 (1 ∷ []) mid new IsReady (λ c. HasRecords c []) mid_laws new_laws ready second ready_torn;
+      as_read = step_read answer 0 (1 ∷ []) mid new IsReady (λ c. HasRecords c []) ready second ready_torn;
       cause = omega (arith, first.cause, second.cause);
     }
       where
@@ -147,6 +151,7 @@ module _ (old mid : DiskSeen) (laws : IsLawful old) (mid_laws : IsLawful mid) wh
       tells_images = writes.tells_images;
       any_moment = step_moments (Err e) 0 (0 ∷ []) old mid IsShort (λ c. HasRecords c []) laws mid_laws rests writes short_torn;
       now = step_now (Err e) 0 (0 ∷ []) old mid IsShort (λ c. HasRecords c []) laws mid_laws rests writes short_torn;
+      as_read = step_read (Err e) 0 (0 ∷ []) old mid IsShort (λ c. HasRecords c []) rests writes short_torn;
       cause = writes.cause;
     }
 
@@ -163,6 +168,7 @@ module _ (old mid : DiskSeen) (laws : IsLawful old) (mid_laws : IsLawful mid) wh
           (step_moments (Ok x) 0 (0 ∷ []) old mid IsShort (λ c. HasRecords c []) laws mid_laws rests first short_torn)
           second.any_moment;
       now = second.now;
+      as_read = second.as_read;
       cause = omega (arith, first.cause, second.cause);
     }
       where

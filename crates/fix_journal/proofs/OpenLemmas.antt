@@ -12,7 +12,7 @@ use Rattle.fix_journal.specs.Journal.{Holds, Lasts}
 use Rattle.fix_journal.specs.Opening.{Rests, IsUntouched, IsUnmadeBy, Makes, Finds, IsLeftByOpening, StaysWithoutMemory, KeepsBehind, KeepsWhereOpened, Opens, open_failures}
 use Rattle.fix_journal.proofs.Moments.{weaker, then_on}
 use Rattle.fix_journal.proofs.SoundLemmas.{told_case}
-use Rattle.fix_journal.proofs.MakeLemmas.{at_told}
+use Rattle.fix_journal.proofs.AsRead.{at_told}
 use Rattle.fix_journal.proofs.Gates.{length-gates}
 use Rattle.fix_journal.proofs.CallLemmas.{lasts}
 
@@ -40,6 +40,7 @@ opens_later fault old mid new laws untouched before opens = record {
       (weaker old mid old.image (IsLeftByOpening old) untouched.moments (λ p c left. inl left))
       (weaker mid new (IsLeftByOpening mid) (IsLeftByOpening old) opens.any_moment (λ p c left. left_later (laws.tells_now (opens.any_moment.told p)) c left));
   now = λ told c left. left_later (opens.tells_images.0 told) c (opens.now told c left);
+  as_read = subst (λ o. IfSome o (λ file. (IsMade file → ⊥) → IfSome new.bytes (λ c. HasRecords c []))) untouched.bytes opens.as_read;
   tells_bytes = (λ some. ap is_some (sym untouched.bytes) ∙ opens.tells_bytes.0 some, λ some. opens.tells_bytes.1 (ap is_some untouched.bytes ∙ some));
   tells_images = (λ told. untouched.tells_images.0 (opens.tells_images.0 told), λ told. opens.tells_images.1 (untouched.tells_images.1 told));
   cause = omega (arith, before, opens.cause);
@@ -62,6 +63,7 @@ module _ {T : Type 0} (answer : Result T DiskFailed) (is_short : Bool) (old new 
     made_same = told_case old.bytes (λ file. IsMade file → new.bytes ≡ old.bytes) (λ file is made. absurd (not_made is_short file (subst (λ o. IfSome o (IsUnmadeBy is_short)) is rests.holds) made));
     any_moment = weaker old new (λ c. HasRecords c []) (IsLeftByOpening old) makes.any_moment (λ p c has. inr (unmade (laws.tells_bytes (laws.tells_now (makes.any_moment.told p))), has));
     now = λ told c left. inr (unmade (laws.tells_bytes (makes.tells_images.0 told)), makes.now told c left);
+    as_read = told_case old.bytes (λ file. (IsMade file → ⊥) → IfSome new.bytes (λ c. HasRecords c [])) (λ file is unmade. makes.as_read);
     tells_bytes = makes.tells_bytes;
     tells_images = makes.tells_images;
     cause = omega (arith, makes.cause, same);

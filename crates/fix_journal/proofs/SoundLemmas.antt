@@ -1,12 +1,12 @@
 -- What the gates of a journal say of its file.
-use Rattle.std.proofs.Common.{◌≡◌, ℕ, ◌+◌, ◌-◌, ◌<◌, ◌≤◌, suc, Bool, false, List, ◌∷◌, length, get_or, Option, Some, None, refl, sym, ◌∙◌, ap, subst, arith, length-append}
+use Rattle.std.proofs.Common.{◌≡◌, ℕ, ◌+◌, ◌-◌, ◌<◌, ◌≤◌, suc, Bool, false, List, ◌∷◌, length, take, get_or, Option, Some, None, refl, sym, ◌∙◌, ap, subst, arith, length-append}
 use Rattle.std.specs.Prelude.{IfSome, is_some}
 use Rattle.fix_disk.specs.Disk.{DiskSeen, HasRange}
 use Rattle.fix_journal.specs.Format.{OPEN, NAME, front, IsJournal}
 use Rattle.fix_journal.specs.AtRest.{IsAtRest}
 use Rattle.fix_journal.specs.Journal.{gates_from, IsSound, Holds}
 use Rattle.fix_journal.proofs.Unique.{unique}
-use Rattle.fix_journal.proofs.Gates.{length-gates, length-front, last_gate, Stands, stands}
+use Rattle.fix_journal.proofs.Gates.{length-gates, length-front, gate_is, last_gate, Stands, stands}
 
 pub some_same : (file other : List ℕ) → Some file ≡ Some other → file ≡ other
 some_same file other is = subst (λ o. IfSome o (λ x. file ≡ x)) is refl
@@ -37,6 +37,14 @@ module _ (seen : DiskSeen) (gates : List ℕ) (sound : IsSound seen gates false)
       let same : holds.0 ≡ got.1.file = some_same holds.0 got.1.file (sym holds.1 ∙ got.1.is) in
       let list : got.0 ≡ payloads = unique got.1.file got.0 payloads got.1.journal (subst (λ f. IsJournal f payloads) same holds.2) in
       subst (λ ps. IsAtRest seen (length (front ps)) ps × (gates ≡ gates_from 9 ps)) list (got.1, got.2)
+
+  -- each gate is at its record
+  pub gate_at : (payloads : List (List ℕ)) → Holds seen payloads → (index d : ℕ) → index < length gates - 1 → get_or gates index d ≡ length (front (take index payloads))
+  gate_at payloads holds index d lt =
+      let r = rested payloads holds in
+      ap (λ l. get_or l index d) r.1
+      ∙ gate_is 9 payloads index d (omega (arith, lt, ap length r.1, length-gates 9 payloads))
+      ∙ sym (length-front (take index payloads))
 
   module _ (gate : ℕ) (gate_is : gate ≡ get_or gates (length gates - 1) gate) where
     -- the last gate is the closed one

@@ -1,9 +1,10 @@
 -- A write, and a write with a sync behind it.
 use Rattle.std.proofs.Common.{◌≡◌, ◌↔◌, ℕ, List, length, Option, Some, None, Result, Ok, Err, refl, sym, ◌∙◌, ap, subst, arith}
 use Rattle.std.specs.Prelude.{IsSome, IfSome, OnOk, is_some}
-use Rattle.fix_disk.specs.Disk.{DiskSeen, IsLawful, DiskWrites, DiskSyncs, WrittenAfter, Torn, Only, overwritten}
+use Rattle.fix_disk.specs.Disk.{DiskSeen, IsLawful, DiskWrites, DiskSyncs, WrittenAfter, Torn, Only, HasRange, overwritten}
 use Rattle.fix_disk.specs.Moments.{LeavesOnly}
 use Rattle.fix_disk.specs.declared.disk.DiskFailed.{DiskFailed}
+use Rattle.fix_disk.proofs.WriteLemmas.{written_torn}
 use Rattle.fix_journal.specs.Synced.{WritesSynced, TornFrom}
 use Rattle.fix_journal.proofs.Moments.{started, goes_on}
 
@@ -16,10 +17,16 @@ written : {T : Type 0} (x : T) (at : ℕ) (bytes : List ℕ) (old new : Option (
 written x at bytes None new is = tt
 written x at bytes (Some old) new is = is
 
+-- what is read behind a write
+read_torn : {T : Type 0} (answer : Result T DiskFailed) (at : ℕ) (bytes : List ℕ) (old new : Option (List ℕ)) → HasRange old at 0 → WrittenAfter answer at bytes old new → IfSome old (λ file. IfSome new (Torn at (length bytes) file))
+read_torn answer at bytes None new range is = tt
+read_torn (Ok x) at bytes (Some old) new range is = subst (λ o. IfSome o (Torn at (length bytes) old)) (sym is) (written_torn at bytes old (omega (arith, range)))
+read_torn (Err e) at bytes (Some old) new range is = subst (λ o. IfSome o (Torn at (length bytes) old)) (sym is.2) is.1
+
 torn_self : (at count : ℕ) (c : List ℕ) → Torn at count c c
 torn_self at count c = record { no_shorter = omega arith; no_longer = omega arith; before = λ i lt below. refl; after = λ i lt behind. refl }
 
-module _ {T : Type 0} (answer : Result T DiskFailed) (at : ℕ) (bytes : List ℕ) (old mid : DiskSeen) (laws : IsLawful old) (writes : DiskWrites answer at bytes old mid) where
+module _ {T : Type 0} (answer : Result T DiskFailed) (at : ℕ) (bytes : List ℕ) (old mid : DiskSeen) (laws : IsLawful old) (range : HasRange old.bytes at 0) (writes : DiskWrites answer at bytes old mid) where
   now_torn : mid.TellsImages → (c : List ℕ) → mid.image c → TornFrom old at bytes c
   now_torn told c left = writes.torn (writes.time.tells_images.0 told) c left
 
@@ -33,6 +40,7 @@ module _ {T : Type 0} (answer : Result T DiskFailed) (at : ℕ) (bytes : List �
   failed_write e is = record {
     file = rw is tt;
     durable = rw is tt;
+    as_read = read_torn answer at bytes old.bytes mid.bytes range writes.written;
     tells_bytes = still_told answer at bytes old.bytes mid.bytes writes.written;
     tells_images = writes.time.tells_images;
     now = now_torn;
@@ -49,14 +57,15 @@ on_any : {T : Type 0} (answer : Result T DiskFailed) {P : Type 0} → P → OnOk
 on_any (Ok x) p = p
 on_any (Err e) p = tt
 
-pub write_and_sync : {T : Type 0} (x : T) (answer : Result T DiskFailed) (at : ℕ) (bytes : List ℕ) (old mid new : DiskSeen) → IsLawful old → IsLawful mid → DiskWrites (Ok x) at bytes old mid → DiskSyncs answer mid new → WritesSynced answer at bytes old new
-write_and_sync x answer at bytes old mid new laws mid_laws writes syncs = record {
+pub write_and_sync : {T : Type 0} (x : T) (answer : Result T DiskFailed) (at : ℕ) (bytes : List ℕ) (old mid new : DiskSeen) → IsLawful old → IsLawful mid → HasRange old.bytes at 0 → DiskWrites (Ok x) at bytes old mid → DiskSyncs answer mid new → WritesSynced answer at bytes old new
+write_and_sync x answer at bytes old mid new laws mid_laws range writes syncs = record {
   file = on_any answer (subst (λ b. IfSome old.bytes (λ file. b ≡ Some (overwritten at bytes file))) (sym syncs.bytes) (written x at bytes old.bytes mid.bytes writes.written));
   durable = on_ok answer (λ only told. subst (λ b. IfSome b (λ file. Only file new.image)) (sym syncs.bytes) (only (syncs.time.tells_images.0 told))) syncs.durable;
+  as_read = subst (λ b. IfSome old.bytes (λ file. IfSome b (Torn at (length bytes) file))) (sym syncs.bytes) (read_torn (Ok x) at bytes old.bytes mid.bytes range writes.written);
   tells_bytes = subst (λ b. IsSome b ↔ IsSome old.bytes) (sym syncs.bytes) (still_told (Ok x) at bytes old.bytes mid.bytes writes.written);
   tells_images = (λ t. writes.time.tells_images.0 (syncs.time.tells_images.0 t), λ t. syncs.time.tells_images.1 (writes.time.tells_images.1 t));
   now = now;
-  moments = goes_on old mid new (TornFrom old at bytes) mid_laws (moments_of_write (Ok x) at bytes old mid laws writes) syncs.time (λ p c left. now (told p) c left);
+  moments = goes_on old mid new (TornFrom old at bytes) mid_laws (moments_of_write (Ok x) at bytes old mid laws range writes) syncs.time (λ p c left. now (told p) c left);
   cause = omega (arith, writes.cause, syncs.cause);
   calls = λ some. omega (arith, writes.time.clock some, syncs.time.clock ((still_told (Ok x) at bytes old.bytes mid.bytes writes.written).1 some));
 }

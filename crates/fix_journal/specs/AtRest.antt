@@ -1,5 +1,5 @@
 -- A journal between its calls, and the steps of an append.
-use Rattle.std.specs.Prelude.{◌≡◌, ◌⊎◌, ◌↔◌, ℕ, ◌+◌, ◌≤◌, List, [], ◌∷◌, ◌++◌, length, Some, IsSome, Result, OnOk}
+use Rattle.std.specs.Prelude.{◌≡◌, ◌⊎◌, ◌↔◌, ℕ, ◌+◌, ◌≤◌, List, [], ◌∷◌, ◌++◌, length, Some, IsSome, IfSome, Result, OnOk}
 use Rattle.fix_base.specs.Seen.{Rises}
 use Rattle.fix_disk.specs.Disk.{DiskSeen, Only, failures}
 use Rattle.fix_disk.specs.Moments.{LeavesOnly}
@@ -27,6 +27,10 @@ pub record Appends {T : Type 0} (answer : Result T DiskFailed) (gate : ℕ) (sta
       → LeavesOnly old new (IsEither payloads payload)
   pub now : (payloads : List (List ℕ)) (payload : List ℕ) → IsAtRest old gate payloads → IsPayload payload → staged ≡ body_of payload ++ 0 ∷ []
       → new.TellsImages → (c : List ℕ) → new.image c → IsEither payloads payload c
+  -- and so does what is read behind it
+  pub as_read : (payloads : List (List ℕ)) (payload : List ℕ) → IsAtRest old gate payloads → IsPayload payload → staged ≡ body_of payload ++ 0 ∷ []
+      → IfSome new.bytes (IsEither payloads payload)
   pub tells_bytes : IsSome new.bytes ↔ IsSome old.bytes
+  pub tells_images : new.TellsImages ↔ old.TellsImages
   pub cause : Rises (failures answer) old.faults new.faults
   pub calls : IsSome old.bytes → new.clock ≤ old.clock + 4

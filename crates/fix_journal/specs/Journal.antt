@@ -1,5 +1,5 @@
 -- What is seen of a journal, and what its calls do.
-use Rattle.std.specs.Prelude.{◌≡◌, ℕ, ◌+◌, ◌<◌, ◌≤◌, Bool, true, false, List, [], ◌∷◌, ◌++◌, length, slice_get, Some, IsSome, Result, Ok, Err, OnOk}
+use Rattle.std.specs.Prelude.{◌≡◌, ◌↔◌, ℕ, ◌+◌, ◌<◌, ◌≤◌, Bool, true, false, List, [], ◌∷◌, ◌++◌, length, slice_get, Some, IsSome, IfSome, Result, Ok, Err, OnOk}
 use Rattle.fix_base.specs.Seen.{Rises}
 use Rattle.fix_disk.specs.Disk.{DiskSeen, LeavesAsIs}
 use Rattle.fix_disk.specs.Moments.{LeavesOnly}
@@ -57,7 +57,10 @@ pub record JournalAppends (answer : Result ℕ AppendFault) (payload : List ℕ)
   pub any_moment : (payloads : List (List ℕ)) → Holds old payloads → LeavesOnly old new (IsEither payloads payload)
   -- and so does a crash behind it
   pub now : (payloads : List (List ℕ)) → Holds old payloads → new.TellsImages → (c : List ℕ) → new.image c → IsEither payloads payload c
-  pub tells_bytes : IsSome old.bytes → IsSome new.bytes
+  -- what is read then has these or those, whatever was answered
+  pub as_read : (payloads : List (List ℕ)) → Holds old payloads → IfSome new.bytes (IsEither payloads payload)
+  pub tells_bytes : IsSome new.bytes ↔ IsSome old.bytes
+  pub tells_images : new.TellsImages ↔ old.TellsImages
   pub cause : Rises (append_failures answer) old.faults new.faults
   pub calls : IsSome old.bytes → new.clock ≤ old.clock + 4
 
@@ -80,5 +83,6 @@ pub record JournalReads {T : Type 0} (answer : Result T ReadFault) (index : ℕ)
   pub same : LeavesAsIs old new
   -- a crash at any moment of it leaves what one had left before
   pub any_moment : LeavesOnly old new old.image
+  pub tells_images : new.TellsImages ↔ old.TellsImages
   pub cause : Rises (read_failures answer) old.faults new.faults
   pub calls : IsSome old.bytes → new.clock ≤ old.clock + 1

@@ -1,4 +1,5 @@
 pub mod Format
+pub mod Payloads
 pub mod Synced
 pub mod AtRest
 pub mod Journal

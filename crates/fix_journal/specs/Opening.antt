@@ -98,6 +98,8 @@ pub record Makes {T : Type 0} (answer : Result T DiskFailed) (old new : DiskSeen
   pub tells_images : new.TellsImages ↔ old.TellsImages
   pub any_moment : LeavesOnly old new (λ c. HasRecords c [])
   pub now : new.TellsImages → (c : List ℕ) → new.image c → HasRecords c []
+  -- what is read behind it, whatever was answered
+  pub as_read : IfSome new.bytes (λ file. HasRecords file [])
   pub cause : Rises (failures answer) old.faults new.faults
 
 -- the gates that were found, of the file as it is read at first, and how it is then; the first place at which it breaks the format
@@ -131,6 +133,8 @@ pub record Opens (fault : Option OpenFault) (old new : DiskSeen) : Type 0 where
   pub behind : KeepsWhereOpened fault old new
   pub any_moment : LeavesOnly old new (IsLeftByOpening old)
   pub now : new.TellsImages → (c : List ℕ) → new.image c → IsLeftByOpening old c
+  -- what is read behind it of an unmade file is unmade or has no records, whatever was answered
+  pub as_read : IfSome old.bytes (λ file. (IsMade file → ⊥) → IfSome new.bytes (λ c. HasRecords c []))
   pub tells_bytes : IsSome new.bytes ↔ IsSome old.bytes
   pub tells_images : new.TellsImages ↔ old.TellsImages
   pub cause : Rises (open_failures fault) old.faults new.faults

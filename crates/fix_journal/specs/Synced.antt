@@ -12,6 +12,8 @@ TornFrom old at bytes c = (d : List ℕ) × old.image d × Torn at (length bytes
 pub record WritesSynced {T : Type 0} (answer : Result T DiskFailed) (at : ℕ) (bytes : List ℕ) (old new : DiskSeen) : Type 0 where
   pub file : OnOk answer (IfSome old.bytes (λ file. new.bytes ≡ Some (overwritten at bytes file)))
   pub durable : OnOk answer (new.TellsImages → IfSome new.bytes (λ file. Only file new.image))
+  -- what is read behind it, whatever was answered
+  pub as_read : IfSome old.bytes (λ file. IfSome new.bytes (Torn at (length bytes) file))
   pub tells_bytes : IsSome new.bytes ↔ IsSome old.bytes
   pub tells_images : new.TellsImages ↔ old.TellsImages
   pub now : new.TellsImages → (c : List ℕ) → new.image c → TornFrom old at bytes c

@@ -1,6 +1,6 @@
-ghost use Rattle.std.specs.Prelude.{◌≡◌, ◌+◌, ◌^◌, ◌<◌, ◌≤◌, ◌++◌, ◌∷◌, [], false, length, vec_len, vec_capacity, IfOk, IfErr, IfSome, Some, None};
-ghost use Rattle.fix_journal.specs.Format.{body_of};
-ghost use Rattle.fix_journal.specs.Journal.{AppendAnswers, JournalAppends, ReadAnswers, JournalReads};
+ghost use Rattle.std.specs.Prelude.{◌≡◌, ◌+◌, ◌^◌, ◌<◌, ◌≤◌, ◌++◌, ◌∷◌, [], false, List, ℕ, take, length, vec_len, vec_capacity, IfOk, IfErr, IfSome, Some, None};
+ghost use Rattle.fix_journal.specs.Format.{body_of, front};
+ghost use Rattle.fix_journal.specs.Journal.{Holds, AppendAnswers, JournalAppends, ReadAnswers, JournalReads};
 ghost use Rattle.fix_journal.specs.Opening.{IsOpened, IsCause, Opens};
 ghost use Rattle.fix_journal.specs.Window.{OpenCalls};
 
@@ -121,6 +121,14 @@ impl<D: Disk> Journal<D> {
         ensures { result ≡ self.now.count }
     {
         self.gates.len() as u64 - 1
+    }
+
+    /// The place in the file of the gate of the record with this index.
+    pub fn place(&self, index: u64) -> u64
+        requires { index < self.now.count }
+        ensures { self.now.stopped ≡ false → (payloads : List (List ℕ)) → Holds (D.disk self.now.disk) payloads → result ≡ length (front (take index payloads)) }
+    {
+        self.gates[index as usize]
     }
 
     /// The disk.

@@ -1,4 +1,5 @@
 use Rattle.fix_journal.proofs.Meaning.{one_list_of_records, not_both, one_first_place}
+use Rattle.fix_journal.proofs.PayloadLemmas.{computed}
 use Rattle.fix_journal.proofs.laws.a_file_has_one_meaning.Goals as goal
 
 pub returns-clause-records : goal.returns-clause-records
@@ -9,3 +10,6 @@ returns-clause-damage c = not_both
 
 pub returns-clause-first : goal.returns-clause-first
 returns-clause-first c = one_first_place
+
+pub returns-clause-computed : goal.returns-clause-computed
+returns-clause-computed c = computed

@@ -5,9 +5,9 @@ use Rattle.fix_journal.proofs.synced.write_synced.Goals as goal
 pub returns-in-Ok : goal.returns-in-Ok
 returns-in-Ok g c =
     let disk = g.D.Disk.disk in
-    write_and_sync c.in-Ok.field-0 c.sync.result c.args.at c.args.bytes.now (disk c.args.disk.now) (disk c.write_at.new.self) (disk c.sync.new.self) (g.met.D.Disk.lawful _) (g.met.D.Disk.lawful _) (c.in-Ok.ensures.moves) c.sync.ensures.moves
+    write_and_sync c.in-Ok.field-0 c.sync.result c.args.at c.args.bytes.now (disk c.args.disk.now) (disk c.write_at.new.self) (disk c.sync.new.self) (g.met.D.Disk.lawful _) (g.met.D.Disk.lawful _) c.requires (c.in-Ok.ensures.moves) c.sync.ensures.moves
 
 pub returns-in-Err : goal.returns-in-Err
 returns-in-Err g c =
     let disk = g.D.Disk.disk in
-    failed_write (Err c.in-Err.field-0) c.args.at c.args.bytes.now (disk c.args.disk.now) (disk c.write_at.new.self) (g.met.D.Disk.lawful _) c.in-Err.ensures.moves c.in-Err.field-0 refl
+    failed_write (Err c.in-Err.field-0) c.args.at c.args.bytes.now (disk c.args.disk.now) (disk c.write_at.new.self) (g.met.D.Disk.lawful _) c.requires c.in-Err.ensures.moves c.in-Err.field-0 refl

@@ -1,0 +1,23 @@
+-- The end of a file as a function of its bytes: what is told of a store's end.
+use Rattle.std.specs.Prelude.{ℕ, List, [], ◌∷◌, take, drop, map, slice_index, Option, option_map}
+use Rattle.std.specs.Int.{w32, w64, from_be_bytes}
+use Rattle.fix_base.specs.End.{Caller, Engine, App, Admin, Record, Push, Expect, Reset, End, new_end, folded_all}
+use Rattle.fix_disk.specs.Disk.{DiskSeen}
+use Rattle.fix_journal.specs.Payloads.{payloads_in}
+
+-- the record that is spelled so; of other bytes any record
+abbrev pub record_in : List ℕ → Record
+record_in (1 ∷ rest) = Push (App (from_be_bytes w64 (take 8 rest)) Caller (drop 8 rest))
+record_in (2 ∷ rest) = Push (App (from_be_bytes w64 (take 8 rest)) Engine (drop 8 rest))
+record_in (3 ∷ rest) = Push (Admin (from_be_bytes w64 (take 8 rest)) (slice_index rest 8) (from_be_bytes w32 (drop 9 rest)))
+record_in (4 ∷ rest) = Expect (from_be_bytes w32 rest)
+record_in (5 ∷ rest) = Reset (from_be_bytes w64 rest)
+record_in other = Expect 1
+
+-- the end of a file that has one
+abbrev pub end_in : List ℕ → End
+end_in file = folded_all new_end (map record_in (payloads_in file))
+
+-- the end that a disk tells
+abbrev pub told_end : DiskSeen → Option End
+told_end seen = option_map end_in seen.bytes

@@ -1,0 +1,5 @@
+pub mod Spelling
+pub mod Reading
+pub mod Ends
+pub mod Store
+pub mod Opening

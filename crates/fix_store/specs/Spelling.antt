@@ -1,0 +1,22 @@
+-- The bytes of a record.
+--
+--   01  time in eight bytes, body                                        an App entry of the application
+--   02  time in eight bytes, body                                        an App entry of the engine
+--   03  time in eight bytes, kind in one byte, RefSeqNum in four bytes   an Admin entry
+--   04  number in four bytes                                             the expected number
+--   05  time in eight bytes                                              a store reset
+--
+-- Numbers have the most significant byte first.
+use Rattle.std.specs.Prelude.{ℕ, List, [], ◌∷◌, ◌++◌}
+use Rattle.std.specs.Int.{w32, w64, to_be_bytes}
+use Rattle.fix_base.specs.End.{By, Caller, Engine, Entry, App, Admin, Record, Push, Expect, Reset}
+
+abbrev pub spelled_entry : Entry → List ℕ
+spelled_entry (App time Caller body) = 1 ∷ (to_be_bytes w64 time ++ body)
+spelled_entry (App time Engine body) = 2 ∷ (to_be_bytes w64 time ++ body)
+spelled_entry (Admin time kind about) = 3 ∷ (to_be_bytes w64 time ++ kind ∷ to_be_bytes w32 about)
+
+abbrev pub spelled : Record → List ℕ
+spelled (Push entry) = spelled_entry entry
+spelled (Expect number) = 4 ∷ to_be_bytes w32 number
+spelled (Reset time) = 5 ∷ to_be_bytes w64 time

@@ -1,0 +1,141 @@
+-- What is seen of a store, and what its calls do.
+use Rattle.std.specs.Prelude.{◌≡◌, ◌⊎◌, ◌↔◌, ℕ, ◌+◌, ◌<◌, ◌≤◌, Bool, true, false, List, [], ◌∷◌, ◌++◌, length, slice_get, map, All, Option, Some, IsSome, IfSome, Result, Ok, Err, OnOk, IfOk, ⊤}
+use Rattle.fix_base.specs.End.{Entry, App, Admin, Record, Push, Expect, Reset, End, new_end, folded, folded_all, IsEntry}
+use Rattle.fix_base.specs.Payload.{HasPayload}
+use Rattle.fix_base.specs.Seen.{Rises}
+use Rattle.fix_base.specs.declared.entry.Stored.{Stored}
+use Rattle.fix_disk.specs.Disk.{DiskSeen, LeavesAsIs}
+use Rattle.fix_disk.specs.Moments.{LeavesOnly}
+use Rattle.fix_journal.specs.Journal.{JournalSeen, Holds}
+use Rattle.fix_store.specs.declared.fault.StoreFault.{StoreFault}
+use Rattle.fix_store.specs.declared.fault.StoreFault.TheVariants.{Stopped, NumbersSpent, OutOfMemory, DiskFault}
+use Rattle.fix_store.specs.Spelling.{spelled}
+use Rattle.fix_store.specs.Reading.{LAST_NUMBER, MayAllFollow, HasEnd}
+
+-- over a disk of type D
+pub record StoreSeen (D : Type 0) : Type 0 where
+  pub disk : D
+  pub stored : Stored
+  pub stopped : Bool  -- the disk failed at some call
+
+abbrev pub seen_as : ℕ → ℕ → Option ℕ → Stored
+seen_as last expected since = record { last = last; expected = expected; since = since }
+
+-- what a store tells of an end
+abbrev pub stored_of : End → Stored
+stored_of e = record { last = length e.out; expected = e.stored; since = e.since }
+
+-- what it tells behind one more record
+abbrev pub stored_with : Stored → Record → Stored
+stored_with s (Push entry) = record s { last = s.last + 1 }
+stored_with s (Expect number) = record s { expected = number }
+stored_with s (Reset time) = record { last = 0; expected = 1; since = Some time }
+
+-- the disk tells a file with this end
+abbrev pub HoldsEnd : DiskSeen → End → Type 0
+HoldsEnd seen e = (file : List ℕ) × (seen.bytes ≡ Some file) × HasEnd file e
+
+-- a crash leaves a file with this end
+abbrev pub LastsEnd : DiskSeen → End → Type 0
+LastsEnd seen e = seen.TellsImages → (c : List ℕ) → seen.image c → HasEnd c e
+
+-- the end from before, or with one record more
+abbrev pub IsEitherEnd : End → Record → List ℕ → Type 0
+IsEitherEnd e r file = HasEnd file e ⊎ HasEnd file (folded e r)
+
+-- what a store that isn't stopped tells is its end, where the disk tells its file
+abbrev pub IsTold : {D : Type 0} → (D → DiskSeen) → StoreSeen D → Type 0
+IsTold disk store = store.stopped ≡ false → IfSome (disk store.disk).bytes (λ file. (e : End) × HasEnd file e × (store.stored ≡ stored_of e))
+
+-- an entry has a number left
+abbrev pub HasNumber : Record → Stored → Type 0
+HasNumber (Push entry) s = s.last < LAST_NUMBER
+HasNumber (Expect number) s = ⊤
+HasNumber (Reset time) s = ⊤
+
+-- an entry has none left
+abbrev pub HasNoNumber : Record → Stored → Type 0
+HasNoNumber (Push entry) s = s.last ≡ LAST_NUMBER
+HasNoNumber (Expect number) s = ⊥
+HasNoNumber (Reset time) s = ⊥
+
+-- when each answer of a call that keeps a record comes, and what the store is then
+abbrev pub KeepAnswers : {T D : Type 0} → Result T StoreFault → Record → StoreSeen D → StoreSeen D → Type 0
+KeepAnswers (Ok x) r old new = (old.stopped ≡ false) × HasNumber r old.stored × (new.stored ≡ stored_with old.stored r) × (new.stopped ≡ false)
+KeepAnswers (Err Stopped) r old new = (old.stopped ≡ true) × (new ≡ old)
+KeepAnswers (Err NumbersSpent) r old new = (old.stopped ≡ false) × HasNoNumber r old.stored × (new ≡ old)
+KeepAnswers (Err OutOfMemory) r old new = (old.stopped ≡ false) × HasNumber r old.stored × (new ≡ old)
+KeepAnswers (Err DiskFault) r old new = (old.stopped ≡ false) × HasNumber r old.stored × (new.stored ≡ old.stored) × (new.stopped ≡ true)
+
+-- how often the disk failed in a call
+abbrev pub store_failures : {T : Type 0} → Result T StoreFault → ℕ
+store_failures (Ok x) = 0
+store_failures (Err Stopped) = 0
+store_failures (Err NumbersSpent) = 0
+store_failures (Err OutOfMemory) = 0
+store_failures (Err DiskFault) = 1
+
+-- what keeping a record does to the disk of a store that isn't stopped
+pub record StoreKeeps {T : Type 0} (answer : Result T StoreFault) (r : Record) (old new : DiskSeen) : Type 0 where
+  -- an acknowledged record is in the end, and in that of whatever a crash leaves
+  pub kept : OnOk answer ((e : End) → HoldsEnd old e → HoldsEnd new (folded e r) × LastsEnd new (folded e r))
+  -- what is read has the end from before, or with the record, whatever was answered
+  pub as_read : (e : End) → HoldsEnd old e → IfSome new.bytes (IsEitherEnd e r)
+  -- a crash at any moment of it leaves one of these
+  pub any_moment : (e : End) → HoldsEnd old e → LeavesOnly old new (IsEitherEnd e r)
+  -- and so does a crash behind it
+  pub now : (e : End) → HoldsEnd old e → new.TellsImages → (c : List ℕ) → new.image c → IsEitherEnd e r c
+  pub tells_bytes : IsSome new.bytes ↔ IsSome old.bytes
+  pub tells_images : new.TellsImages ↔ old.TellsImages
+  pub cause : Rises (store_failures answer) old.faults new.faults
+  pub calls : IsSome old.bytes → new.clock ≤ old.clock + 4
+
+-- when each answer of a read comes, and what the store is then
+abbrev pub ReadAnswers : {T D : Type 0} → Result T StoreFault → StoreSeen D → StoreSeen D → Type 0
+ReadAnswers (Ok x) old new = (old.stopped ≡ false) × (new.stored ≡ old.stored) × (new.stopped ≡ false)
+ReadAnswers (Err Stopped) old new = (old.stopped ≡ true) × (new ≡ old)
+ReadAnswers (Err NumbersSpent) old new = ⊥
+ReadAnswers (Err OutOfMemory) old new = (old.stopped ≡ false) × (new.stored ≡ old.stored) × (new.stopped ≡ false)
+ReadAnswers (Err DiskFault) old new = (old.stopped ≡ false) × (new.stored ≡ old.stored) × (new.stopped ≡ true)
+
+-- what stands for an entry where a disk that doesn't tell its bytes gave back none
+abbrev pub NO_ENTRY : Entry
+NO_ENTRY = Admin 0 78 0
+
+-- bytes that were read for an entry are its record, or that of no entry
+abbrev pub ReadsAs : List ℕ → Entry → Type 0
+ReadsAs payload entry = (HasPayload entry × (payload ≡ spelled (Push entry))) ⊎ (((other : Entry) → HasPayload other → payload ≡ spelled (Push other) → ⊥) × (entry ≡ NO_ENTRY))
+
+-- what reading the entry of a number gives, and does to the disk
+pub record StoreReads (answer : Result Entry StoreFault) (number : ℕ) (old new : DiskSeen) : Type 0 where
+  pub entry : IfOk answer (λ entry. (e : End) → HoldsEnd old e → IsEntry e.out number entry)
+  -- it is one that a store may keep, whatever the disk gave back
+  pub reads : IfOk answer (λ entry. HasPayload entry × (payload : List ℕ) × ReadsAs payload entry)
+  pub same : LeavesAsIs old new
+  -- a crash at any moment of it leaves what one had left before
+  pub any_moment : LeavesOnly old new old.image
+  pub tells_images : new.TellsImages ↔ old.TellsImages
+  pub cause : Rises (store_failures answer) old.faults new.faults
+  pub calls : IsSome old.bytes → new.clock ≤ old.clock + 1
+
+-- the records at these indexes are those of these entries
+abbrev pub ArePlaces : List Record → List ℕ → List Entry → Type 0
+ArePlaces records [] [] = ⊤
+ArePlaces records [] (entry ∷ out) = ⊥
+ArePlaces records (index ∷ places) [] = ⊥
+ArePlaces records (index ∷ places) (entry ∷ out) = (slice_get records index ≡ Some (Push entry)) × ArePlaces records places out
+
+-- the disk's file has these records, what the store keeps of them is their end, and the places are those of its entries
+pub record IsKeptOf (seen : DiskSeen) (records : List Record) (places : List ℕ) (stored : Stored) : Type 0 where
+  pub holds : Holds seen (map spelled records)
+  pub each : MayAllFollow new_end records
+  pub stored : stored ≡ stored_of (folded_all new_end records)
+  pub places : ArePlaces records places (folded_all new_end records).out
+
+-- what always holds of a store: its places are indexes of the journal's records
+pub record IsSound {D : Type 0} (disk : D → DiskSeen) (journal : JournalSeen D) (places : List ℕ) (stored : Stored) (stopped : Bool) : Type 0 where
+  pub stops : stopped ≡ journal.stopped
+  pub few : length places ≤ LAST_NUMBER
+  pub last : stored.last ≡ length places
+  pub within : All (λ index. index < journal.count) places
+  pub kept : stopped ≡ false → IsSome (disk journal.disk).bytes → (records : List Record) × IsKeptOf (disk journal.disk) records places stored
