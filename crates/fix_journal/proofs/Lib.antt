@@ -10,6 +10,7 @@ mod AsRead
 mod CallLemmas
 mod HeadLemmas
 mod ScanLemmas
+mod RoomLemmas
 mod WindowLemmas
 mod MakeLemmas
 mod OpenLemmas
