@@ -1,11 +1,11 @@
 mod Files
 mod Records
-mod Moments
+pub mod Moments
 mod SyncedLemmas
 mod AppendLemmas
-mod Unique
-mod Gates
-mod SoundLemmas
+pub mod Unique
+pub mod Gates
+pub mod SoundLemmas
 mod AsRead
 mod CallLemmas
 mod HeadLemmas
@@ -14,5 +14,5 @@ mod RoomLemmas
 mod WindowLemmas
 mod MakeLemmas
 mod OpenLemmas
-mod Meaning
-mod PayloadLemmas
+pub mod Meaning
+pub mod PayloadLemmas

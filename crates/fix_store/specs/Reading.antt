@@ -1,6 +1,7 @@
 -- Which end a journal's file has, and where it breaks first.
 use Rattle.std.specs.Prelude.{◌≡◌, ◌⊎◌, ℕ, ◌≤◌, List, [], ◌∷◌, ◌++◌, length, map, ⊤}
-use Rattle.fix_base.specs.End.{Record, End, new_end, folded, folded_all}
+use Rattle.fix_base.specs.declared.entry.Record.{Record}
+use Rattle.fix_base.specs.End.{End, new_end, folded, folded_all}
 use Rattle.fix_base.specs.Payload.{IsKeepable}
 use Rattle.fix_journal.specs.Format.{front, HasRecords, IsDamagedAt}
 use Rattle.fix_store.specs.Spelling.{spelled}

@@ -9,11 +9,20 @@
 -- Numbers have the most significant byte first.
 use Rattle.std.specs.Prelude.{ℕ, List, [], ◌∷◌, ◌++◌}
 use Rattle.std.specs.Int.{w32, w64, to_be_bytes}
-use Rattle.fix_base.specs.End.{By, Caller, Engine, Entry, App, Admin, Record, Push, Expect, Reset}
+use Rattle.fix_base.specs.declared.entry.By.{By}
+use Rattle.fix_base.specs.declared.entry.Entry.{Entry}
+use Rattle.fix_base.specs.declared.entry.Record.{Record}
+use Rattle.fix_base.specs.declared.entry.By.TheVariants.{Caller, Engine}
+use Rattle.fix_base.specs.declared.entry.Entry.TheVariants.{App, Admin}
+use Rattle.fix_base.specs.declared.entry.Record.TheVariants.{Push, Expect, Reset}
+
+-- who made an application message
+abbrev pub mark_of : By → ℕ
+mark_of Caller = 1
+mark_of Engine = 2
 
 abbrev pub spelled_entry : Entry → List ℕ
-spelled_entry (App time Caller body) = 1 ∷ (to_be_bytes w64 time ++ body)
-spelled_entry (App time Engine body) = 2 ∷ (to_be_bytes w64 time ++ body)
+spelled_entry (App time by body) = mark_of by ∷ (to_be_bytes w64 time ++ body)
 spelled_entry (Admin time kind about) = 3 ∷ (to_be_bytes w64 time ++ kind ∷ to_be_bytes w32 about)
 
 abbrev pub spelled : Record → List ℕ

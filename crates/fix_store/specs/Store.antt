@@ -1,6 +1,10 @@
 -- What is seen of a store, and what its calls do.
-use Rattle.std.specs.Prelude.{◌≡◌, ◌⊎◌, ◌↔◌, ℕ, ◌+◌, ◌<◌, ◌≤◌, Bool, true, false, List, [], ◌∷◌, ◌++◌, length, slice_get, map, All, Option, Some, IsSome, IfSome, Result, Ok, Err, OnOk, IfOk, ⊤}
-use Rattle.fix_base.specs.End.{Entry, App, Admin, Record, Push, Expect, Reset, End, new_end, folded, folded_all, IsEntry}
+use Rattle.std.specs.Prelude.{◌≡◌, ◌⊎◌, ◌↔◌, ℕ, ◌+◌, ◌<◌, ◌≤◌, Bool, true, false, List, [], ◌∷◌, ◌++◌, length, slice_get, map, All, Option, Some, None, IsSome, IfSome, Result, Ok, Err, OnOk, IfOk, ⊤}
+use Rattle.fix_base.specs.declared.entry.Entry.{Entry}
+use Rattle.fix_base.specs.declared.entry.Record.{Record}
+use Rattle.fix_base.specs.declared.entry.Entry.TheVariants.{App, Admin}
+use Rattle.fix_base.specs.declared.entry.Record.TheVariants.{Push, Expect, Reset}
+use Rattle.fix_base.specs.End.{End, new_end, folded, folded_all, IsEntry}
 use Rattle.fix_base.specs.Payload.{HasPayload}
 use Rattle.fix_base.specs.Seen.{Rises}
 use Rattle.fix_base.specs.declared.entry.Stored.{Stored}
@@ -17,9 +21,6 @@ pub record StoreSeen (D : Type 0) : Type 0 where
   pub disk : D
   pub stored : Stored
   pub stopped : Bool  -- the disk failed at some call
-
-abbrev pub seen_as : ℕ → ℕ → Option ℕ → Stored
-seen_as last expected since = record { last = last; expected = expected; since = since }
 
 -- what a store tells of an end
 abbrev pub stored_of : End → Stored
@@ -59,26 +60,31 @@ HasNoNumber (Push entry) s = s.last ≡ LAST_NUMBER
 HasNoNumber (Expect number) s = ⊥
 HasNoNumber (Reset time) s = ⊥
 
+-- why a call wasn't done, if it wasn't
+abbrev pub fault_of : {T : Type 0} → Result T StoreFault → Option StoreFault
+fault_of (Ok x) = None
+fault_of (Err fault) = Some fault
+
 -- when each answer of a call that keeps a record comes, and what the store is then
-abbrev pub KeepAnswers : {T D : Type 0} → Result T StoreFault → Record → StoreSeen D → StoreSeen D → Type 0
-KeepAnswers (Ok x) r old new = (old.stopped ≡ false) × HasNumber r old.stored × (new.stored ≡ stored_with old.stored r) × (new.stopped ≡ false)
-KeepAnswers (Err Stopped) r old new = (old.stopped ≡ true) × (new ≡ old)
-KeepAnswers (Err NumbersSpent) r old new = (old.stopped ≡ false) × HasNoNumber r old.stored × (new ≡ old)
-KeepAnswers (Err OutOfMemory) r old new = (old.stopped ≡ false) × HasNumber r old.stored × (new ≡ old)
-KeepAnswers (Err DiskFault) r old new = (old.stopped ≡ false) × HasNumber r old.stored × (new.stored ≡ old.stored) × (new.stopped ≡ true)
+abbrev pub KeepAnswers : {D : Type 0} → Option StoreFault → Record → StoreSeen D → StoreSeen D → Type 0
+KeepAnswers None r old new = (old.stopped ≡ false) × HasNumber r old.stored × (new.stored ≡ stored_with old.stored r) × (new.stopped ≡ false)
+KeepAnswers (Some Stopped) r old new = (old.stopped ≡ true) × (new ≡ old)
+KeepAnswers (Some NumbersSpent) r old new = (old.stopped ≡ false) × HasNoNumber r old.stored × (new ≡ old)
+KeepAnswers (Some OutOfMemory) r old new = (old.stopped ≡ false) × HasNumber r old.stored × (new ≡ old)
+KeepAnswers (Some DiskFault) r old new = (old.stopped ≡ false) × HasNumber r old.stored × (new.stored ≡ old.stored) × (new.stopped ≡ true)
 
 -- how often the disk failed in a call
-abbrev pub store_failures : {T : Type 0} → Result T StoreFault → ℕ
-store_failures (Ok x) = 0
-store_failures (Err Stopped) = 0
-store_failures (Err NumbersSpent) = 0
-store_failures (Err OutOfMemory) = 0
-store_failures (Err DiskFault) = 1
+abbrev pub store_failures : Option StoreFault → ℕ
+store_failures None = 0
+store_failures (Some Stopped) = 0
+store_failures (Some NumbersSpent) = 0
+store_failures (Some OutOfMemory) = 0
+store_failures (Some DiskFault) = 1
 
 -- what keeping a record does to the disk of a store that isn't stopped
-pub record StoreKeeps {T : Type 0} (answer : Result T StoreFault) (r : Record) (old new : DiskSeen) : Type 0 where
+pub record StoreKeeps (fault : Option StoreFault) (r : Record) (old new : DiskSeen) : Type 0 where
   -- an acknowledged record is in the end, and in that of whatever a crash leaves
-  pub kept : OnOk answer ((e : End) → HoldsEnd old e → HoldsEnd new (folded e r) × LastsEnd new (folded e r))
+  pub kept : fault ≡ None → (e : End) → HoldsEnd old e → HoldsEnd new (folded e r) × LastsEnd new (folded e r)
   -- what is read has the end from before, or with the record, whatever was answered
   pub as_read : (e : End) → HoldsEnd old e → IfSome new.bytes (IsEitherEnd e r)
   -- a crash at any moment of it leaves one of these
@@ -87,16 +93,16 @@ pub record StoreKeeps {T : Type 0} (answer : Result T StoreFault) (r : Record) (
   pub now : (e : End) → HoldsEnd old e → new.TellsImages → (c : List ℕ) → new.image c → IsEitherEnd e r c
   pub tells_bytes : IsSome new.bytes ↔ IsSome old.bytes
   pub tells_images : new.TellsImages ↔ old.TellsImages
-  pub cause : Rises (store_failures answer) old.faults new.faults
+  pub cause : Rises (store_failures fault) old.faults new.faults
   pub calls : IsSome old.bytes → new.clock ≤ old.clock + 4
 
 -- when each answer of a read comes, and what the store is then
-abbrev pub ReadAnswers : {T D : Type 0} → Result T StoreFault → StoreSeen D → StoreSeen D → Type 0
-ReadAnswers (Ok x) old new = (old.stopped ≡ false) × (new.stored ≡ old.stored) × (new.stopped ≡ false)
-ReadAnswers (Err Stopped) old new = (old.stopped ≡ true) × (new ≡ old)
-ReadAnswers (Err NumbersSpent) old new = ⊥
-ReadAnswers (Err OutOfMemory) old new = (old.stopped ≡ false) × (new.stored ≡ old.stored) × (new.stopped ≡ false)
-ReadAnswers (Err DiskFault) old new = (old.stopped ≡ false) × (new.stored ≡ old.stored) × (new.stopped ≡ true)
+abbrev pub ReadAnswers : {D : Type 0} → Option StoreFault → StoreSeen D → StoreSeen D → Type 0
+ReadAnswers None old new = (old.stopped ≡ false) × (new.stored ≡ old.stored) × (new.stopped ≡ false)
+ReadAnswers (Some Stopped) old new = (old.stopped ≡ true) × (new ≡ old)
+ReadAnswers (Some NumbersSpent) old new = ⊥
+ReadAnswers (Some OutOfMemory) old new = (old.stopped ≡ false) × (new ≡ old)
+ReadAnswers (Some DiskFault) old new = (old.stopped ≡ false) × (new.stored ≡ old.stored) × (new.stopped ≡ true)
 
 -- what stands for an entry where a disk that doesn't tell its bytes gave back none
 abbrev pub NO_ENTRY : Entry
@@ -115,27 +121,6 @@ pub record StoreReads (answer : Result Entry StoreFault) (number : ℕ) (old new
   -- a crash at any moment of it leaves what one had left before
   pub any_moment : LeavesOnly old new old.image
   pub tells_images : new.TellsImages ↔ old.TellsImages
-  pub cause : Rises (store_failures answer) old.faults new.faults
+  pub cause : Rises (store_failures (fault_of answer)) old.faults new.faults
   pub calls : IsSome old.bytes → new.clock ≤ old.clock + 1
 
--- the records at these indexes are those of these entries
-abbrev pub ArePlaces : List Record → List ℕ → List Entry → Type 0
-ArePlaces records [] [] = ⊤
-ArePlaces records [] (entry ∷ out) = ⊥
-ArePlaces records (index ∷ places) [] = ⊥
-ArePlaces records (index ∷ places) (entry ∷ out) = (slice_get records index ≡ Some (Push entry)) × ArePlaces records places out
-
--- the disk's file has these records, what the store keeps of them is their end, and the places are those of its entries
-pub record IsKeptOf (seen : DiskSeen) (records : List Record) (places : List ℕ) (stored : Stored) : Type 0 where
-  pub holds : Holds seen (map spelled records)
-  pub each : MayAllFollow new_end records
-  pub stored : stored ≡ stored_of (folded_all new_end records)
-  pub places : ArePlaces records places (folded_all new_end records).out
-
--- what always holds of a store: its places are indexes of the journal's records
-pub record IsSound {D : Type 0} (disk : D → DiskSeen) (journal : JournalSeen D) (places : List ℕ) (stored : Stored) (stopped : Bool) : Type 0 where
-  pub stops : stopped ≡ journal.stopped
-  pub few : length places ≤ LAST_NUMBER
-  pub last : stored.last ≡ length places
-  pub within : All (λ index. index < journal.count) places
-  pub kept : stopped ≡ false → IsSome (disk journal.disk).bytes → (records : List Record) × IsKeptOf (disk journal.disk) records places stored

@@ -2,8 +2,17 @@
 //! and its last reset, as the fold of a journal's records.
 #![tactic(auto)]
 
+mod entries;
 mod fault;
+mod folding;
+mod keeping;
+mod laws;
+mod numbers;
+mod reading;
+mod spelling;
 mod store;
+mod walking;
 
 pub use fault::StoreFault;
+pub use laws::a_stored_file_has_one_end;
 pub use store::Store;

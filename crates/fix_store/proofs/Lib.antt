@@ -1,0 +1,5 @@
+pub mod Spellings
+pub mod RecordLists
+pub mod Ends
+mod Places
+mod KeepLemmas
