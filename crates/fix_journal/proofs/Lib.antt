@@ -6,7 +6,7 @@ mod AppendLemmas
 pub mod Unique
 pub mod Gates
 pub mod SoundLemmas
-mod AsRead
+pub mod AsRead
 mod CallLemmas
 mod HeadLemmas
 mod ScanLemmas

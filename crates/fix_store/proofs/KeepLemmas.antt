@@ -117,7 +117,7 @@ module _ {D : Type 0} (disk : D → DiskSeen) (journal : JournalSeen D) (f : Fol
     pub sound_at : (stopped : Bool) → stopped ≡ new.stopped → IsSound disk new (fold_with index f r) stopped
     sound_at stopped same = record {
       stops = same;
-      within = within_step f r journal.count index new.count sound.within has (omega (arith, answers.0, answers.1)) (omega (arith, answers.1));
+      within = within_step f r journal.count index new.count sound.within fits has (omega (arith, answers.0, answers.1)) (omega (arith, answers.1));
       kept = λ still some. kept_then some;
     }
 

@@ -3,3 +3,5 @@ pub mod RecordLists
 pub mod Ends
 mod Places
 mod KeepLemmas
+mod WalkLemmas
+mod OpenLemmas

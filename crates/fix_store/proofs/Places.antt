@@ -118,10 +118,11 @@ pub all_below : (n m : ℕ) (places : List ℕ) → n ≤ m → All (λ index. i
 all_below n m places le all = λ k d lt. omega (arith, all k d lt, le)
 
 -- one record more, of this index
-pub within_step : (f : Fold) (r : Record) (count index next : ℕ) → IsWithin f count → HasNumber r (stored_in f) → index < next → count ≤ next → IsWithin (fold_with index f r) next
-within_step f (Push entry) count index next within has lt le = record {
+pub within_step : (f : Fold) (r : Record) (count index next : ℕ) → IsWithin f count → IsKeepable r → HasNumber r (stored_in f) → index < next → count ≤ next → IsWithin (fold_with index f r) next
+within_step f (Push entry) count index next within fits has lt le = record {
   few = omega (arith, has, length-append f.places (index ∷ []));
+  expected = within.expected;
   each = All-push (λ i. i < next) f.places index (all_below count next f.places le within.each) lt;
 }
-within_step f (Expect number) count index next within has lt le = record { few = within.few; each = all_below count next f.places le within.each }
-within_step f (Reset time) count index next within has lt le = record { few = omega arith; each = All-nil (λ i. i < next) }
+within_step f (Expect number) count index next within fits has lt le = record { few = within.few; expected = fits; each = all_below count next f.places le within.each }
+within_step f (Reset time) count index next within fits has lt le = record { few = omega arith; expected = (omega arith, omega arith); each = All-nil (λ i. i < next) }

@@ -63,9 +63,10 @@ pub record IsFoldOf (records : List Record) (f : Fold) : Type 0 where
   pub stored : stored_in f ≡ stored_of (folded_all new_end records)
   pub places : ArePlaces records f.places (folded_all new_end records).out
 
--- its places are indexes of so many records
+-- its places are indexes of so many records, and its numbers are in their ranges
 pub record IsWithin (f : Fold) (count : ℕ) : Type 0 where
   pub few : length f.places ≤ LAST_NUMBER
+  pub expected : IsKeepable (Expect f.expected)
   pub each : All (λ index. index < count) f.places
 
 -- the journal's file has these records, so many
@@ -116,9 +117,13 @@ pub record IsNext (payloads : List (List ℕ)) (index : ℕ) (f : Fold) (r : Rec
   pub keepable : IsKeepable r
   pub numbered : HasNumber r (stored_in f)
 
--- one step of the walk
-abbrev pub Takes : {T : Type 0} → Result T OpenFault → ℕ → List (List ℕ) → Fold → Fold → Type 0
-Takes (Ok x) index payloads old new = (r : Record) × IsNext payloads index old r × (new ≡ fold_with index old r)
-Takes (Err open_fault.DiskFault) index payloads old new = ⊤
-Takes (Err (open_fault.Damaged place)) index payloads old new = ((r : Record) → IsNext payloads index old r → ⊥) × (place ≡ length (front (take index payloads)))
-Takes (Err open_fault.OutOfMemory) index payloads old new = ⊤
+-- one step of the walk, whatever the disk gave back
+abbrev pub Steps : ℕ → Fold → Fold → Type 0
+Steps index old new = (r : Record) × IsKeepable r × HasNumber r (stored_in old) × (new ≡ fold_with index old r)
+
+-- one step of the walk, over a disk that tells its file
+abbrev pub Takes : Option OpenFault → ℕ → List (List ℕ) → Fold → Fold → Type 0
+Takes None index payloads old new = (r : Record) × IsNext payloads index old r × (new ≡ fold_with index old r)
+Takes (Some open_fault.DiskFault) index payloads old new = ⊤
+Takes (Some (open_fault.Damaged place)) index payloads old new = ((r : Record) → IsNext payloads index old r → ⊥) × (place ≡ length (front (take index payloads)))
+Takes (Some open_fault.OutOfMemory) index payloads old new = ⊤

@@ -5,7 +5,7 @@ use Rattle.fix_base.specs.declared.entry.Record.{Record}
 use Rattle.fix_base.specs.declared.entry.Entry.TheVariants.{App, Admin}
 use Rattle.fix_base.specs.declared.entry.Record.TheVariants.{Push, Expect, Reset}
 use Rattle.fix_base.specs.End.{End, new_end, folded, folded_all, IsEntry}
-use Rattle.fix_base.specs.Payload.{HasPayload}
+use Rattle.fix_base.specs.Payload.{HasPayload, IsKeepable}
 use Rattle.fix_base.specs.Seen.{Rises}
 use Rattle.fix_base.specs.declared.entry.Stored.{Stored}
 use Rattle.fix_disk.specs.Disk.{DiskSeen, LeavesAsIs}
@@ -25,6 +25,11 @@ pub record StoreSeen (D : Type 0) : Type 0 where
 -- what a store tells of an end
 abbrev pub stored_of : End → Stored
 stored_of e = record { last = length e.out; expected = e.stored; since = e.since }
+
+-- its numbers are ones that a store may tell
+pub record IsInRange (s : Stored) : Type 0 where
+  pub last : s.last ≤ LAST_NUMBER
+  pub expected : IsKeepable (Expect s.expected)
 
 -- what it tells behind one more record
 abbrev pub stored_with : Stored → Record → Stored

@@ -4,7 +4,7 @@ ghost use Rattle.fix_base.specs.Payload.{HasPayload, LAST_TIME};
 ghost use Rattle.fix_journal.specs.Opening.{Opens};
 ghost use Rattle.fix_journal.specs.Opening as journal;
 ghost use Rattle.fix_store.specs.Spelling.{spelled_entry};
-ghost use Rattle.fix_store.specs.Store.{IsTold, KeepAnswers, StoreKeeps, ReadAnswers, StoreReads, ReadsAs, fault_of};
+ghost use Rattle.fix_store.specs.Store.{IsTold, IsInRange, KeepAnswers, StoreKeeps, ReadAnswers, StoreReads, ReadsAs, fault_of};
 ghost use Rattle.fix_store.specs.Opening.{IsOpened, IsCause};
 ghost use Rattle.fix_store.specs.Folding.{fold_of};
 
@@ -160,6 +160,7 @@ impl<D: Disk> Store<D> {
     /// What it tells of its end.
     pub fn stored(&self) -> Stored
         ensures is { result ≡ self.now.stored }
+        ensures range { IsInRange self.now.stored }
         ensures told { IsTold D.disk self.now }
     {
         self.folded.stored()

@@ -1,7 +1,7 @@
 ghost use Rattle.std.specs.Prelude.{◌≡◌, ◌<◌, ◌≤◌, ℕ, List, false, length, IfOk, IsErr, OnOk};
 ghost use Rattle.fix_journal.specs.Journal.{Holds};
 ghost use Rattle.fix_journal.specs.Opening.{open_failures, fault_of};
-ghost use Rattle.fix_store.specs.Folding.{fold_of, Folds, Reads, IsWithin, GoesOn, Takes};
+ghost use Rattle.fix_store.specs.Folding.{fold_of, Folds, Reads, IsWithin, GoesOn, Steps, Takes};
 
 use crate::folding::Folded;
 use crate::reading::record_in;
@@ -39,7 +39,8 @@ fn take_next<D: Disk>(
     requires goes_on { journal.old.stopped ≡ false }
     requires within { index < journal.old.count }
     requires few { length folded.old.places.items ≤ 999999999 }
-    ensures takes { (payloads : List (List ℕ)) → Holds (D.disk journal.old.disk) payloads → Takes result index payloads (fold_of folded.old) (fold_of folded.new) }
+    ensures steps { OnOk result (Steps index (fold_of folded.old) (fold_of folded.new)) }
+    ensures takes { (payloads : List (List ℕ)) → Holds (D.disk journal.old.disk) payloads → Takes (fault_of result) index payloads (fold_of folded.old) (fold_of folded.new) }
     ensures journal { OnOk result (GoesOn journal.old journal.new) }
     ensures reads { Reads (open_failures (fault_of result)) (D.disk journal.old.disk) (D.disk journal.new.disk) }
 {

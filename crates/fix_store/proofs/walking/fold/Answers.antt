@@ -1,49 +1,45 @@
-use Rattle.std.proofs.Common.{rules, ◌≡◌, ◌<◌, ◌≤◌, ℕ, List, false, length, IfOk, IsErr, OnOk, ◌+◌, ◌-◌, ◌*◌, ◌/◌, ◌%◌, Bool, true, nat_eq, nat_lt, [], ◌∷◌, ◌++◌, slice_index_or, slice_set, bit_and, bit_or, Fits, w8, w32, w64, Bor, MutBor}
-use Rattle.fix_journal.specs.Journal.{Holds}
-use Rattle.fix_journal.specs.Opening.{open_failures, fault_of}
-use Rattle.fix_store.specs.Folding.{fold_of, Folds, Reads, IsWithin, GoesOn, Takes}
+use Rattle.std.proofs.Common.{◌≡◌, ◌+◌, sym, ◌∙◌, subst, arith}
+use Rattle.fix_store.specs.Folding.{fold_of, IsWithin, Reads}
+use Rattle.fix_store.proofs.WalkLemmas.{walk_begins, walks_on, walk_fails, walk_ends, reads_then}
 use Rattle.fix_store.proofs.walking.fold.Goals as goal
 
--- src/walking.rt:23:5
 pub loop-index-init : goal.loop-index-init
-loop-index-init g c = ?
+loop-index-init g c = walk_begins g.D.Disk.disk c.args.journal.now (fold_of c.new-folded.result) (g.met.D.Disk.lawful _) c.requires c.new-folded.ensures
 
--- src/walking.rt:24:15
 pub take_next-requires-clause-goes_on : goal.take_next-requires-clause-goes_on
-take_next-requires-clause-goes_on g c = ?
+take_next-requires-clause-goes_on g c = c.loop-index.invariant.goes_on.stopped
 
--- src/walking.rt:24:15
 pub take_next-requires-clause-within : goal.take_next-requires-clause-within
-take_next-requires-clause-within g c = ?
+take_next-requires-clause-within g c = omega (arith, c.loop-index-test.true, c.count-index-end.ensures, c.loop-index.invariant.goes_on.count)
 
--- src/walking.rt:24:15
 pub take_next-requires-clause-few : goal.take_next-requires-clause-few
-take_next-requires-clause-few g c = ?
+take_next-requires-clause-few g c = c.loop-index.invariant.within.few
 
--- src/walking.rt:26:27
 pub returns-in-Err-clause-folds : goal.returns-in-Err-clause-folds
-returns-in-Err-clause-folds g c = ?
+returns-in-Err-clause-folds g c = λ payloads holds count.
+    walk_fails g.D.Disk.disk c.args.journal.now c.loop-index.journal c.loop-index.index (fold_of c.loop-index.folded) (g.met.D.Disk.lawful _) c.loop-index.invariant (fold_of c.take_next.new.folded) c.in-Err.fault c.in-Err.ensures.takes payloads holds (omega (arith, c.loop-index-test.true, c.count-index-end.ensures, count))
 
--- src/walking.rt:26:27
 pub returns-in-Err-clause-reads : goal.returns-in-Err-clause-reads
-returns-in-Err-clause-reads g c = ?
+returns-in-Err-clause-reads g c =
+    let disk = g.D.Disk.disk in
+    reads_then _ (disk c.args.journal.now.disk) (disk c.loop-index.journal.disk) (disk c.take_next.new.journal.disk) (g.met.D.Disk.lawful _) c.loop-index.invariant.reads c.in-Err.ensures.reads
 
--- src/walking.rt:23:5
 pub loop-index-preserved : goal.loop-index-preserved
-loop-index-preserved g c = ?
+loop-index-preserved g c =
+    walks_on g.D.Disk.disk c.args.journal.now c.loop-index.journal c.loop-index.index (fold_of c.loop-index.folded) (g.met.D.Disk.lawful _) c.loop-index.invariant c.take_next.new.journal (fold_of c.take_next.new.folded) c.in-Ok.ensures.steps c.in-Ok.ensures.takes c.in-Ok.ensures.journal c.in-Ok.ensures.reads
 
--- src/walking.rt:13:1
 pub returns-clause-folds : goal.returns-clause-folds
-returns-clause-folds g c = ?
+returns-clause-folds g c =
+    let at_end : c.loop-index.index ≡ c.args.journal.now.count = omega (arith, c.loop-index-test.false, c.loop-index.auto.index-end, c.count-index-end.ensures) in
+    walk_ends g.D.Disk.disk c.args.journal.now c.loop-index.journal c.loop-index.index c.loop-index.folded c.loop-index.invariant at_end
 
--- src/walking.rt:13:1
 pub returns-clause-within : goal.returns-clause-within
-returns-clause-within g c = ?
+returns-clause-within g c =
+    let at_end : c.loop-index.index ≡ c.args.journal.now.count = omega (arith, c.loop-index-test.false, c.loop-index.auto.index-end, c.count-index-end.ensures) in
+    subst (IsWithin (fold_of c.loop-index.folded)) at_end c.loop-index.invariant.within
 
--- src/walking.rt:13:1
 pub returns-clause-journal : goal.returns-clause-journal
-returns-clause-journal g c = ?
+returns-clause-journal g c = c.loop-index.invariant.goes_on
 
--- src/walking.rt:13:1
 pub returns-clause-reads : goal.returns-clause-reads
-returns-clause-reads g c = ?
+returns-clause-reads g c = c.loop-index.invariant.reads

@@ -1,4 +1,4 @@
-use Rattle.std.proofs.Common.{refl, Ok, Err}
+use Rattle.std.proofs.Common.{Ok, Err}
 use Rattle.fix_base.specs.declared.entry.Record.TheVariants.{Expect}
 use Rattle.fix_store.specs.Folding.{fold_of}
 use Rattle.fix_store.proofs.KeepLemmas.{calm, keeps_at, sound_at}

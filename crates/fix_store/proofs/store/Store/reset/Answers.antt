@@ -1,6 +1,6 @@
-use Rattle.std.proofs.Common.{refl, Ok, Err}
+use Rattle.std.proofs.Common.{sym, subst, Ok, Err}
 use Rattle.fix_base.specs.declared.entry.Record.TheVariants.{Reset}
-use Rattle.fix_store.specs.Folding.{fold_of}
+use Rattle.fix_store.specs.Folding.{fold_of, IsSound}
 use Rattle.fix_store.proofs.KeepLemmas.{calm, keeps_at, sound_at}
 use Rattle.fix_store.proofs.store.Store.reset.Goals as goal
 
@@ -8,7 +8,8 @@ pub invariant_of-self : goal.invariant_of-self
 invariant_of-self g c =
     let s = c.self.inside in
     let disk = g.D.Disk.disk in
-    sound_at disk s.journal (fold_of s.folded) (calm disk s.journal (fold_of s.folded) s.stopped c.if-self.false c.self.invariant) (Reset c.args.time) c.requires tt c.in-Ok.field-0 c.reset_payload.result c.append.new.journal c.reset_payload.ensures c.in-Ok.ensures.answers c.in-Ok.ensures.moves c.append.new.stopped c.in-Ok.ensures.stops
+    subst (λ f. IsSound disk c.append.new.journal f c.append.new.stopped) (sym c.reset.ensures)
+    (sound_at disk s.journal (fold_of s.folded) (calm disk s.journal (fold_of s.folded) s.stopped c.if-self.false c.self.invariant) (Reset c.args.time) c.requires tt c.in-Ok.field-0 c.reset_payload.result c.append.new.journal c.reset_payload.ensures c.in-Ok.ensures.answers c.in-Ok.ensures.moves c.append.new.stopped c.in-Ok.ensures.stops)
 
 pub returns-in-Ok-clause-moves : goal.returns-in-Ok-clause-moves
 returns-in-Ok-clause-moves g c =
