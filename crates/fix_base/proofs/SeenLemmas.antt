@@ -4,7 +4,7 @@ use Rattle.std.proofs.lemmas.List.{append-nil}
 use Rattle.fix_base.specs.declared.act.Act.{Act}
 use Rattle.fix_base.specs.End.{End}
 use Rattle.fix_base.specs.Parts.{PartsSeen}
-use Rattle.fix_base.specs.Seen.{Stores, grown, StorePart, LinkPart, AppPart, Note, Did, Failed, acts_of, store_failures, link_failures, app_failures, Follows, Seen, Moves}
+use Rattle.fix_base.specs.Seen.{Stores, grown, StorePart, LinkPart, AppPart, Note, Did, Failed, Asked, acts_of, store_failures, link_failures, app_failures, Follows, Seen, HoldsOn, SameFile, Moves}
 
 pub grown-append : (t : Option (List Act)) (xs ys : List Act) → grown (grown t xs) ys ≡ grown t (xs ++ ys)
 grown-append None xs ys = refl
@@ -18,6 +18,7 @@ pub acts_of-append : (xs ys : List Note) → acts_of (xs ++ ys) ≡ acts_of xs +
 acts_of-append [] ys = refl
 acts_of-append (Did act ∷ xs) ys = ap (λ acts. act ∷ acts) (acts_of-append xs ys)
 acts_of-append (Failed part ∷ xs) ys = acts_of-append xs ys
+acts_of-append (Asked draft ∷ xs) ys = acts_of-append xs ys
 
 pub store_failures-append : (xs ys : List Note) → store_failures (xs ++ ys) ≡ store_failures xs + store_failures ys
 store_failures-append [] ys = omega arith
@@ -25,6 +26,7 @@ store_failures-append (Did act ∷ xs) ys = store_failures-append xs ys
 store_failures-append (Failed StorePart ∷ xs) ys = omega (arith, store_failures-append xs ys)
 store_failures-append (Failed (LinkPart unsent) ∷ xs) ys = store_failures-append xs ys
 store_failures-append (Failed AppPart ∷ xs) ys = store_failures-append xs ys
+store_failures-append (Asked draft ∷ xs) ys = store_failures-append xs ys
 
 pub link_failures-append : (xs ys : List Note) → link_failures (xs ++ ys) ≡ link_failures xs + link_failures ys
 link_failures-append [] ys = omega arith
@@ -32,6 +34,7 @@ link_failures-append (Did act ∷ xs) ys = link_failures-append xs ys
 link_failures-append (Failed StorePart ∷ xs) ys = link_failures-append xs ys
 link_failures-append (Failed (LinkPart unsent) ∷ xs) ys = omega (arith, link_failures-append xs ys)
 link_failures-append (Failed AppPart ∷ xs) ys = link_failures-append xs ys
+link_failures-append (Asked draft ∷ xs) ys = link_failures-append xs ys
 
 pub app_failures-append : (xs ys : List Note) → app_failures (xs ++ ys) ≡ app_failures xs + app_failures ys
 app_failures-append [] ys = omega arith
@@ -39,15 +42,46 @@ app_failures-append (Did act ∷ xs) ys = app_failures-append xs ys
 app_failures-append (Failed StorePart ∷ xs) ys = app_failures-append xs ys
 app_failures-append (Failed (LinkPart unsent) ∷ xs) ys = app_failures-append xs ys
 app_failures-append (Failed AppPart ∷ xs) ys = omega (arith, app_failures-append xs ys)
+app_failures-append (Asked draft ∷ xs) ys = app_failures-append xs ys
 
 pub Follows-append : (xs ys : List Note) (a b c : PartsSeen) → Follows xs a b → Follows ys b c → Follows (xs ++ ys) a c
 Follows-append [] ys a b c x y = rw (← x) y
 Follows-append (note ∷ xs) ys a b c x y = (x.0, x.1, Follows-append xs ys x.0 b c x.2 y)
 
+-- ends that are held, one after another
+HoldsOn-append : (xs ys : List Act) (P Q R : End → Type 0) → HoldsOn P Q xs → HoldsOn Q R ys → HoldsOn P R (xs ++ ys)
+HoldsOn-append xs ys P Q R x y = record {
+  kept = λ e h.
+      (let mid = x.kept e h in
+      let last = y.kept mid.0 mid.1 in
+      (last.0, last.1, Stores-append xs ys (Some e) (Some mid.0) (Some last.0) mid.2 last.2));
+  only = λ e h.
+      (let mid = y.only e h in
+      let first = x.only mid.0 mid.1 in
+      (first.0, first.1, Stores-append xs ys (Some first.0) (Some mid.0) (Some e) first.2 mid.2));
+}
+
+-- a store that tells one end
+pub HoldsOn-one : (acts : List Act) (old new : End) → Stores acts (Some old) (Some new) → HoldsOn (λ e. e ≡ old) (λ e. e ≡ new) acts
+HoldsOn-one acts old new stores = record {
+  kept = λ e h. (new, refl, subst (λ o. Stores acts (Some o) (Some new)) (sym h) stores);
+  only = λ e h. (old, refl, subst (λ o. Stores acts (Some old) (Some o)) (sym h) stores);
+}
+
+SameFile-append : (a b c : Seen) → SameFile a b → SameFile b c → SameFile a c
+SameFile-append a b c x y = record {
+  told = (λ t. x.told.0 (y.told.0 t), λ t. y.told.1 (x.told.1 t));
+  breaks = λ place. (λ t. (x.breaks place).0 ((y.breaks place).0 t), λ t. (y.breaks place).1 ((x.breaks place).1 t));
+}
+
+pub SameFile-nil : (a : Seen) → SameFile a a
+SameFile-nil a = record { told = (λ t. t, λ t. t); breaks = λ place. (λ t. t, λ t. t) }
+
 pub Moves-append : (a b c : Seen) (xs ys : List Note) → Moves a b xs → Moves b c ys → Moves a c (xs ++ ys)
 Moves-append a b c xs ys x y = record {
   tape = y.tape ∙ ap (λ t. grown t (acts_of ys)) x.tape ∙ grown-append a.tape (acts_of xs) (acts_of ys) ∙ ap (grown a.tape) (sym (acts_of-append xs ys));
-  stored = subst (λ acts. Stores acts a.stored c.stored) (sym (acts_of-append xs ys)) (Stores-append (acts_of xs) (acts_of ys) _ _ _ x.stored y.stored);
+  stored = subst (HoldsOn a.Holds c.Holds) (sym (acts_of-append xs ys)) (HoldsOn-append (acts_of xs) (acts_of ys) a.Holds b.Holds c.Holds x.stored y.stored);
+  file = SameFile-append a b c x.file y.file;
   faults = record {
     store = omega (arith, store_failures-append xs ys);
     link = omega (arith, link_failures-append xs ys);
@@ -61,4 +95,10 @@ grown-nil None = refl
 grown-nil (Some old) = ap Some (sym (append-nil old))
 
 pub Moves-nil : (a : Seen) → Moves a a []
-Moves-nil a = record { tape = grown-nil a.tape; stored = refl; faults = record { store = omega arith; link = omega arith; app = omega arith }; parts = refl }
+Moves-nil a = record {
+  tape = grown-nil a.tape;
+  stored = record { kept = λ e h. (e, h, refl); only = λ e h. (e, h, refl) };
+  file = SameFile-nil a;
+  faults = record { store = omega arith; link = omega arith; app = omega arith };
+  parts = refl;
+}

@@ -1,7 +1,9 @@
 -- What the parts that an engine calls have yet to give, and what they were given, each where it is told.
-use Rattle.std.specs.Prelude.{◌≡◌, ℕ, ◌-◌, ◌<◌, List, [], ◌∷◌, ◌++◌, length, Bool, false, Option, Some, None, ⊤}
+use Rattle.std.specs.Prelude.{◌≡◌, ℕ, ◌-◌, ◌<◌, ◌≤◌, List, [], ◌∷◌, ◌++◌, length, Bool, false, Option, Some, None, ⊤}
 use Rattle.fix_base.specs.Lists.{IsPrefixOf}
 use Rattle.fix_base.specs.Line.{line_text}
+use Rattle.fix_base.specs.declared.entry.Record.{Record}
+use Rattle.fix_base.specs.Payload.{record_size}
 use Rattle.fix_base.specs.Act.{Act, Opened, Now, Read, Idle, Ended, Wrote, Kept, KeepLost, Handed, HandLost, Cut, Stop}
 
 pub record PartsSeen : Type 0 where
@@ -11,7 +13,10 @@ pub record PartsSeen : Type 0 where
   pub link_room : Option ℕ  -- a connection that tells it fails only at a write of more bytes than this
   pub lines : Option (List ℕ)  -- the lines of the messages that the application took
   pub line_room : Option ℕ  -- an application that tells it fails only at a line of more bytes than this
+  pub asked : Option (List (List ℕ))  -- the bodies of the drafts that the application gave
+  pub to_ask : Option (List (Option (List ℕ)))  -- what it answers yet where it is asked for a draft: a body, or none
   pub sure : Bool  -- the store fails at no call
+  pub store_room : Option ℕ  -- a store that tells it fails only at a record that takes more bytes than this
 
 -- a list with these behind it, where it is told
 abbrev pub extended : {A : Type 0} → Option (List A) → List A → Option (List A)
@@ -69,19 +74,50 @@ LosesLine line old new = (part : List ℕ) × IsPrefixOf part line × (new ≡ e
 
 -- the same parts but for what is named
 abbrev pub with_to_come : PartsSeen → Option (List (List ℕ)) → PartsSeen
-with_to_come p to_come = record { to_come = to_come; readings = p.readings; written = p.written; link_room = p.link_room; lines = p.lines; line_room = p.line_room; sure = p.sure }
+with_to_come p to_come = record { to_come = to_come; readings = p.readings; written = p.written; link_room = p.link_room; lines = p.lines; line_room = p.line_room; asked = p.asked; to_ask = p.to_ask; sure = p.sure; store_room = p.store_room }
 
 abbrev pub with_readings : PartsSeen → Option (List ℕ) → PartsSeen
-with_readings p readings = record { to_come = p.to_come; readings = readings; written = p.written; link_room = p.link_room; lines = p.lines; line_room = p.line_room; sure = p.sure }
+with_readings p readings = record { to_come = p.to_come; readings = readings; written = p.written; link_room = p.link_room; lines = p.lines; line_room = p.line_room; asked = p.asked; to_ask = p.to_ask; sure = p.sure; store_room = p.store_room }
 
 abbrev pub with_written : PartsSeen → List ℕ → PartsSeen
-with_written p bytes = record { to_come = p.to_come; readings = p.readings; written = extended p.written bytes; link_room = less (length bytes) p.link_room; lines = p.lines; line_room = p.line_room; sure = p.sure }
+with_written p bytes = record { to_come = p.to_come; readings = p.readings; written = extended p.written bytes; link_room = less (length bytes) p.link_room; lines = p.lines; line_room = p.line_room; asked = p.asked; to_ask = p.to_ask; sure = p.sure; store_room = p.store_room }
 
 abbrev pub with_line : PartsSeen → List ℕ → PartsSeen
-with_line p line = record { to_come = p.to_come; readings = p.readings; written = p.written; link_room = p.link_room; lines = extended p.lines line; line_room = less (length line) p.line_room; sure = p.sure }
+with_line p line = record { to_come = p.to_come; readings = p.readings; written = p.written; link_room = p.link_room; lines = extended p.lines line; line_room = less (length line) p.line_room; asked = p.asked; to_ask = p.to_ask; sure = p.sure; store_room = p.store_room }
 
 abbrev pub with_lines : PartsSeen → Option (List ℕ) → PartsSeen
-with_lines p lines = record { to_come = p.to_come; readings = p.readings; written = p.written; link_room = p.link_room; lines = lines; line_room = p.line_room; sure = p.sure }
+with_lines p lines = record { to_come = p.to_come; readings = p.readings; written = p.written; link_room = p.link_room; lines = lines; line_room = p.line_room; asked = p.asked; to_ask = p.to_ask; sure = p.sure; store_room = p.store_room }
+
+abbrev pub with_asked : PartsSeen → Option (List (List ℕ)) → Option (List (Option (List ℕ))) → PartsSeen
+with_asked p asked to_ask = record { to_come = p.to_come; readings = p.readings; written = p.written; link_room = p.link_room; lines = p.lines; line_room = p.line_room; asked = asked; to_ask = to_ask; sure = p.sure; store_room = p.store_room }
+
+abbrev pub with_store_room : PartsSeen → Option ℕ → PartsSeen
+with_store_room p room = record { to_come = p.to_come; readings = p.readings; written = p.written; link_room = p.link_room; lines = p.lines; line_room = p.line_room; asked = p.asked; to_ask = p.to_ask; sure = p.sure; store_room = room }
+
+-- a draft that was given, if any, and its list
+abbrev pub given_draft : Option (List ℕ) → List (List ℕ)
+given_draft None = []
+given_draft (Some body) = body ∷ []
+
+-- an application answers with the first of its answers to come, where they are told; no draft follows the last
+abbrev pub Answers : Option (List ℕ) → Option (List (Option (List ℕ))) → Option (List (Option (List ℕ))) → Type 0
+Answers draft None new = new ≡ None
+Answers draft (Some []) new = (draft ≡ None) × (new ≡ Some [])
+Answers draft (Some (first ∷ later)) new = (draft ≡ first) × (new ≡ Some later)
+
+-- the application was asked, and gave a draft with this body or none
+abbrev pub AskMoves : Option (List ℕ) → PartsSeen → PartsSeen → Type 0
+AskMoves draft old new = Answers draft old.to_ask new.to_ask × (new ≡ with_asked old (extended old.asked (given_draft draft)) new.to_ask)
+
+-- a room of which this record takes no more than it is long; one that is told stays told
+abbrev pub TakesRoom : Record → Option ℕ → Option ℕ → Type 0
+TakesRoom r None new = new ≡ None
+TakesRoom r (Some room) new = (left : ℕ) × (new ≡ Some left) × (room - record_size r ≤ left)
+
+-- a room that is told stays told, and doesn't shrink; one that isn't may be told then
+abbrev pub KeepsRoom : Option ℕ → Option ℕ → Type 0
+KeepsRoom None new = ⊤
+KeepsRoom (Some room) new = (left : ℕ) × (new ≡ Some left) × (room ≤ left)
 
 -- what an act does to what the parts tell
 abbrev pub ActMoves : Act → PartsSeen → PartsSeen → Type 0
@@ -92,8 +128,8 @@ ActMoves Ended old new = GivesEnd old.to_come new.to_come × (new ≡ with_to_co
 ActMoves (Wrote b) old new = new ≡ with_written old b
 ActMoves (Handed number marked body) old new = new ≡ with_line old (line_text number marked body)
 ActMoves (HandLost number marked body) old new = HasNoRoom (length (line_text number marked body)) old.line_room × LosesLine (line_text number marked body) old.lines new.lines × (new ≡ with_lines old new.lines)
-ActMoves (Kept r) old new = new ≡ old
-ActMoves (KeepLost r) old new = (old.sure ≡ false) × (new ≡ old)
+ActMoves (Kept r) old new = TakesRoom r old.store_room new.store_room × (new ≡ with_store_room old new.store_room)
+ActMoves (KeepLost r) old new = (old.sure ≡ false) × HasNoRoom (record_size r) old.store_room × (new ≡ old)
 ActMoves Opened old new = new ≡ old
 ActMoves Cut old new = new ≡ old
-ActMoves Stop old new = new ≡ old
+ActMoves Stop old new = KeepsRoom old.store_room new.store_room × (new ≡ with_store_room old new.store_room)

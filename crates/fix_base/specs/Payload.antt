@@ -1,5 +1,5 @@
 -- Which entries a message store may keep, and which ends keep their messages.
-use Rattle.std.specs.Prelude.{◌≡◌, ◌≢◌, ℕ, ◌<◌, ◌≤◌, ◌^◌, ◌==◌, bytes_eq, codes, IsTrue, List, [], ◌∷◌, length, Bool, false, None}
+use Rattle.std.specs.Prelude.{◌≡◌, ◌≢◌, ℕ, ◌+◌, ◌<◌, ◌≤◌, ◌^◌, ◌==◌, bytes_eq, codes, IsTrue, List, [], ◌∷◌, length, Bool, false, None}
 use Rattle.std.specs.List.{AllByRecursion, list_any}
 use Rattle.fix_base.specs.Lists.{Among}
 use Rattle.fix_base.specs.Tags.{is_session_tag}
@@ -66,6 +66,16 @@ abbrev pub IsKeepable : Record → Type 0
 IsKeepable (Push entry) = HasPayload entry
 IsKeepable (Expect number) = (1 ≤ number) × (number ≤ 1000000000)
 IsKeepable (Reset time) = time ≤ LAST_TIME
+
+-- how many bytes a record takes in a store's file: a gate, its length in four bytes, and what it says
+abbrev pub entry_size : Entry → ℕ
+entry_size (App time by body) = length body + 14
+entry_size (Admin time kind about) = 19
+
+abbrev pub record_size : Record → ℕ
+record_size (Push entry) = entry_size entry
+record_size (Expect number) = 10
+record_size (Reset time) = 14
 
 -- an application message is no entry that is skipped in a resend
 abbrev pub IsNotWithheld : Entry → Type 0

@@ -1,8 +1,8 @@
 -- What is seen from outside of the parts that an engine calls: the tape of its acts, the stored end, how
 -- often each part failed, and what the parts have yet to give and were given.
-use Rattle.std.specs.Prelude.{◌≡◌, ◌⊎◌, ℕ, suc, ◌+◌, ◌≤◌, min, List, [], ◌∷◌, ◌++◌, Option, Some, None}
+use Rattle.std.specs.Prelude.{◌≡◌, ◌⊎◌, ◌↔◌, ℕ, suc, ◌+◌, ◌≤◌, min, List, [], ◌∷◌, ◌++◌, Option, Some, None}
 use Rattle.fix_base.specs.End.{Record, End, folded}
-use Rattle.fix_base.specs.Parts.{PartsSeen, ActMoves, HasNoRoom}
+use Rattle.fix_base.specs.Parts.{PartsSeen, ActMoves, AskMoves, HasNoRoom, with_store_room}
 use Rattle.fix_base.specs.Act.{Act, Opened, Now, Read, Idle, Ended, Wrote, Kept, KeepLost, Handed, HandLost, Cut, Stop}
 
 abbrev pub option_folded : Option End → Record → Option End
@@ -46,16 +46,19 @@ pub data Part : Type 0 where
   LinkPart : (unsent : ℕ) → Part
   AppPart : Part
 
--- one thing that came of a call: an act, or that a part failed
+-- one thing that came of a call: an act, that a part failed, or that the application was asked for a draft, and gave one
+-- with this body or none
 pub data Note : Type 0 where
   Did : (act : Act) → Note
   Failed : (part : Part) → Note
+  Asked : (draft : Option (List ℕ)) → Note
 
 -- the acts among these
 abbrev pub acts_of : List Note → List Act
 acts_of [] = []
 acts_of (Did act ∷ notes) = act ∷ acts_of notes
 acts_of (Failed part ∷ notes) = acts_of notes
+acts_of (Asked draft ∷ notes) = acts_of notes
 
 -- how often each part failed in these
 abbrev pub store_failures : List Note → ℕ
@@ -64,6 +67,7 @@ store_failures (Did act ∷ notes) = store_failures notes
 store_failures (Failed StorePart ∷ notes) = suc (store_failures notes)
 store_failures (Failed (LinkPart unsent) ∷ notes) = store_failures notes
 store_failures (Failed AppPart ∷ notes) = store_failures notes
+store_failures (Asked draft ∷ notes) = store_failures notes
 
 abbrev pub link_failures : List Note → ℕ
 link_failures [] = 0
@@ -71,6 +75,7 @@ link_failures (Did act ∷ notes) = link_failures notes
 link_failures (Failed StorePart ∷ notes) = link_failures notes
 link_failures (Failed (LinkPart unsent) ∷ notes) = suc (link_failures notes)
 link_failures (Failed AppPart ∷ notes) = link_failures notes
+link_failures (Asked draft ∷ notes) = link_failures notes
 
 abbrev pub app_failures : List Note → ℕ
 app_failures [] = 0
@@ -78,6 +83,7 @@ app_failures (Did act ∷ notes) = app_failures notes
 app_failures (Failed StorePart ∷ notes) = app_failures notes
 app_failures (Failed (LinkPart unsent) ∷ notes) = app_failures notes
 app_failures (Failed AppPart ∷ notes) = suc (app_failures notes)
+app_failures (Asked draft ∷ notes) = app_failures notes
 
 -- the last value of a count
 abbrev pub LAST_COUNT : ℕ
@@ -102,9 +108,11 @@ pub record NoneRose (old new : Faults) : Type 0 where
 -- what one thing that came of a call does to what the parts tell
 abbrev pub NoteMoves : Note → PartsSeen → PartsSeen → Type 0
 NoteMoves (Did act) old new = ActMoves act old new
-NoteMoves (Failed StorePart) old new = new ≡ old
+-- what room a store has that failed isn't said
+NoteMoves (Failed StorePart) old new = new ≡ with_store_room old new.store_room
 NoteMoves (Failed (LinkPart unsent)) old new = HasNoRoom unsent old.link_room × (new ≡ old)
 NoteMoves (Failed AppPart) old new = new ≡ old
+NoteMoves (Asked draft) old new = AskMoves draft old new
 
 -- the same of several, one after another
 abbrev pub Follows : List Note → PartsSeen → PartsSeen → Type 0
@@ -112,16 +120,32 @@ Follows [] old new = new ≡ old
 Follows (note ∷ notes) old new = (mid : PartsSeen) × NoteMoves note old mid × Follows notes mid new
 
 -- what is seen from outside of an Outside
-pub record Seen : Type 0 where
+pub record Seen : Type 1 where
   pub tape : Option (List Act)
-  pub stored : Option End
+  pub Holds : End → Type 0  -- the store tells that it holds this end; of none, where it tells nothing
+  pub open_at : Option ℕ  -- how many entries the store has, where it is open
+  pub Tells : Type 0  -- the store tells its file
+  pub Breaks : ℕ → Type 0  -- the file isn't a store's, and this is the first place where it is none
   pub faults : Faults
   pub parts : PartsSeen
+
+-- what these acts do to the ends that a store holds
+pub record HoldsOn (old new : End → Type 0) (acts : List Act) : Type 0 where
+  -- it tells what comes of an end that it told
+  pub kept : (e : End) → old e → (e' : End) × new e' × Stores acts (Some e) (Some e')
+  -- and it tells nothing else
+  pub only : (e' : End) → new e' → (e : End) × old e × Stores acts (Some e) (Some e')
+
+-- what is told of a file stays
+pub record SameFile (old new : Seen) : Type 0 where
+  pub told : new.Tells ↔ old.Tells
+  pub breaks : (place : ℕ) → new.Breaks place ↔ old.Breaks place
 
 -- this came of some calls, and nothing else
 pub record Moves (old new : Seen) (notes : List Note) : Type 0 where
   pub tape : new.tape ≡ grown old.tape (acts_of notes)
-  pub stored : Stores (acts_of notes) old.stored new.stored
+  pub stored : HoldsOn old.Holds new.Holds (acts_of notes)
+  pub file : SameFile old new
   pub faults : Counts old.faults new.faults notes
   pub parts : Follows notes old.parts new.parts
 

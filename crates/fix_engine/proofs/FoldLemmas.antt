@@ -49,6 +49,9 @@ replicate-more : (n i : ℕ) → i < n → replicate {A = ⊤} (n - i) tt ≡ tt
 replicate-more n i h = let e : n - i ≡ suc (n - (i + 1)) = omega arith in ap (λ k. replicate {A = ⊤} k tt) e
 
 module _ {S : Type 0} (R : S → ⊤ → List Note → Result ⊤ Ending → S → Type 0) where
+  pub count_started : (w : Seen) (s : S) (n : ℕ) → SoFar R w w s (replicate n tt) s (replicate (n - 0) tt)
+  count_started w s n = let same : n ≡ n - 0 = omega arith in subst (λ k. SoFar R w w s (replicate n tt) s (replicate k tt)) same (started R w s (replicate n tt))
+
   pub counts_on : (a b c : Seen) (s mid mid' : S) (n i : ℕ) → i < n → SoFar R a b s (replicate n tt) mid (replicate (n - i) tt) → Goes b c (λ notes. R mid tt notes (Ok tt) mid') → SoFar R a c s (replicate n tt) mid' (replicate (n - (i + 1)) tt)
   counts_on a b c s mid mid' n i h before step =
       goes_on R a b c s mid mid' _ tt _ (subst (λ rest. SoFar R a b s (replicate n tt) mid rest) (replicate-more n i h) before) step

@@ -14,12 +14,12 @@ use Rattle.fix_base.specs.Session.{mirrored}
 use Rattle.fix_base.specs.Agrees.{Agrees}
 use Rattle.fix_base.specs.Reader.{bytes_read, ReaderKeepsUp}
 use Rattle.fix_base.specs.Payload.{LAST_TIME, IsPersistent}
-use Rattle.fix_base.specs.Seen.{Stores, grown, Note, acts_of, Seen, Moves, Goes}
+use Rattle.fix_base.specs.Seen.{Stores, grown, Note, acts_of, Seen, HoldsOn, Moves, Goes}
 use Rattle.fix_base.proofs.SeenLemmas.{Moves-nil}
 use Rattle.fix_base.proofs.RunLemmas.{EndRun-append}
 use Rattle.fix_base.proofs.ReaderLemmas.{reader}
 use Rattle.fix_base.proofs.WholeLemmas.{whole_start}
-use Rattle.fix_engine.specs.State.{Down, Ending, first_state}
+use Rattle.fix_engine.specs.State.{State, Down, Ending, first_state, open_behind}
 use Rattle.fix_engine.specs.declared.state.Ending.TheVariants as ending
 use Rattle.fix_engine.specs.declared.stop.RunEnd.{RunEnd}
 use Rattle.fix_engine.specs.declared.stop.RunEnd.TheVariants as run
@@ -45,32 +45,18 @@ tape_moves : (t t' : Option (List Act)) (xs acts : List Act) → t' ≡ grown t 
 tape_moves None t' xs acts e h = subst (λ o. IfSome o (λ tape. tape ≡ xs ++ acts)) (sym e) tt
 tape_moves (Some old) t' xs acts e h = subst (λ o. IfSome o (λ tape. tape ≡ xs ++ acts)) (sym e) (ap (λ l. l ++ acts) h)
 
--- a store that isn't told stays so
-untold : (acts : List Act) (o : Option End) → Stores acts None o → o ≡ None
-untold [] o s = s
-untold (act.Kept r ∷ acts) o s = untold acts o (subst (λ m. Stores acts m o) s.1 s.2)
-untold (act.KeepLost r ∷ acts) o s = untold acts o (subst (λ m. Stores acts m o) (elim s.1 [ inl a ↦ a | inr b ↦ b ]) s.2)
-untold (act.Opened ∷ acts) o s = untold acts o (subst (λ m. Stores acts m o) s.1 s.2)
-untold (act.Now t ∷ acts) o s = untold acts o (subst (λ m. Stores acts m o) s.1 s.2)
-untold (act.Read b ∷ acts) o s = untold acts o (subst (λ m. Stores acts m o) s.1 s.2)
-untold (act.Idle ∷ acts) o s = untold acts o (subst (λ m. Stores acts m o) s.1 s.2)
-untold (act.Ended ∷ acts) o s = untold acts o (subst (λ m. Stores acts m o) s.1 s.2)
-untold (act.Wrote b ∷ acts) o s = untold acts o (subst (λ m. Stores acts m o) s.1 s.2)
-untold (act.Handed n marked body ∷ acts) o s = untold acts o (subst (λ m. Stores acts m o) s.1 s.2)
-untold (act.HandLost n marked body ∷ acts) o s = untold acts o (subst (λ m. Stores acts m o) s.1 s.2)
-untold (act.Cut ∷ acts) o s = untold acts o (subst (λ m. Stores acts m o) s.1 s.2)
-untold (act.Stop ∷ acts) o s = untold acts o (subst (λ m. Stores acts m o) s.1 s.2)
-
 -- what each store that held the end holds behind the acts, a store that is told holds
-pub told_holds : (o o' : Option End) (acts : List Act) (from : End) (P : Option End → Type 0) → Stores acts o o' → ((held : Option End) → Stores acts (Some from) held → P held) → IfSome o (λ held. held ≡ from) → IfSome o' (λ held. P (Some held))
-told_holds None o' acts from P s follows h = subst (λ x. IfSome x (λ held. P (Some held))) (sym (untold acts o' s)) tt
-told_holds (Some old) None acts from P s follows h = tt
-told_holds (Some old) (Some new) acts from P s follows h = follows (Some new) (subst (λ f. Stores acts (Some f) (Some new)) h s)
+pub told_holds : (P Q : End → Type 0) (acts : List Act) (from : End) (R : Option End → Type 0) → HoldsOn P Q acts → ((held : Option End) → Stores acts (Some from) held → R held) → ((e : End) → P e → e ≡ from) → (e : End) → Q e → R (Some e)
+told_holds P Q acts from R moves follows h e q =
+    let was = moves.only e q in
+    follows (Some e) (subst (λ f. Stores acts (Some f) (Some e)) (h was.0 was.1) was.2)
+
+some_end : (a b : End) → Some a ≡ Some b → a ≡ b
+some_end a b e = cc
 
 -- a store that held the end holds the one behind the acts
-store_moves : (o o' : Option End) (acts : List Act) (from to : End) → Stores acts o o' → ((held : Option End) → Stores acts (Some from) held → held ≡ Some to) → IfSome o (λ held. held ≡ from) → IfSome o' (λ held. held ≡ to)
-store_moves None o' acts from to s follows h = subst (λ x. IfSome x (λ held. held ≡ to)) (sym (untold acts o' s)) tt
-store_moves (Some old) o' acts from to s follows h = subst (λ x. IfSome x (λ held. held ≡ to)) (sym (follows o' (subst (λ f. Stores acts (Some f) o') h s))) refl
+store_moves : (P Q : End → Type 0) (acts : List Act) (from to : End) → HoldsOn P Q acts → ((held : Option End) → Stores acts (Some from) held → held ≡ Some to) → ((e : End) → P e → e ≡ from) → (e : End) → Q e → e ≡ to
+store_moves P Q acts from to moves follows h e q = some_end e to (told_holds P Q acts from (λ held. held ≡ Some to) moves follows h e q)
 
 -- the same over two lists of acts
 stored_on : (first between : End) (xs ys : List Act) (doubt : Option Record) (last : End) → ((held : Option End) → Stores xs (Some first) held → held ≡ Some between) → ((held : Option End) → Stores ys (Some between) held → MayHold doubt last held) → (held : Option End) → Stores (xs ++ ys) (Some first) held → MayHold doubt last held
@@ -81,14 +67,15 @@ stored_on first between xs ys doubt last before behind held s =
 -- ---- a new session
 
 -- a session of which nothing is stored is in step with an outside that stores nothing
-pub new_in_step : (id : Identity) (w : Seen) (before : List Act) → IsTape w before → IsStored w new_end → IsInStep new_state before w (record { identity = id; live = live first_state no_bytes; stopped = None })
-new_in_step id w before tape stored = record {
+pub new_in_step : (id : Identity) (w : Seen) (before : List Act) → IsTape w before → IsStored w new_end → w.open_at ≡ Some 0 → IsInStep new_state before w (record { identity = id; live = live first_state no_bytes; stopped = None })
+new_in_step id w before tape stored opens = record {
   acts = [];
   to = new_state;
   run = steps.stop;
   beside = step.down refl (record { doubt = refl; numbers = record { expected = refl; stored = refl; out = refl } });
   tape = subst (λ (acts : List Act). IsTape w acts) (sym (append-nil before)) tape;
   stored = stored;
+  opens = opens;
 }
 
 -- ---- a run of turns
@@ -116,8 +103,8 @@ abbrev seated : Seat → Live → Option StopCause → Seat
 seated seat to stopped = record { identity = seat.identity; live = to; stopped = stopped }
 
 -- calls that lead an end to one that is in step
-moved : (start : EndState) (before : List Act) (old new : Seen) (seat : Seat) (to : Live) (stopped : Option StopCause) (notes : List Note) (P : EndState → Type 0) → Moves old new notes → ((e : EndState) → P e → IsBeside seat.identity to e) → (h : IsInStep start before old seat) → Leads seat.identity h.to (acts_of notes) P → IsInStep start before new (seated seat to stopped)
-moved start before old new seat to stopped notes P m beside h l =
+moved : (start : EndState) (before : List Act) (old new : Seen) (seat : Seat) (to : Live) (stopped : Option StopCause) (notes : List Note) (P : EndState → Type 0) → Moves old new notes → new.open_at ≡ Some to.state.last → ((e : EndState) → P e → IsBeside seat.identity to e) → (h : IsInStep start before old seat) → Leads seat.identity h.to (acts_of notes) P → IsInStep start before new (seated seat to stopped)
+moved start before old new seat to stopped notes P m opens beside h l =
     let b = beside l.to l.holds in
     record {
       acts = h.acts ++ acts_of notes;
@@ -125,18 +112,30 @@ moved start before old new seat to stopped notes P m beside h l =
       run = EndRun-append h.run l.run;
       beside = b;
       tape = subst (λ acts. IsTape new acts) (append_assoc before h.acts (acts_of notes)) (tape_moves old.tape new.tape (before ++ h.acts) (acts_of notes) m.tape h.tape);
-      stored = store_moves old.stored new.stored (acts_of notes) h.to.end l.to.end m.stored (λ held s. holds_end l.to.doubt l.to.end held (beside_settled seat.identity to l.to b).doubt (l.store held s)) h.stored;
+      stored = store_moves old.Holds new.Holds (acts_of notes) h.to.end l.to.end m.stored (λ held s. holds_end l.to.doubt l.to.end held (beside_settled seat.identity to l.to b).doubt (l.store held s)) h.stored;
+      opens = opens;
     }
 
 if_none : {A : Type 0} (o : Option A) (P : Type 0) → (o ≡ None → P) → IfNone o P
 if_none None P h = h refl
 if_none (Some x) P h = tt
 
+-- a store that isn't blamed is open
+open_unstopped : (r : Result ⊤ Ending) (s : State) → stop_cause (run_end r) ≡ None → open_behind r s ≡ Some s.last
+open_unstopped (Ok x) s none = refl
+open_unstopped (Err (ending.Closed why)) s none = refl
+open_unstopped (Err (ending.NotBuilt n)) s none = refl
+open_unstopped (Err ending.LinkFault) s none = refl
+open_unstopped (Err ending.AppFault) s none = refl
+open_unstopped (Err ending.NumbersSpent) s none = refl
+open_unstopped (Err ending.StoreFault) s none = cc
+open_unstopped (Err ending.OutOfMemory) s none = refl
+
 -- a session that isn't stopped by a run stays in step
-pub run_in_step : (n : ℕ) (seat : Seat) (r : Result ⊤ Ending) (to : Live) (old new : Seen) → seat.live.state.phase ≢ Down → Goes old new (λ notes. Ran seat.identity n seat.live notes r to) → IfNone (stop_cause (run_end r)) ((start : EndState) (before : List Act) → IsInStep start before old seat → IsInStep start before new (seated seat to (stop_cause (run_end r))))
-run_in_step n seat r to old new is_open g =
+pub run_in_step : (n : ℕ) (seat : Seat) (r : Result ⊤ Ending) (to : Live) (old new : Seen) → seat.live.state.phase ≢ Down → new.open_at ≡ open_behind r to.state → Goes old new (λ notes. Ran seat.identity n seat.live notes r to) → IfNone (stop_cause (run_end r)) ((start : EndState) (before : List Act) → IsInStep start before old seat → IsInStep start before new (seated seat to (stop_cause (run_end r))))
+run_in_step n seat r to old new is_open opens g =
     if_none (stop_cause (run_end r)) ((start : EndState) (before : List Act) → IsInStep start before old seat → IsInStep start before new (seated seat to (stop_cause (run_end r))))
-    (λ none start before h. moved start before old new seat to (stop_cause (run_end r)) g.0 (After seat.identity (run_end r) to) g.1 (λ e k. after_beside seat.identity r to e none k) h
+    (λ none start before h. moved start before old new seat to (stop_cause (run_end r)) g.0 (After seat.identity (run_end r) to) g.1 (opens ∙ open_unstopped r to.state none) (λ e k. after_beside seat.identity r to e none k) h
     (Ran-lawful seat.identity n seat.live g.0 r to g.2 h.to (beside_fits seat.identity seat.live h.to is_open h.beside)))
 
 -- only a run that made all its turns answers so
@@ -151,8 +150,8 @@ spent_ok (Err ending.StoreFault) e = cc
 spent_ok (Err ending.OutOfMemory) e = cc
 
 -- where all turns were made, the connection goes on
-pub run_connected : (n : ℕ) (seat : Seat) (r : Result ⊤ Ending) (to : Live) (stopped : Option StopCause) (old new : Seen) → seat.live.state.reading ≤ LAST_TIME → Goes old new (λ notes. Ran seat.identity n seat.live notes r to) → run_end r ≡ run.TurnsSpent → (start : EndState) (before : List Act) → IsConnected start before old seat → IsConnected start before new (seated seat to stopped)
-run_connected n seat r to stopped old new small g spent start before h =
+pub run_connected : (n : ℕ) (seat : Seat) (r : Result ⊤ Ending) (to : Live) (stopped : Option StopCause) (old new : Seen) → seat.live.state.reading ≤ LAST_TIME → new.open_at ≡ open_behind r to.state → Goes old new (λ notes. Ran seat.identity n seat.live notes r to) → run_end r ≡ run.TurnsSpent → (start : EndState) (before : List Act) → IsConnected start before old seat → IsConnected start before new (seated seat to stopped)
+run_connected n seat r to stopped old new small opens g spent start before h =
     let acts = acts_of g.0 in
     let ran : Ran seat.identity n seat.live g.0 (Ok tt) to = subst (λ (x : Result ⊤ Ending). Ran seat.identity n seat.live g.0 x to) (spent_ok r spent) g.2 in
     let l = Ran-lawful seat.identity n seat.live g.0 (Ok tt) to ran h.to h.fits in
@@ -165,7 +164,8 @@ run_connected n seat r to stopped old new small g spent start before h =
       run = EndRun-append h.run l.run;
       fits = l.holds;
       tape = subst (λ (w : List Act). IsTape new w) (append_assoc before (act.Opened ∷ h.acts) acts) (tape_moves old.tape new.tape (before ++ act.Opened ∷ h.acts) acts g.1.tape h.tape);
-      stored = store_moves old.stored new.stored acts h.to.end l.to.end g.1.stored (λ held s. holds_end l.to.doubt l.to.end held l.holds.on.settled.doubt (l.store held s)) h.stored;
+      stored = store_moves old.Holds new.Holds acts h.to.end l.to.end g.1.stored (λ held s. holds_end l.to.doubt l.to.end held l.holds.on.settled.doubt (l.store held s)) h.stored;
+      store_open = opens ∙ ap (λ (x : Result ⊤ Ending). open_behind x to.state) (spent_ok r spent);
       store = λ held s. holds_end l.to.doubt l.to.end held l.holds.on.settled.doubt (stored_on h.opened.end h.to.end h.acts acts l.to.doubt l.to.end h.store l.store held s);
     }
 
@@ -242,19 +242,19 @@ pub begin_lawful : {T : Type 0} (old new : Seat) (r : Result T BeginFault) (a b 
 begin_lawful old new r a b g = (g.0, g.1, Begins-lawful old new r g.0 g.2)
 
 -- a session that isn't stopped is in step on the new connection
-Begins-in_step : {T : Type 0} (old new : Seat) (r : Result T BeginFault) (a b : Seen) (notes : List Note) → Moves a b notes → BeginsTo old r new notes → IfNone new.stopped ((start : EndState) (before : List Act) → IsInStep start before a old → IsInStep start before b new)
-Begins-in_step old new r a b notes m (opened_to {x = x} t) =
-    λ start before h. moved start before a b old (begun old.live t) None notes (Fits old.identity (begun old.live t)) m (λ e f. step.connected f) h
+Begins-in_step : {T : Type 0} (old new : Seat) (r : Result T BeginFault) (a b : Seen) (notes : List Note) → b.open_at ≡ a.open_at → Moves a b notes → BeginsTo old r new notes → IfNone new.stopped ((start : EndState) (before : List Act) → IsInStep start before a old → IsInStep start before b new)
+Begins-in_step old new r a b notes same m (opened_to {x = x} t) =
+    λ start before h. moved start before a b old (begun old.live t) None notes (Fits old.identity (begun old.live t)) m (same ∙ h.opens) (λ e f. step.connected f) h
     (Begins-lawful old new (Ok x) notes (opened_to t) h.to (beside_settled old.identity old.live h.to h.beside))
-Begins-in_step old new r a b notes m no_memory = tt
-Begins-in_step old new r a b notes m (no_memory_to_open t) = tt
+Begins-in_step old new r a b notes same m no_memory = tt
+Begins-in_step old new r a b notes same m (no_memory_to_open t) = tt
 
-pub begin_in_step : {T : Type 0} (old new : Seat) (r : Result T BeginFault) (a b : Seen) → Goes a b (BeginsTo old r new) → IfNone new.stopped ((start : EndState) (before : List Act) → IsInStep start before a old → IsInStep start before b new)
-begin_in_step old new r a b g = Begins-in_step old new r a b g.0 g.1 g.2
+pub begin_in_step : {T : Type 0} (old new : Seat) (r : Result T BeginFault) (a b : Seen) → b.open_at ≡ a.open_at → Goes a b (BeginsTo old r new) → IfNone new.stopped ((start : EndState) (before : List Act) → IsInStep start before a old → IsInStep start before b new)
+begin_in_step old new r a b same g = Begins-in_step old new r a b g.0 same g.1 g.2
 
 -- and from there on it is connected
-Begins-connected : {T : Type 0} (old new : Seat) (r : Result T BeginFault) (a b : Seen) (notes : List Note) → Moves a b notes → BeginsTo old r new notes → IfNone new.stopped ((start : EndState) (before : List Act) (h : IsInStep start before a old) → (time : ℕ) × IsConnected h.to (before ++ h.acts ++ act.Now time ∷ []) b new)
-Begins-connected old new r a b notes m (opened_to t) =
+Begins-connected : {T : Type 0} (old new : Seat) (r : Result T BeginFault) (a b : Seen) (notes : List Note) → b.open_at ≡ a.open_at → Moves a b notes → BeginsTo old r new notes → IfNone new.stopped ((start : EndState) (before : List Act) (h : IsInStep start before a old) → (time : ℕ) × IsConnected h.to (before ++ h.acts ++ act.Now time ∷ []) b new)
+Begins-connected old new r a b notes same m (opened_to t) =
     λ start before h.
     (let e = h.to in
     let settled = beside_settled old.identity old.live e h.beside in (
@@ -268,29 +268,30 @@ Begins-connected old new r a b notes m (opened_to t) =
         run = steps.stop;
         fits = fits_opened old.identity old.live t e settled;
         tape = subst (λ (w : List Act). IsTape b w) (again before h.acts t) (tape_moves a.tape b.tape (before ++ h.acts) (act.Now t ∷ act.Opened ∷ []) m.tape h.tape);
-        stored = store_moves a.stored b.stored (act.Now t ∷ act.Opened ∷ []) e.end e.end m.stored (λ held s. s.2.2 ∙ s.2.1 ∙ s.1) h.stored;
+        stored = store_moves a.Holds b.Holds (act.Now t ∷ act.Opened ∷ []) e.end e.end m.stored (λ held s. s.2.2 ∙ s.2.1 ∙ s.1) h.stored;
+        store_open = same ∙ h.opens;
         store = λ held s. s;
       },
     ))
   where
     again : (xs ys : List Act) (time : ℕ) → (xs ++ ys) ++ act.Now time ∷ act.Opened ∷ [] ≡ (xs ++ ys ++ act.Now time ∷ []) ++ act.Opened ∷ []
     again xs ys time = simp append_assoc
-Begins-connected old new r a b notes m no_memory = tt
-Begins-connected old new r a b notes m (no_memory_to_open t) = tt
+Begins-connected old new r a b notes same m no_memory = tt
+Begins-connected old new r a b notes same m (no_memory_to_open t) = tt
 
-pub begin_connected : {T : Type 0} (old new : Seat) (r : Result T BeginFault) (a b : Seen) → Goes a b (BeginsTo old r new) → IfNone new.stopped ((start : EndState) (before : List Act) (h : IsInStep start before a old) → (time : ℕ) × IsConnected h.to (before ++ h.acts ++ act.Now time ∷ []) b new)
-begin_connected old new r a b g = Begins-connected old new r a b g.0 g.1 g.2
+pub begin_connected : {T : Type 0} (old new : Seat) (r : Result T BeginFault) (a b : Seen) → b.open_at ≡ a.open_at → Goes a b (BeginsTo old r new) → IfNone new.stopped ((start : EndState) (before : List Act) (h : IsInStep start before a old) → (time : ℕ) × IsConnected h.to (before ++ h.acts ++ act.Now time ∷ []) b new)
+begin_connected old new r a b same g = Begins-connected old new r a b g.0 same g.1 g.2
 
 -- ---- the exits of `begin`
 
 pub opened_lawful : (old : Seat) (t : ℕ) (a b : Seen) → Goes a b (Opens (Ok t)) → Goes a b (IsLawfulBegin {T = ⊤} old (Ok tt) (seated old (begun old.live t) None))
 opened_lawful old t a b g = begin_lawful {T = ⊤} old (seated old (begun old.live t) None) (Ok tt) a b (g.0, g.1, begins_ok old tt t g.0 g.2)
 
-pub opened_in_step : (old : Seat) (t : ℕ) (a b : Seen) → Goes a b (Opens (Ok t)) → (start : EndState) (before : List Act) → IsInStep start before a old → IsInStep start before b (seated old (begun old.live t) None)
-opened_in_step old t a b g = begin_in_step {T = ⊤} old (seated old (begun old.live t) None) (Ok tt) a b (g.0, g.1, begins_ok old tt t g.0 g.2)
+pub opened_in_step : (old : Seat) (t : ℕ) (a b : Seen) → b.open_at ≡ a.open_at → Goes a b (Opens (Ok t)) → (start : EndState) (before : List Act) → IsInStep start before a old → IsInStep start before b (seated old (begun old.live t) None)
+opened_in_step old t a b same g = begin_in_step {T = ⊤} old (seated old (begun old.live t) None) (Ok tt) a b same (g.0, g.1, begins_ok old tt t g.0 g.2)
 
-pub opened_connected : (old : Seat) (t : ℕ) (a b : Seen) → Goes a b (Opens (Ok t)) → (start : EndState) (before : List Act) (h : IsInStep start before a old) → (time : ℕ) × IsConnected h.to (before ++ h.acts ++ act.Now time ∷ []) b (seated old (begun old.live t) None)
-opened_connected old t a b g = begin_connected {T = ⊤} old (seated old (begun old.live t) None) (Ok tt) a b (g.0, g.1, begins_ok old tt t g.0 g.2)
+pub opened_connected : (old : Seat) (t : ℕ) (a b : Seen) → b.open_at ≡ a.open_at → Goes a b (Opens (Ok t)) → (start : EndState) (before : List Act) (h : IsInStep start before a old) → (time : ℕ) × IsConnected h.to (before ++ h.acts ++ act.Now time ∷ []) b (seated old (begun old.live t) None)
+opened_connected old t a b same g = begin_connected {T = ⊤} old (seated old (begun old.live t) None) (Ok tt) a b same (g.0, g.1, begins_ok old tt t g.0 g.2)
 
 pub not_opened_lawful : (old : Seat) (fault : BeginFault) (a b : Seen) → Goes a b (Opens (Err fault)) → Goes a b (IsLawfulBegin {T = ⊤} old (Err fault) (stopped_for_memory old))
 not_opened_lawful old fault a b g = begin_lawful {T = ⊤} old (stopped_for_memory old) (Err fault) a b (g.0, g.1, begins_err old fault g.0 g.2)

@@ -27,5 +27,6 @@ pub mod LookBackLemmas
 pub mod Shown
 pub mod Recounting
 pub mod PeerEnds
+pub mod StoreLemmas
 pub mod PlainLemmas
 pub mod KindLemmas

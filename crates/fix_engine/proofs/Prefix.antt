@@ -14,7 +14,7 @@ use Rattle.fix_base.specs.Says.{fields_text, body_of}
 use Rattle.fix_base.specs.Sealed.{sealed}
 use Rattle.fix_base.specs.declared.act.Act.TheVariants as act
 use Rattle.fix_base.specs.declared.entry.Record.TheVariants.{Push, Expect}
-use Rattle.fix_base.specs.Seen.{Note, Did, Failed, StorePart, LinkPart, AppPart, Seen, Faults, Counts, NoneRose, Goes}
+use Rattle.fix_base.specs.Seen.{Note, Did, Failed, Asked, StorePart, LinkPart, AppPart, Seen, Faults, Counts, NoneRose, Goes}
 use Rattle.fix_frame.specs.Sealable.{message_text}
 use Rattle.fix_frame.specs.Given.{GivesFrame}
 use Rattle.fix_engine.specs.State.{State, Phase, Down, AwaitLogon, Up, Ending, Say, Step, with_kept, with_last, counted}
@@ -39,6 +39,7 @@ IsFaultless-append : (xs ys : List Note) → IsFaultless xs → IsFaultless ys �
 IsFaultless-append [] ys h k = k
 IsFaultless-append (Did a ∷ xs) ys h k = IsFaultless-append xs ys h k
 IsFaultless-append (Failed p ∷ xs) ys h k = absurd h
+IsFaultless-append (Asked d ∷ xs) ys h k = IsFaultless-append xs ys h k
 
 -- where no count rose nothing failed
 faultless : (old new : Faults) (notes : List Note) → Counts old new notes → NoneRose old new → IsFaultless notes
@@ -47,6 +48,7 @@ faultless old new (Did a ∷ notes) c n = faultless old new notes (record { stor
 faultless old new (Failed StorePart ∷ notes) c n = absurd (n.store (let h = c.store in omega arith))
 faultless old new (Failed (LinkPart unsent) ∷ notes) c n = absurd (n.link (let h = c.link in omega arith))
 faultless old new (Failed AppPart ∷ notes) c n = absurd (n.app (let h = c.app in omega arith))
+faultless old new (Asked d ∷ notes) c n = faultless old new notes (record { store = c.store; link = c.link; app = c.app }) n
 
 -- it goes on to some end, with no further fault and with memory, at which Good holds
 record Onward {S : Type 0} (Good : S → Type 0) (R : S → List Note → Result ⊤ Ending → S → Type 0) (s : S) (notes : List Note) : Type 0 where

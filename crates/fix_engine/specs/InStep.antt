@@ -30,11 +30,11 @@ IsTape w acts = IfSome w.tape (λ tape. tape ≡ acts)
 
 -- where the stored end is told it is this one
 abbrev pub IsStored : Seen → End → Type 0
-IsStored w end = IfSome w.stored (λ held. held ≡ end)
+IsStored w end = (held : End) → w.Holds held → held ≡ end
 
 -- a session is in step with what is outside of it: since the end was `start`, and the tape had the acts `before`, a
--- lawful run led to an end that is in step with the session. The tape has the acts of the run behind those, and this
--- end is stored
+-- lawful run led to an end that is in step with the session. The tape has the acts of the run behind those, this end is
+-- stored, and the store is open with the session's entries
 pub record IsInStep (start : EndState) (before : List Act) (w : Seen) (seat : Seat) : Type 0 where
   pub acts : List Act
   pub to : EndState
@@ -42,6 +42,7 @@ pub record IsInStep (start : EndState) (before : List Act) (w : Seen) (seat : Se
   pub beside : IsBeside seat.identity seat.live to
   pub tape : IsTape w (before ++ acts)
   pub stored : IsStored w to.end
+  pub opens : w.open_at ≡ Some seat.live.state.last
 
 -- the same since some start
 pub record StandsInStep (w : Seen) (seat : Seat) : Type 0 where
@@ -80,6 +81,7 @@ pub record IsConnected (start : EndState) (before : List Act) (w : Seen) (seat :
   pub fits : Fits seat.identity seat.live to
   pub tape : IsTape w (before ++ act.Opened ∷ acts)
   pub stored : IsStored w to.end
+  pub store_open : w.open_at ≡ Some seat.live.state.last
   pub store : (held : Option End) → Stores acts (Some opened.end) held → held ≡ Some to.end
 
 -- what these acts read on a connection is a front of what a counterparty wrote that keeps its messages to be sent

@@ -7,6 +7,7 @@ pub mod Answer
 pub mod Written
 pub mod Turn
 pub mod Run
+pub mod Store
 pub mod Plain
 pub mod Lawful
 pub mod Turns

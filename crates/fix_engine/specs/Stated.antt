@@ -1,7 +1,7 @@
 -- What is stated of a run in which no part failed.
 use Rattle.std.specs.Prelude.{◌≡◌, ◌≢◌, ◌⊎◌, ℕ, List, [], ◌∷◌, ◌++◌, Result, Err, ⊤}
 use Rattle.fix_base.specs.declared.identity.Identity.{Identity}
-use Rattle.fix_base.specs.Seen.{Note, Did, Failed}
+use Rattle.fix_base.specs.Seen.{Note, Did, Failed, Asked}
 use Rattle.fix_engine.specs.State.{Ending}
 use Rattle.fix_engine.specs.declared.state.Ending.TheVariants as ending
 use Rattle.fix_engine.specs.declared.stop.RunEnd.{RunEnd}
@@ -14,6 +14,7 @@ abbrev pub IsFaultless : List Note → Type 0
 IsFaultless [] = ⊤
 IsFaultless (Did act ∷ notes) = IsFaultless notes
 IsFaultless (Failed part ∷ notes) = ⊥
+IsFaultless (Asked draft ∷ notes) = IsFaultless notes
 
 -- with no further fault and with memory it goes on to some end
 pub record GoesOn {S : Type 0} (R : S → List Note → Result ⊤ Ending → S → Type 0) (s : S) (notes : List Note) : Type 0 where

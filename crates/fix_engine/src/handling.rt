@@ -1,8 +1,8 @@
-ghost use Rattle.std.specs.Prelude.{◌≡◌, ◌≤◌};
+ghost use Rattle.std.specs.Prelude.{◌≡◌, Some, ◌≤◌};
 ghost use Rattle.fix_base.specs.Session.{IsValidIdentity};
 ghost use Rattle.fix_base.specs.Shape.{IsFrame};
 ghost use Rattle.fix_base.specs.Seen.{Goes};
-ghost use Rattle.fix_engine.specs.State.{IsInRange};
+ghost use Rattle.fix_engine.specs.State.{IsInRange, open_behind};
 ghost use Rattle.fix_engine.specs.Answer.{Handled};
 ghost use Rattle.fix_engine.specs.Turn.{live, Taken};
 
@@ -23,7 +23,9 @@ fn handle<O: Outside>(
     requires valid { IsValidIdentity party.now.identity }
     requires frame { IsFrame frame.now }
     requires range { IsInRange state.old }
+    requires opens { (O.seen o.old).open_at ≡ Some state.old.last }
     ensures range { IsInRange state.new }
+    ensures opens { (O.seen o.new).open_at ≡ open_behind result state.new }
     ensures notes { Goes (O.seen o.old) (O.seen o.new) (λ notes. Handled party.now.identity state.old frame.now notes result state.new) }
 {
     let inbound = present(frame);
@@ -40,7 +42,9 @@ pub fn take_frames<O: Outside>(
 ) -> Result<(), Ending>
     requires valid { IsValidIdentity party.now.identity }
     requires range { IsInRange state.old }
+    requires opens { (O.seen o.old).open_at ≡ Some state.old.last }
     ensures range { IsInRange state.new }
+    ensures opens { (O.seen o.new).open_at ≡ open_behind result state.new }
     ensures notes { Goes (O.seen o.old) (O.seen o.new) (λ notes. Taken party.now.identity (live state.old reader.old) notes result (live state.new reader.new)) }
 {
     while let Some(frame) = reader.next() {

@@ -1,5 +1,5 @@
 //! What holds of a session whatever it is called with, each law on a function that does nothing.
-ghost use Rattle.std.specs.Prelude.{List, None};
+ghost use Rattle.std.specs.Prelude.{◌≡◌, List, Some, None};
 ghost use Rattle.fix_base.specs.Lists.{IsPrefixOf};
 ghost use Rattle.fix_base.specs.Session.{mirrored};
 ghost use Rattle.fix_base.specs.Payload.{IsPersistent};
@@ -7,19 +7,18 @@ ghost use Rattle.fix_base.specs.End.{new_end};
 ghost use Rattle.fix_base.specs.EndStep.{EndState, new_state};
 ghost use Rattle.fix_base.specs.Agrees.{Agrees};
 ghost use Rattle.fix_base.specs.Reader.{bytes_read, ReaderKeepsUp};
-ghost use Rattle.fix_base.specs.Seen.{Seen};
 ghost use Rattle.fix_engine.specs.State.{first_state};
 ghost use Rattle.fix_engine.specs.Turn.{Live, live};
 ghost use Rattle.fix_engine.specs.Run.{no_bytes};
 ghost use Rattle.fix_engine.specs.InStep.{IsTape, IsStored, IsInStep, HasServed, bytes_written};
 
-use crate::RunEnd;
+use crate::{Outside, RunEnd};
 use fix_base::{Act, Identity};
 
-/// A session that was just opened is in step with an outside that stores nothing, whatever acts
+/// A session that was just opened is in step with an open outside that stores nothing, whatever acts
 /// its tape has already.
-pub fn a_new_session_is_in_step()
-    ensures { (id : Identity) (w : Seen) (before : List Act) → IsTape w before → IsStored w new_end → IsInStep new_state before w (record { identity = id; live = live first_state no_bytes; stopped = None }) }
+pub fn a_new_session_is_in_step<O: Outside>(o: &O)
+    ensures { (id : Identity) (before : List Act) → IsTape (O.seen o.now) before → IsStored (O.seen o.now) new_end → (O.seen o.now).open_at ≡ Some 0 → IsInStep new_state before (O.seen o.now) (record { identity = id; live = live first_state no_bytes; stopped = None }) }
 {}
 
 /// Where both ends of a connection are sessions of this engine, and what the one read is a front of

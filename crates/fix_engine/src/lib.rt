@@ -18,8 +18,12 @@ mod stop;
 mod turn;
 mod writing;
 
+pub use fix_parts::{
+    App, Clock, Handed, KeptTape, Link, MemoryApp, MemoryClock, MemoryLink, NoTape, Noted,
+    ReadTurn, Said, Tape, WriteTurn,
+};
 pub use laws::{a_new_session_is_in_step, two_sessions_agree};
-pub use outside::{KeepFault, Outside};
+pub use outside::{FetchFault, KeepFault, Kind, LoadFault, Outside};
 pub use plain::Plain;
 pub use session::Session;
 pub use state::{Decision, Ending, Phase, Refusal, Say, State, Step, Why};

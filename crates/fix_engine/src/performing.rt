@@ -1,8 +1,8 @@
-ghost use Rattle.std.specs.Prelude.{◌≡◌, ◌≤◌, ◌+◌, IfOk, List};
+ghost use Rattle.std.specs.Prelude.{◌≡◌, ◌≢◌, Some, Err, ◌≤◌, ◌+◌, IfOk, List};
 ghost use Rattle.fix_base.specs.Session.{IsValidIdentity};
 ghost use Rattle.fix_base.specs.Shape.{IsFrame};
 ghost use Rattle.fix_base.specs.Seen.{Goes};
-ghost use Rattle.fix_engine.specs.State.{IsInRange};
+ghost use Rattle.fix_engine.specs.State.{IsInRange, open_behind};
 ghost use Rattle.fix_engine.specs.Inbound.{IsInbound};
 ghost use Rattle.fix_engine.specs.Presented.{inbound_of};
 ghost use Rattle.fix_engine.specs.Answer.{Performed, Carried};
@@ -27,7 +27,9 @@ fn hand<O: Outside>(
 ) -> Result<(), Ending>
     requires frame { IsFrame inbound.now.frame.now }
     requires presents { IsInbound inbound.now.frame.now (inbound_of inbound.now) }
-    ensures { Goes (O.seen o.old) (O.seen o.new) (λ notes. Performed party.now.identity inbound.entry.now.frame.now state.now (step.Hand number marked) notes result state.now) }
+    ensures opens { (O.seen o.new).open_at ≡ (O.seen o.old).open_at }
+    ensures fault { result ≢ Err Ending.StoreFault }
+    ensures notes { Goes (O.seen o.old) (O.seen o.new) (λ notes. Performed party.now.identity inbound.entry.now.frame.now state.now (step.Hand number marked) notes result state.now) }
 {
     let body = match body_of(party.alloc, inbound.frame) {
         Ok(body) => body,
@@ -59,7 +61,9 @@ fn perform<O: Outside>(
     requires frame { IsFrame inbound.now.frame.now }
     requires presents { IsInbound inbound.now.frame.now (inbound_of inbound.now) }
     requires range { IsInRange state.old }
+    requires opens { (O.seen o.old).open_at ≡ Some state.old.last }
     ensures range { IsInRange state.new }
+    ensures opens { (O.seen o.new).open_at ≡ open_behind result state.new }
     ensures notes { Goes (O.seen o.old) (O.seen o.new) (λ notes. Performed party.now.identity inbound.entry.now.frame.now state.old step notes result state.new) }
 {
     match step {
@@ -97,7 +101,9 @@ pub fn carry_out<O: Outside>(
     requires frame { IsFrame inbound.now.frame.now }
     requires presents { IsInbound inbound.now.frame.now (inbound_of inbound.now) }
     requires range { IsInRange state.old }
+    requires opens { (O.seen o.old).open_at ≡ Some state.old.last }
     ensures range { IsInRange state.new }
+    ensures opens { (O.seen o.new).open_at ≡ open_behind result state.new }
     ensures notes { Goes (O.seen o.old) (O.seen o.new) (λ notes. Carried party.now.identity inbound.entry.now.frame.now state.old steps.now notes result state.new) }
 {
     for step in steps {

@@ -1,15 +1,18 @@
-ghost use Rattle.std.specs.Prelude.{◌≡◌, ◌<◌, length, MatchResult, OnOk};
+ghost use Rattle.std.specs.Prelude.{◌≡◌, ◌<◌, ◌∷◌, [], length, is_ok, option_map, MatchResult, IfOk, OnOk};
 ghost use Rattle.fix_base.specs.Payload.{IsKeepable};
-ghost use Rattle.fix_base.specs.Seen.{Moves};
+ghost use Rattle.fix_base.specs.Seen.{Moves, Asked};
+ghost use Rattle.fix_fields.specs.Drafted.{draft_body};
 ghost use Rattle.fix_parts.specs.Link.{IsInRoom, IsInBytes, LinkReads, LinkWrites};
-ghost use Rattle.fix_parts.specs.App.{AppTakes, HasKind};
+ghost use Rattle.fix_parts.specs.App.{AppTakes, AppAsks, HasKind};
 ghost use Rattle.fix_base.specs.Parts.{ClockReads};
-ghost use Rattle.fix_engine.specs.Outside.{marks, tells_time, reads, writes, keeps, hands};
-ghost use Rattle.fix_engine.specs.Plain.{store_from, StoreKeeps, stored_of_end, link_in, app_in, clock_in, tape_in, store_in, seen_of, with_clock_of, with_tape_of, with_link_of, with_store_of, with_app_of};
+ghost use Rattle.fix_engine.specs.Outside.{marks, tells_time, reads, writes, keeps, hands, loads, fetches, HasPlace, HasEntry, open_kept, open_loaded, open_fetched, LoadAnswers, FetchAnswers};
+ghost use Rattle.fix_engine.specs.Store.{store_from, StoreKeeps, open_in, stored_of_end};
+ghost use Rattle.fix_engine.specs.Plain.{link_in, app_in, clock_in, tape_in, store_in, seen_of, with_clock_of, with_tape_of, with_link_of, with_store_of, with_app_of, with_app_alone_of};
 
 use crate::memory_store::MemoryStore;
-use crate::{KeepFault, Outside};
-use fix_base::{OutOfMemory, Record, Stored};
+use crate::{FetchFault, KeepFault, Kind, LoadFault, Outside};
+use fix_base::{OutOfMemory, Record, SeqNum, Stored};
+use fix_fields::Draft;
 use fix_parts::{App, Clock, Handed, Link, Noted, ReadTurn, Said, Tape, WriteTurn};
 use std::alloc::Global;
 
@@ -85,6 +88,7 @@ impl<L: Link, A: App, C: Clock, T: Tape> Outside for Plain<L, A, C, T> {
     fn now(&mut self) -> Result<u64, OutOfMemory>
         ensures noted { Moves (seen_of (T.told (tape_in self.old)) (store_in self.old) (L.link (link_in self.old)) (A.app (app_in self.old)) (C.readings (clock_in self.old))) (seen_of (T.told (tape_in self.new)) (store_in self.new) (L.link (link_in self.new)) (A.app (app_in self.new)) (C.readings (clock_in self.new))) (tells_time result) }
         ensures clock { MatchResult result (λ time. ClockReads time (C.readings (clock_in self.old)) (C.readings (clock_in self.new))) (λ e. clock_in self.new ≡ clock_in self.old) }
+        ensures opens { open_in (store_in self.new) ≡ open_in (store_in self.old) }
         ensures others { self.new ≡ with_clock_of self.old self.new }
     {
         self.tape.reserve(&Noted::Now(0))?;
@@ -93,8 +97,25 @@ impl<L: Link, A: App, C: Clock, T: Tape> Outside for Plain<L, A, C, T> {
         Ok(time)
     }
 
+    fn load(&mut self) -> Result<Stored, LoadFault>
+        ensures noted { Moves (seen_of (T.told (tape_in self.old)) (store_in self.old) (L.link (link_in self.old)) (A.app (app_in self.old)) (C.readings (clock_in self.old))) (seen_of (T.told (tape_in self.new)) (store_in self.new) (L.link (link_in self.new)) (A.app (app_in self.new)) (C.readings (clock_in self.new))) (loads result) }
+        ensures answers { LoadAnswers result (seen_of (T.told (tape_in self.old)) (store_in self.old) (L.link (link_in self.old)) (A.app (app_in self.old)) (C.readings (clock_in self.old))) }
+        ensures opens { open_in (store_in self.new) ≡ open_loaded result }
+        ensures store { store_in self.new ≡ record (store_in self.old) { is_open = is_ok result } }
+        ensures gives { IfOk result (λ stored. stored ≡ stored_of_end (store_in self.old).held) }
+    {
+        self.store.shut();
+        if self.tape.reserve(&Noted::Stop).is_err() {
+            return Err(LoadFault::OutOfMemory);
+        }
+        self.tape.note(&Noted::Stop);
+        self.store.unlock();
+        Ok(self.store.stored())
+    }
+
     fn mark(&mut self, cut: bool) -> Result<(), OutOfMemory>
         ensures noted { Moves (seen_of (T.told (tape_in self.old)) (store_in self.old) (L.link (link_in self.old)) (A.app (app_in self.old)) (C.readings (clock_in self.old))) (seen_of (T.told (tape_in self.new)) (store_in self.new) (L.link (link_in self.new)) (A.app (app_in self.new)) (C.readings (clock_in self.new))) (marks cut result) }
+        ensures opens { open_in (store_in self.new) ≡ open_in (store_in self.old) }
         ensures others { self.new ≡ with_tape_of self.old self.new }
     {
         self.tape.reserve(&Noted::Opened)?;
@@ -111,6 +132,7 @@ impl<L: Link, A: App, C: Clock, T: Tape> Outside for Plain<L, A, C, T> {
         ensures noted { Moves (seen_of (T.told (tape_in self.old)) (store_in self.old) (L.link (link_in self.old)) (A.app (app_in self.old)) (C.readings (clock_in self.old))) (seen_of (T.told (tape_in self.new)) (store_in self.new) (L.link (link_in self.new)) (A.app (app_in self.new)) (C.readings (clock_in self.new))) (reads result room.new) }
         ensures in_room { IsInRoom result room.new }
         ensures link { LinkReads result room.new (L.link (link_in self.old)) (L.link (link_in self.new)) }
+        ensures opens { open_in (store_in self.new) ≡ open_in (store_in self.old) }
         ensures others { self.new ≡ with_link_of self.old self.new }
     {
         if reserve_read(&mut self.tape, room).is_err() {
@@ -138,6 +160,7 @@ impl<L: Link, A: App, C: Clock, T: Tape> Outside for Plain<L, A, C, T> {
         ensures noted { Moves (seen_of (T.told (tape_in self.old)) (store_in self.old) (L.link (link_in self.old)) (A.app (app_in self.old)) (C.readings (clock_in self.old))) (seen_of (T.told (tape_in self.new)) (store_in self.new) (L.link (link_in self.new)) (A.app (app_in self.new)) (C.readings (clock_in self.new))) (writes result bytes.now) }
         ensures in_bytes { IsInBytes result bytes.now }
         ensures link { LinkWrites result bytes.now (L.link (link_in self.old)) (L.link (link_in self.new)) }
+        ensures opens { open_in (store_in self.new) ≡ open_in (store_in self.old) }
         ensures others { self.new ≡ with_link_of self.old self.new }
     {
         if self.tape.reserve(&Noted::Wrote(bytes)).is_err() {
@@ -157,9 +180,11 @@ impl<L: Link, A: App, C: Clock, T: Tape> Outside for Plain<L, A, C, T> {
     }
 
     fn keep(&mut self, kept: &Record) -> Result<(), KeepFault>
-        requires { IsKeepable kept.now }
+        requires payload { IsKeepable kept.now }
+        requires place { HasPlace kept.now (open_in (store_in self.old)) }
         ensures noted { Moves (seen_of (T.told (tape_in self.old)) (store_in self.old) (L.link (link_in self.old)) (A.app (app_in self.old)) (C.readings (clock_in self.old))) (seen_of (T.told (tape_in self.new)) (store_in self.new) (L.link (link_in self.new)) (A.app (app_in self.new)) (C.readings (clock_in self.new))) (keeps result kept.now) }
         ensures store { StoreKeeps result kept.now (store_in self.old) (store_in self.new) }
+        ensures opens { open_in (store_in self.new) ≡ open_kept result kept.now (open_in (store_in self.old)) }
         ensures others { self.new ≡ with_store_of self.old self.new }
     {
         if self.tape.reserve(&Noted::Kept(kept)).is_err() {
@@ -178,10 +203,21 @@ impl<L: Link, A: App, C: Clock, T: Tape> Outside for Plain<L, A, C, T> {
         }
     }
 
+    fn fetch(&mut self, n: SeqNum, into: &mut Vec<u8>) -> Result<Kind, FetchFault>
+        requires { HasEntry n (open_in (store_in self.old)) }
+        ensures noted { Moves (seen_of (T.told (tape_in self.old)) (store_in self.old) (L.link (link_in self.old)) (A.app (app_in self.old)) (C.readings (clock_in self.old))) (seen_of (T.told (tape_in self.new)) (store_in self.new) (L.link (link_in self.new)) (A.app (app_in self.new)) (C.readings (clock_in self.new))) (fetches result) }
+        ensures answers { FetchAnswers result n into.new.items (seen_of (T.told (tape_in self.old)) (store_in self.old) (L.link (link_in self.old)) (A.app (app_in self.old)) (C.readings (clock_in self.old))) }
+        ensures opens { open_in (store_in self.new) ≡ open_fetched result (open_in (store_in self.old)) }
+        ensures stays { self.new ≡ self.old }
+    {
+        self.store.fetch(n, into)
+    }
+
     fn hand(&mut self, h: &Handed<'_>) -> Said
         requires { HasKind h.now }
         ensures noted { Moves (seen_of (T.told (tape_in self.old)) (store_in self.old) (L.link (link_in self.old)) (A.app (app_in self.old)) (C.readings (clock_in self.old))) (seen_of (T.told (tape_in self.new)) (store_in self.new) (L.link (link_in self.new)) (A.app (app_in self.new)) (C.readings (clock_in self.new))) (hands result h.now) }
         ensures app { AppTakes result h.now (A.app (app_in self.old)) (A.app (app_in self.new)) }
+        ensures opens { open_in (store_in self.new) ≡ open_in (store_in self.old) }
         ensures others { self.new ≡ with_app_of self.old self.new }
     {
         if self.tape.reserve(&Noted::Handed(h)).is_err() {
@@ -198,6 +234,15 @@ impl<L: Link, A: App, C: Clock, T: Tape> Outside for Plain<L, A, C, T> {
             }
             Said::OutOfMemory => Said::OutOfMemory,
         }
+    }
+
+    fn ask(&mut self) -> Option<Draft>
+        ensures noted { Moves (seen_of (T.told (tape_in self.old)) (store_in self.old) (L.link (link_in self.old)) (A.app (app_in self.old)) (C.readings (clock_in self.old))) (seen_of (T.told (tape_in self.new)) (store_in self.new) (L.link (link_in self.new)) (A.app (app_in self.new)) (C.readings (clock_in self.new))) (Asked (option_map draft_body result) ∷ []) }
+        ensures opens { open_in (store_in self.new) ≡ open_in (store_in self.old) }
+        ensures app { AppAsks (option_map draft_body result) (A.app (app_in self.old)) (A.app (app_in self.new)) }
+        ensures others { self.new ≡ with_app_alone_of self.old self.new }
+    {
+        self.app.ask()
     }
 }
 

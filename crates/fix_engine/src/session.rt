@@ -47,7 +47,8 @@ impl Model for Session {
 
 // Reads the clock, and notes that a connection is opened.
 fn open_connection<O: Outside>(o: &mut O) -> Result<u64, BeginFault>
-    ensures { Goes (O.seen o.old) (O.seen o.new) (Opens result) }
+    ensures opens { (O.seen o.new).open_at ≡ (O.seen o.old).open_at }
+    ensures notes { Goes (O.seen o.old) (O.seen o.new) (Opens result) }
 {
     match o.now() {
         Ok(reading) => match o.mark(false) {

@@ -1,7 +1,7 @@
-ghost use Rattle.std.specs.Prelude.{◌≡◌, ◌≤◌, length};
+ghost use Rattle.std.specs.Prelude.{◌≡◌, Some, ◌≤◌, length};
 ghost use Rattle.fix_base.specs.Session.{IsValidIdentity};
 ghost use Rattle.fix_base.specs.Seen.{Goes};
-ghost use Rattle.fix_engine.specs.State.{IsInRange, with_reading};
+ghost use Rattle.fix_engine.specs.State.{IsInRange, open_behind, with_reading};
 ghost use Rattle.fix_engine.specs.Fold.{AndThen};
 ghost use Rattle.fix_engine.specs.Turn.{live, Fed, Heard, Clocked, KeptExpected, settles_of, Turn, Turns, is_cut_of, Ran};
 
@@ -28,7 +28,9 @@ fn take_bytes<O: Outside>(
 ) -> Result<(), Ending>
     requires valid { IsValidIdentity party.now.identity }
     requires range { IsInRange state.old }
+    requires opens { (O.seen o.old).open_at ≡ Some state.old.last }
     ensures range { IsInRange state.new }
+    ensures opens { (O.seen o.new).open_at ≡ open_behind result state.new }
     ensures notes { Goes (O.seen o.old) (O.seen o.new) (λ notes. Fed party.now.identity bytes.now (live state.old reader.old) notes result (live state.new reader.new)) }
 {
     match reader.feed(bytes) {
@@ -48,7 +50,9 @@ fn hear<O: Outside>(
     requires valid { IsValidIdentity party.now.identity }
     requires range { IsInRange state.old }
     requires room { length room.old ≡ 65536 }
+    requires opens { (O.seen o.old).open_at ≡ Some state.old.last }
     ensures range { IsInRange state.new }
+    ensures opens { (O.seen o.new).open_at ≡ open_behind result state.new }
     ensures notes { Goes (O.seen o.old) (O.seen o.new) (λ notes. Heard party.now.identity (live state.old reader.old) notes result (live state.new reader.new)) }
 {
     match o.read(room) {
@@ -65,7 +69,7 @@ fn hear<O: Outside>(
 
 /// Takes a reading of the clock.
 pub fn take_reading(state: &mut State, reading: u64)
-    requires { IsInRange state.old }
+    requires range { IsInRange state.old }
     ensures range { IsInRange state.new }
     ensures taken { state.new ≡ with_reading state.old reading }
 {
@@ -74,8 +78,10 @@ pub fn take_reading(state: &mut State, reading: u64)
 
 // Looks at the clock.
 fn look<O: Outside>(o: &mut O, state: &mut State, reader: &Reader) -> Result<(), Ending>
-    requires { IsInRange state.old }
+    requires range { IsInRange state.old }
+    requires opens { (O.seen o.old).open_at ≡ Some state.old.last }
     ensures range { IsInRange state.new }
+    ensures opens { (O.seen o.new).open_at ≡ open_behind result state.new }
     ensures notes { Goes (O.seen o.old) (O.seen o.new) (λ notes. Clocked (live state.old reader.now) notes result (live state.new reader.now)) }
 {
     match o.now() {
@@ -98,7 +104,9 @@ fn meet<O: Outside>(
     requires valid { IsValidIdentity party.now.identity }
     requires range { IsInRange state.old }
     requires room { length room.old ≡ 65536 }
+    requires opens { (O.seen o.old).open_at ≡ Some state.old.last }
     ensures range { IsInRange state.new }
+    ensures opens { (O.seen o.new).open_at ≡ open_behind result state.new }
     ensures notes { Goes (O.seen o.old) (O.seen o.new) (λ notes. AndThen (Heard party.now.identity) Clocked (live state.old reader.old) notes result (live state.new reader.new)) }
 {
     hear(o, party, state, reader, room)?;
@@ -108,8 +116,10 @@ fn meet<O: Outside>(
 // Keeps the expected number where it is another than the one that is kept.
 #[tactic(auto, using(crate::proofs::Carrying::keepings))]
 fn keep_expected<O: Outside>(o: &mut O, state: &mut State, reader: &Reader) -> Result<(), Ending>
-    requires { IsInRange state.old }
+    requires range { IsInRange state.old }
+    requires opens { (O.seen o.old).open_at ≡ Some state.old.last }
     ensures range { IsInRange state.new }
+    ensures opens { (O.seen o.new).open_at ≡ open_behind result state.new }
     ensures notes { Goes (O.seen o.old) (O.seen o.new) (λ notes. KeptExpected (live state.old reader.now) notes result (live state.new reader.now)) }
 {
     if state.kept == state.expected {
@@ -152,7 +162,9 @@ fn turn<O: Outside>(
     requires valid { IsValidIdentity party.now.identity }
     requires range { IsInRange state.old }
     requires room { length room.old ≡ 65536 }
+    requires opens { (O.seen o.old).open_at ≡ Some state.old.last }
     ensures range { IsInRange state.new }
+    ensures opens { (O.seen o.new).open_at ≡ open_behind result state.new }
     ensures notes { Goes (O.seen o.old) (O.seen o.new) (λ notes. Turn party.now.identity (live state.old reader.old) notes result (live state.new reader.new)) }
 {
     let met = meet(o, party, state, reader, room);
@@ -174,7 +186,9 @@ fn run<O: Outside>(
     requires valid { IsValidIdentity party.now.identity }
     requires range { IsInRange state.old }
     requires room { length room.old ≡ 65536 }
+    requires opens { (O.seen o.old).open_at ≡ Some state.old.last }
     ensures range { IsInRange state.new }
+    ensures opens { (O.seen o.new).open_at ≡ open_behind result state.new }
     ensures notes { Goes (O.seen o.old) (O.seen o.new) (λ notes. Turns party.now.identity turns (live state.old reader.old) notes result (live state.new reader.new)) }
 {
     for done in 0..turns {
@@ -210,7 +224,9 @@ pub fn run_and_cut<O: Outside>(
     requires valid { IsValidIdentity party.now.identity }
     requires range { IsInRange state.old }
     requires room { length room.old ≡ 65536 }
+    requires opens { (O.seen o.old).open_at ≡ Some state.old.last }
     ensures range { IsInRange state.new }
+    ensures opens { (O.seen o.new).open_at ≡ open_behind result state.new }
     ensures notes { Goes (O.seen o.old) (O.seen o.new) (λ notes. Ran party.now.identity turns (live state.old reader.old) notes result (live state.new reader.new)) }
 {
     let ran = run(o, party, state, reader, room, turns);

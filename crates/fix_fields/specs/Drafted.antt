@@ -3,13 +3,17 @@ use Rattle.std.specs.Prelude.{◌≡◌, ℕ, ◌≤◌, List}
 use Rattle.std.specs.List.{AllByRecursion}
 use Rattle.fix_base.specs.Fields.{Field}
 use Rattle.fix_base.specs.Says.{fields_text}
-use Rattle.fix_fields.specs.Drafts.{MayBeDraft}
+use Rattle.fix_fields.specs.Drafts.{MayBeDraft, body_with}
 use Rattle.fix_fields.specs.declared.draft_fields.GivenField.{GivenField}
 
 -- MsgType (35), and the bytes of the other fields
 pub record DraftText : Type 0 where
   pub kind : List ℕ
   pub rest : List ℕ
+
+-- its body
+abbrev pub draft_body : DraftText → List ℕ
+draft_body d = body_with d.kind d.rest
 
 -- a tag that a field can have
 pub record HasTag (f : Field) : Type 0 where

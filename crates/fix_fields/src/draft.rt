@@ -6,7 +6,7 @@ ghost use Rattle.fix_fields.specs.Drafted.{AreTagged, IsDraft, given};
 use crate::draft_fields::GivenField;
 use crate::judging::{first_refused, is_draft_kind};
 use crate::{DraftFault, DraftFields, push_field};
-use fix_base::Bytes;
+use fix_base::{Bytes, OutOfMemory};
 use std::alloc::Global;
 use std::marker::Model;
 
@@ -64,6 +64,16 @@ impl Draft {
         Ok(Draft {
             kind,
             rest: Bytes::from_vec(rest),
+        })
+    }
+
+    /// The same draft.
+    pub fn copy(&self, alloc: Global) -> Result<Draft, OutOfMemory>
+        ensures { IfOk result (λ made. made ≡ self.now) }
+    {
+        Ok(Draft {
+            kind: Bytes::copy(alloc, self.kind.as_slice())?,
+            rest: Bytes::copy(alloc, self.rest.as_slice())?,
         })
     }
 

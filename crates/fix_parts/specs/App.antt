@@ -6,13 +6,15 @@ use Rattle.fix_parts.specs.declared.app.Given.{Given}
 use Rattle.fix_parts.specs.declared.app.Handed.{Handed}
 use Rattle.fix_parts.specs.declared.app.Said.{Said}
 use Rattle.fix_parts.specs.declared.app.Said.TheVariants as said
-use Rattle.fix_base.specs.Parts.{extended, less, HasNoRoom, LosesLine}
+use Rattle.fix_base.specs.Parts.{extended, less, HasNoRoom, LosesLine, given_draft, Answers}
 use Rattle.fix_base.specs.Line.{line_text}
 
 pub record AppSeen : Type 0 where
   pub given : Option (List Given)  -- the messages that it took
   pub lines : Option (List ℕ)  -- their lines, where it writes a line for each
   pub room : Option ℕ  -- an application that tells it fails only at a line of more bytes than this
+  pub asked : Option (List (List ℕ))  -- the bodies of the drafts that it gave
+  pub to_ask : Option (List (Option (List ℕ)))  -- its answers yet to give where it is asked for a draft
   pub faults : ℕ
 
 -- the MsgType (35) that is named is the one that the body begins with
@@ -56,4 +58,15 @@ pub record AppTakes (turn : Said) (h : Handed) (old new : AppSeen) : Type 0 wher
   pub given : GivenAfter turn h old.given new.given
   pub lines : LinesAfter turn h old.lines new.lines
   pub room : LineRoomAfter turn h old.room new.room
+  pub asked : new.asked ≡ old.asked
+  pub to_ask : new.to_ask ≡ old.to_ask
   pub faults : Rises (hand_failures turn) old.faults new.faults
+
+-- the bodies of the drafts among these answers
+abbrev pub drafts_in : List (Option (List ℕ)) → List (List ℕ)
+drafts_in [] = []
+drafts_in (answer ∷ answers) = given_draft answer ++ drafts_in answers
+
+-- what it does where it is asked for a draft, and gives one with this body or none
+abbrev pub AppAsks : Option (List ℕ) → AppSeen → AppSeen → Type 0
+AppAsks draft old new = Answers draft old.to_ask new.to_ask × (new ≡ record { given = old.given; lines = old.lines; room = old.room; asked = extended old.asked (given_draft draft); to_ask = new.to_ask; faults = old.faults })

@@ -1,5 +1,5 @@
 -- The line of text that shows a message.
-use Rattle.std.specs.Prelude.{◌≡◌, None, Ok, Err, ⊤}
+use Rattle.std.specs.Prelude.{◌≡◌, [], Some, None, Ok, Err, ⊤}
 use Rattle.fix_parts.specs.declared.app.Handed.{Handed}
 use Rattle.fix_parts.specs.declared.app.Said.{Said}
 use Rattle.fix_parts.specs.declared.app.Said.TheVariants as said
@@ -12,6 +12,6 @@ LineWrites said.Taken h old new = SinkWrites {T = ⊤} (Ok tt) (line_of h) old n
 LineWrites said.Failed h old new = SinkWrites {T = ⊤} (Err (record {})) (line_of h) old new
 LineWrites said.OutOfMemory h old new = new ≡ old
 
--- what is seen of an application that writes lines to a sink
+-- what is seen of an application that writes lines to a sink, and sends nothing
 abbrev pub line_seen : SinkSeen → AppSeen
-line_seen s = record { given = None; lines = s.written; room = s.room; faults = s.faults }
+line_seen s = record { given = None; lines = s.written; room = s.room; asked = Some []; to_ask = Some []; faults = s.faults }

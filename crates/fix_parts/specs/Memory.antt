@@ -1,7 +1,8 @@
 -- What is seen of the parts in memory, and which of their calls fail.
-use Rattle.std.specs.Prelude.{◌≡◌, ℕ, ◌+◌, ◌-◌, ◌<◌, ◌≤◌, vec_len, vec_capacity, min, List, [], ◌∷◌, length, drop, Option, Some, None, Contains}
+use Rattle.std.specs.Prelude.{◌≡◌, ℕ, ◌+◌, ◌-◌, ◌<◌, ◌≤◌, map, option_map, take, vec_len, vec_capacity, min, List, [], ◌∷◌, length, drop, Option, Some, None, Contains}
 use Rattle.fix_base.specs.declared.act.Act.{Act}
 use Rattle.fix_disk.specs.Script.{Script, script_with, told_room}
+use Rattle.fix_fields.specs.Drafted.{draft_body}
 use Rattle.fix_parts.specs.declared.memory_link.MemoryLink.{MemoryLink}
 use Rattle.fix_parts.specs.declared.memory_app.MemoryApp.{MemoryApp}
 use Rattle.fix_parts.specs.declared.memory_clock.MemoryClock.{MemoryClock}
@@ -27,8 +28,15 @@ link_script m = script_with m.failing m.capacity
 abbrev pub link_room : MemoryLink → ℕ
 link_room m = m.capacity - length m.out.items
 
+-- of the copies of its drafts, those that it gave and those that it gives yet
+abbrev pub bodies_of : MemoryApp → List (List ℕ)
+bodies_of m = map draft_body m.copies.items
+
+abbrev pub answers_of : MemoryApp → List (Option (List ℕ))
+answers_of m = map (option_map draft_body) m.drafts.items
+
 abbrev pub app_of : MemoryApp → AppSeen
-app_of m = record { given = Some m.given.items; lines = None; room = None; faults = m.failing.faults }
+app_of m = record { given = Some m.given.items; lines = None; room = None; asked = Some (take m.asked (bodies_of m)); to_ask = Some (answers_of m); faults = m.failing.faults }
 
 abbrev pub app_script : MemoryApp → Script
 app_script m = script_with m.failing m.capacity

@@ -1,6 +1,9 @@
-ghost use Rattle.fix_parts.specs.App.{AppSeen, AppTakes, HasKind};
+ghost use Rattle.std.specs.Prelude.{option_map};
+ghost use Rattle.fix_fields.specs.Drafted.{draft_body};
+ghost use Rattle.fix_parts.specs.App.{AppSeen, AppTakes, AppAsks, HasKind};
 
 use fix_base::Bytes;
+use fix_fields::Draft;
 
 /// An application message that is handed over.
 #[derive(Clone, Copy, Debug)]
@@ -39,11 +42,15 @@ pub struct Given {
 
 /// An application.
 pub trait App {
-    /// The messages that it took, where they are told, and how often it failed.
+    /// The messages that it took, its drafts, where they are told, and how often it failed.
     ghost app: { Self → AppSeen };
 
     /// Hands the message over.
     fn hand(&mut self, h: &Handed<'_>) -> Said
         requires { HasKind h.now }
         ensures moves { AppTakes result h.now (app self.old) (app self.new) };
+
+    /// Asks for a message to be sent.
+    fn ask(&mut self) -> Option<Draft>
+        ensures asks { AppAsks (option_map draft_body result) (app self.old) (app self.new) };
 }

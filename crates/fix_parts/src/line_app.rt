@@ -1,10 +1,12 @@
-ghost use Rattle.std.specs.Prelude.{◌≡◌, ◌++◌, ◌<◌, OnOk};
-ghost use Rattle.fix_parts.specs.App.{AppTakes, line_of};
+ghost use Rattle.std.specs.Prelude.{◌≡◌, ◌++◌, ◌<◌, OnOk, None, option_map};
+ghost use Rattle.fix_fields.specs.Drafted.{draft_body};
+ghost use Rattle.fix_parts.specs.App.{AppTakes, AppAsks, line_of};
 ghost use Rattle.fix_base.specs.Line.{hex_digit, byte_text, body_text};
 ghost use Rattle.fix_parts.specs.Line.{LineWrites, line_seen};
 
 use crate::{App, Handed, Said};
 use fix_disk::{Sink, SinkFailed};
+use fix_fields::Draft;
 use itoa::Buffer;
 use std::alloc::{AllocError, Global};
 use std::marker::Model;
@@ -56,6 +58,14 @@ impl<S: Sink> App for LineApp<S> {
             Ok(()) => Said::Taken,
             Err(SinkFailed) => Said::Failed,
         }
+    }
+
+    fn ask(&mut self) -> Option<Draft>
+        ensures asks { AppAsks (option_map draft_body result) (line_seen (S.sink self.old)) (line_seen (S.sink self.new)) }
+        ensures none { result ≡ None }
+        ensures stays { self.new ≡ self.old }
+    {
+        None
     }
 }
 

@@ -133,7 +133,7 @@ fn a_link_fails_where_it_is_told_and_past_its_room(rt: HostRuntime) -> Result<()
 #[test]
 fn an_application_keeps_what_it_takes(rt: HostRuntime) -> Result<(), Fail> {
     let alloc = rt.alloc();
-    let mut app = MemoryApp::new(alloc, 2, Vec::from_slice(alloc, &[2])?)?;
+    let mut app = MemoryApp::new(alloc, Vec::new(alloc), 2, Vec::from_slice(alloc, &[2])?)?;
     let order = message(2, true, b"35=D\x01");
     let cancel = message(3, false, b"35=F\x01");
     let turns = keeps(alloc, &mut app, &[order, cancel, cancel, cancel])?;

@@ -6,7 +6,7 @@ use Rattle.fix_base.specs.declared.act.Act.{Act}
 use Rattle.fix_base.specs.declared.act.Act.TheVariants as act
 use Rattle.fix_base.specs.Line.{line_text}
 use Rattle.fix_base.specs.Parts.{PartsSeen, extended, less, HasNoRoom, ClockReads, GivesBytes, GivesIdle, GivesEnd, later_readings, left_before}
-use Rattle.fix_base.specs.Seen.{Note, Did, Failed, StorePart, LinkPart, AppPart, acts_of, Follows}
+use Rattle.fix_base.specs.Seen.{Note, Did, Failed, Asked, StorePart, LinkPart, AppPart, acts_of, Follows}
 use Rattle.fix_engine.specs.InStep.{bytes_written}
 use Rattle.fix_top.specs.Sample.{LooksAt, ReadsPieces, HasRooms, handed_in}
 use Rattle.fix_top.proofs.SampleRooms.{lines_in}
@@ -36,18 +36,19 @@ rooms_told (Did (act.Handed n marked body) ∷ notes) old new link app h f =
 rooms_told (Did (act.HandLost n marked body) ∷ notes) old new link app h f =
     (no_room (length (line_text n marked body)) old.line_room app (ap (λ (x : Rooms). x.1) h) f.1.0, rooms_told notes f.0 new link app (ap told_rooms f.1.2 ∙ h) f.2)
 rooms_told (Did (act.KeepLost r) ∷ notes) old new link app h f = absurd (not_sure old.sure (ap (λ (x : Rooms). x.2) h) f.1.0)
-rooms_told (Did (act.Kept r) ∷ notes) old new link app h f = rooms_told notes f.0 new link app (ap told_rooms f.1 ∙ h) f.2
+rooms_told (Did (act.Kept r) ∷ notes) old new link app h f = rooms_told notes f.0 new link app (ap told_rooms f.1.1 ∙ h) f.2
 rooms_told (Did (act.Now t) ∷ notes) old new link app h f = rooms_told notes f.0 new link app (ap told_rooms f.1.1 ∙ h) f.2
 rooms_told (Did (act.Read b) ∷ notes) old new link app h f = rooms_told notes f.0 new link app (ap told_rooms f.1.1 ∙ h) f.2
 rooms_told (Did act.Opened ∷ notes) old new link app h f = rooms_told notes f.0 new link app (ap told_rooms f.1 ∙ h) f.2
 rooms_told (Did act.Idle ∷ notes) old new link app h f = rooms_told notes f.0 new link app (ap told_rooms f.1.1 ∙ h) f.2
 rooms_told (Did act.Ended ∷ notes) old new link app h f = rooms_told notes f.0 new link app (ap told_rooms f.1.1 ∙ h) f.2
 rooms_told (Did act.Cut ∷ notes) old new link app h f = rooms_told notes f.0 new link app (ap told_rooms f.1 ∙ h) f.2
-rooms_told (Did act.Stop ∷ notes) old new link app h f = rooms_told notes f.0 new link app (ap told_rooms f.1 ∙ h) f.2
+rooms_told (Did act.Stop ∷ notes) old new link app h f = rooms_told notes f.0 new link app (ap told_rooms f.1.1 ∙ h) f.2
 rooms_told (Failed (LinkPart unsent) ∷ notes) old new link app h f =
     (no_room unsent old.link_room link (ap (λ (x : Rooms). x.0) h) f.1.0, rooms_told notes f.0 new link app (ap told_rooms f.1.1 ∙ h) f.2)
 rooms_told (Failed StorePart ∷ notes) old new link app h f = rooms_told notes f.0 new link app (ap told_rooms f.1 ∙ h) f.2
 rooms_told (Failed AppPart ∷ notes) old new link app h f = rooms_told notes f.0 new link app (ap told_rooms f.1 ∙ h) f.2
+rooms_told (Asked d ∷ notes) old new link app h f = rooms_told notes f.0 new link app (ap told_rooms f.1.1 ∙ h) f.2
 
 -- ---- the time
 
@@ -69,8 +70,8 @@ looks_told t [] old new h f = tt
 looks_told t (Did (act.Wrote b) ∷ notes) old new h f = looks_told t notes f.0 new (ap readings_in f.1 ∙ h) f.2
 looks_told t (Did (act.Handed n marked body) ∷ notes) old new h f = looks_told t notes f.0 new (ap readings_in f.1 ∙ h) f.2
 looks_told t (Did (act.HandLost n marked body) ∷ notes) old new h f = looks_told t notes f.0 new (ap readings_in f.1.2 ∙ h) f.2
-looks_told t (Did (act.KeepLost r) ∷ notes) old new h f = looks_told t notes f.0 new (ap readings_in f.1.1 ∙ h) f.2
-looks_told t (Did (act.Kept r) ∷ notes) old new h f = looks_told t notes f.0 new (ap readings_in f.1 ∙ h) f.2
+looks_told t (Did (act.KeepLost r) ∷ notes) old new h f = looks_told t notes f.0 new (ap readings_in f.1.2 ∙ h) f.2
+looks_told t (Did (act.Kept r) ∷ notes) old new h f = looks_told t notes f.0 new (ap readings_in f.1.1 ∙ h) f.2
 looks_told t (Did (act.Now u) ∷ notes) old new h f =
     let is = last_again t u old.readings f.0.readings h f.1.0 in
     (is.0, looks_told t notes f.0 new is.1 f.2)
@@ -79,10 +80,11 @@ looks_told t (Did act.Opened ∷ notes) old new h f = looks_told t notes f.0 new
 looks_told t (Did act.Idle ∷ notes) old new h f = looks_told t notes f.0 new (ap readings_in f.1.1 ∙ h) f.2
 looks_told t (Did act.Ended ∷ notes) old new h f = looks_told t notes f.0 new (ap readings_in f.1.1 ∙ h) f.2
 looks_told t (Did act.Cut ∷ notes) old new h f = looks_told t notes f.0 new (ap readings_in f.1 ∙ h) f.2
-looks_told t (Did act.Stop ∷ notes) old new h f = looks_told t notes f.0 new (ap readings_in f.1 ∙ h) f.2
+looks_told t (Did act.Stop ∷ notes) old new h f = looks_told t notes f.0 new (ap readings_in f.1.1 ∙ h) f.2
 looks_told t (Failed (LinkPart unsent) ∷ notes) old new h f = looks_told t notes f.0 new (ap readings_in f.1.1 ∙ h) f.2
 looks_told t (Failed StorePart ∷ notes) old new h f = looks_told t notes f.0 new (ap readings_in f.1 ∙ h) f.2
 looks_told t (Failed AppPart ∷ notes) old new h f = looks_told t notes f.0 new (ap readings_in f.1 ∙ h) f.2
+looks_told t (Asked d ∷ notes) old new h f = looks_told t notes f.0 new (ap readings_in f.1.1 ∙ h) f.2
 
 -- ---- the pieces
 
@@ -94,8 +96,8 @@ reads_told pieces [] old new h f = tt
 reads_told pieces (Did (act.Wrote b) ∷ notes) old new h f = reads_told pieces notes f.0 new (ap come_in f.1 ∙ h) f.2
 reads_told pieces (Did (act.Handed n marked body) ∷ notes) old new h f = reads_told pieces notes f.0 new (ap come_in f.1 ∙ h) f.2
 reads_told pieces (Did (act.HandLost n marked body) ∷ notes) old new h f = reads_told pieces notes f.0 new (ap come_in f.1.2 ∙ h) f.2
-reads_told pieces (Did (act.KeepLost r) ∷ notes) old new h f = reads_told pieces notes f.0 new (ap come_in f.1.1 ∙ h) f.2
-reads_told pieces (Did (act.Kept r) ∷ notes) old new h f = reads_told pieces notes f.0 new (ap come_in f.1 ∙ h) f.2
+reads_told pieces (Did (act.KeepLost r) ∷ notes) old new h f = reads_told pieces notes f.0 new (ap come_in f.1.2 ∙ h) f.2
+reads_told pieces (Did (act.Kept r) ∷ notes) old new h f = reads_told pieces notes f.0 new (ap come_in f.1.1 ∙ h) f.2
 reads_told pieces (Did (act.Now t) ∷ notes) old new h f = reads_told pieces notes f.0 new (ap come_in f.1.1 ∙ h) f.2
 reads_told pieces (Did (act.Read b) ∷ notes) old new h f =
     let g = subst (λ (o : Option (List (List ℕ))). GivesBytes b o f.0.to_come) h f.1.0 in
@@ -108,10 +110,11 @@ reads_told pieces (Did act.Ended ∷ notes) old new h f =
     let g = subst (λ (o : Option (List (List ℕ))). GivesEnd o f.0.to_come) h f.1.0 in
     (g.0, reads_told pieces notes f.0 new (g.1 ∙ ap Some (sym g.0)) f.2)
 reads_told pieces (Did act.Cut ∷ notes) old new h f = reads_told pieces notes f.0 new (ap come_in f.1 ∙ h) f.2
-reads_told pieces (Did act.Stop ∷ notes) old new h f = reads_told pieces notes f.0 new (ap come_in f.1 ∙ h) f.2
+reads_told pieces (Did act.Stop ∷ notes) old new h f = reads_told pieces notes f.0 new (ap come_in f.1.1 ∙ h) f.2
 reads_told pieces (Failed (LinkPart unsent) ∷ notes) old new h f = reads_told pieces notes f.0 new (ap come_in f.1.1 ∙ h) f.2
 reads_told pieces (Failed StorePart ∷ notes) old new h f = reads_told pieces notes f.0 new (ap come_in f.1 ∙ h) f.2
 reads_told pieces (Failed AppPart ∷ notes) old new h f = reads_told pieces notes f.0 new (ap come_in f.1 ∙ h) f.2
+reads_told pieces (Asked d ∷ notes) old new h f = reads_told pieces notes f.0 new (ap come_in f.1.1 ∙ h) f.2
 
 -- ---- what was written
 
@@ -124,18 +127,19 @@ wrote_told w (Did (act.Wrote b) ∷ notes) old new h f =
     wrote_told (w ++ b) notes f.0 new (ap written_in f.1 ∙ ap (λ (o : Option (List ℕ)). extended o b) h) f.2 ∙ ap Some (append_assoc w b (bytes_written (acts_of notes)))
 wrote_told w (Did (act.Handed n marked body) ∷ notes) old new h f = wrote_told w notes f.0 new (ap written_in f.1 ∙ h) f.2
 wrote_told w (Did (act.HandLost n marked body) ∷ notes) old new h f = wrote_told w notes f.0 new (ap written_in f.1.2 ∙ h) f.2
-wrote_told w (Did (act.KeepLost r) ∷ notes) old new h f = wrote_told w notes f.0 new (ap written_in f.1.1 ∙ h) f.2
-wrote_told w (Did (act.Kept r) ∷ notes) old new h f = wrote_told w notes f.0 new (ap written_in f.1 ∙ h) f.2
+wrote_told w (Did (act.KeepLost r) ∷ notes) old new h f = wrote_told w notes f.0 new (ap written_in f.1.2 ∙ h) f.2
+wrote_told w (Did (act.Kept r) ∷ notes) old new h f = wrote_told w notes f.0 new (ap written_in f.1.1 ∙ h) f.2
 wrote_told w (Did (act.Now t) ∷ notes) old new h f = wrote_told w notes f.0 new (ap written_in f.1.1 ∙ h) f.2
 wrote_told w (Did (act.Read b) ∷ notes) old new h f = wrote_told w notes f.0 new (ap written_in f.1.1 ∙ h) f.2
 wrote_told w (Did act.Opened ∷ notes) old new h f = wrote_told w notes f.0 new (ap written_in f.1 ∙ h) f.2
 wrote_told w (Did act.Idle ∷ notes) old new h f = wrote_told w notes f.0 new (ap written_in f.1.1 ∙ h) f.2
 wrote_told w (Did act.Ended ∷ notes) old new h f = wrote_told w notes f.0 new (ap written_in f.1.1 ∙ h) f.2
 wrote_told w (Did act.Cut ∷ notes) old new h f = wrote_told w notes f.0 new (ap written_in f.1 ∙ h) f.2
-wrote_told w (Did act.Stop ∷ notes) old new h f = wrote_told w notes f.0 new (ap written_in f.1 ∙ h) f.2
+wrote_told w (Did act.Stop ∷ notes) old new h f = wrote_told w notes f.0 new (ap written_in f.1.1 ∙ h) f.2
 wrote_told w (Failed (LinkPart unsent) ∷ notes) old new h f = wrote_told w notes f.0 new (ap written_in f.1.1 ∙ h) f.2
 wrote_told w (Failed StorePart ∷ notes) old new h f = wrote_told w notes f.0 new (ap written_in f.1 ∙ h) f.2
 wrote_told w (Failed AppPart ∷ notes) old new h f = wrote_told w notes f.0 new (ap written_in f.1 ∙ h) f.2
+wrote_told w (Asked d ∷ notes) old new h f = wrote_told w notes f.0 new (ap written_in f.1.1 ∙ h) f.2
 
 -- ---- the lines
 
@@ -155,15 +159,16 @@ lines_told w (Did (act.Handed n marked body) ∷ notes) old new t h f =
     let line = line_text n marked body in
     lines_told (w ++ line) notes f.0 new t (ap lines_of f.1 ∙ ap (λ (o : Option (List ℕ)). extended o line) h) f.2 ∙ ap Some (append_assoc w line (lines_in (handed_in (acts_of notes))))
 lines_told w (Did (act.HandLost n marked body) ∷ notes) old new t h f = absurd t
-lines_told w (Did (act.KeepLost r) ∷ notes) old new t h f = lines_told w notes f.0 new t (ap lines_of f.1.1 ∙ h) f.2
-lines_told w (Did (act.Kept r) ∷ notes) old new t h f = lines_told w notes f.0 new t (ap lines_of f.1 ∙ h) f.2
+lines_told w (Did (act.KeepLost r) ∷ notes) old new t h f = lines_told w notes f.0 new t (ap lines_of f.1.2 ∙ h) f.2
+lines_told w (Did (act.Kept r) ∷ notes) old new t h f = lines_told w notes f.0 new t (ap lines_of f.1.1 ∙ h) f.2
 lines_told w (Did (act.Now u) ∷ notes) old new t h f = lines_told w notes f.0 new t (ap lines_of f.1.1 ∙ h) f.2
 lines_told w (Did (act.Read b) ∷ notes) old new t h f = lines_told w notes f.0 new t (ap lines_of f.1.1 ∙ h) f.2
 lines_told w (Did act.Opened ∷ notes) old new t h f = lines_told w notes f.0 new t (ap lines_of f.1 ∙ h) f.2
 lines_told w (Did act.Idle ∷ notes) old new t h f = lines_told w notes f.0 new t (ap lines_of f.1.1 ∙ h) f.2
 lines_told w (Did act.Ended ∷ notes) old new t h f = lines_told w notes f.0 new t (ap lines_of f.1.1 ∙ h) f.2
 lines_told w (Did act.Cut ∷ notes) old new t h f = lines_told w notes f.0 new t (ap lines_of f.1 ∙ h) f.2
-lines_told w (Did act.Stop ∷ notes) old new t h f = lines_told w notes f.0 new t (ap lines_of f.1 ∙ h) f.2
+lines_told w (Did act.Stop ∷ notes) old new t h f = lines_told w notes f.0 new t (ap lines_of f.1.1 ∙ h) f.2
 lines_told w (Failed (LinkPart unsent) ∷ notes) old new t h f = lines_told w notes f.0 new t (ap lines_of f.1.1 ∙ h) f.2
 lines_told w (Failed StorePart ∷ notes) old new t h f = lines_told w notes f.0 new t (ap lines_of f.1 ∙ h) f.2
 lines_told w (Failed AppPart ∷ notes) old new t h f = lines_told w notes f.0 new t (ap lines_of f.1 ∙ h) f.2
+lines_told w (Asked d ∷ notes) old new t h f = lines_told w notes f.0 new t (ap lines_of f.1.1 ∙ h) f.2

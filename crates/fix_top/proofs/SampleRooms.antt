@@ -4,7 +4,7 @@ use Rattle.std.proofs.lemmas.List.{length-append}
 use Rattle.fix_base.specs.declared.act.Act.{Act}
 use Rattle.fix_base.specs.declared.act.Act.TheVariants as act
 use Rattle.fix_base.specs.Line.{line_text}
-use Rattle.fix_base.specs.Seen.{Note, Did, Failed, StorePart, LinkPart, AppPart, acts_of}
+use Rattle.fix_base.specs.Seen.{Note, Did, Failed, Asked, StorePart, LinkPart, AppPart, acts_of}
 use Rattle.fix_engine.specs.InStep.{bytes_written}
 use Rattle.fix_top.specs.Sample.{HasRooms, handed_in}
 
@@ -57,6 +57,7 @@ rooms_first (Did act.Stop ∷ xs) ys link app h = rooms_first xs ys link app h
 rooms_first (Failed (LinkPart unsent) ∷ xs) ys link app h = (h.0, rooms_first xs ys link app h.1)
 rooms_first (Failed StorePart ∷ xs) ys link app h = rooms_first xs ys link app h
 rooms_first (Failed AppPart ∷ xs) ys link app h = rooms_first xs ys link app h
+rooms_first (Asked d ∷ xs) ys link app h = rooms_first xs ys link app h
 
 -- the room that is left by a text, and by what follows it
 left_by : (room : ℕ) (text more : List ℕ) → (room - length text) - length more ≡ room - length (text ++ more)
@@ -85,3 +86,4 @@ rooms_then (Did act.Stop ∷ xs) ys link app h = rooms_then xs ys link app h
 rooms_then (Failed (LinkPart unsent) ∷ xs) ys link app h = rooms_then xs ys link app h.1
 rooms_then (Failed StorePart ∷ xs) ys link app h = rooms_then xs ys link app h
 rooms_then (Failed AppPart ∷ xs) ys link app h = rooms_then xs ys link app h
+rooms_then (Asked d ∷ xs) ys link app h = rooms_then xs ys link app h

@@ -1,5 +1,5 @@
 -- The sample over parts that tell all of themselves.
-use Rattle.std.proofs.Common.{◌≡◌, ℕ, ◌+◌, ◌^◌, ◌<◌, ◌≤◌, List, [], ◌∷◌, ◌++◌, length, codes, true, false, Some, refl, sym, ap, subst, ◌∙◌, inl, inr, arith, lit≤}
+use Rattle.std.proofs.Common.{◌≡◌, ℕ, ◌+◌, ◌^◌, ◌<◌, ◌≤◌, List, [], ◌∷◌, ◌++◌, length, codes, true, false, Some, None, refl, sym, ap, subst, ◌∙◌, inl, inr, arith, lit≤}
 use Rattle.std.proofs.lemmas.List.{append-nil}
 use Rattle.fix_base.specs.declared.act.Act.{Act}
 use Rattle.fix_base.specs.Line.{line_text, body_text}
@@ -9,7 +9,8 @@ use Rattle.fix_base.specs.Seen.{Note, acts_of, Follows}
 use Rattle.fix_parts.specs.Link.{LinkSeen}
 use Rattle.fix_disk.specs.Sink.{SinkSeen}
 use Rattle.fix_parts.specs.Line.{line_seen}
-use Rattle.fix_engine.specs.Plain.{StoreSeen, store_from, parts_of}
+use Rattle.fix_engine.specs.Store.{StoreSeen, store_from}
+use Rattle.fix_engine.specs.Plain.{parts_of}
 use Rattle.fix_top.specs.Words.{IsForm}
 use Rattle.fix_top.specs.Serve.{Served}
 use Rattle.fix_top.specs.Sample.{SAMPLE_ID, SAMPLE_TIME, ROOM, SAMPLE, LOGON, ORDER, LOGOUT, LINE, BODY, LOGON_ANSWER, LOGOUT_ANSWER, ServesSample, WritesSample}
@@ -20,7 +21,7 @@ use Rattle.fix_top.proofs.SampleLemmas.{ALL_LINES, sample_served}
 
 -- parts with these pieces to come and one reading, to which nothing was given and that fail only where this room is spent
 abbrev pub sample_parts : List (List ℕ) → PartsSeen
-sample_parts pieces = record { to_come = Some pieces; readings = Some (SAMPLE_TIME ∷ []); written = Some []; link_room = Some ROOM; lines = Some []; line_room = Some ROOM; sure = true }
+sample_parts pieces = record { to_come = Some pieces; readings = Some (SAMPLE_TIME ∷ []); written = Some []; link_room = Some ROOM; lines = Some []; line_room = Some ROOM; asked = Some []; to_ask = Some []; sure = true; store_room = None }
 
 -- parts in memory that were just made
 pub just_made : (store : StoreSeen) (link : LinkSeen) (sink : SinkSeen) (readings : List ℕ) (pieces : List (List ℕ)) → link ≡ record { to_come = Some pieces; written = Some []; room = Some ROOM; faults = 0 } → sink ≡ record { written = Some []; room = Some ROOM; faults = 0 } → readings ≡ SAMPLE_TIME ∷ [] → store ≡ store_from [] → parts_of store link (line_seen sink) (Some readings) ≡ sample_parts pieces

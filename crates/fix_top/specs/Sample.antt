@@ -7,7 +7,7 @@ use Rattle.fix_base.specs.declared.identity.Begin.TheVariants.{Fix42}
 use Rattle.fix_base.specs.Says.{joined}
 use Rattle.fix_base.specs.Line.{line_text}
 use Rattle.fix_base.specs.Parts.{left_before}
-use Rattle.fix_base.specs.Seen.{Note, Did, Failed, StorePart, LinkPart, AppPart}
+use Rattle.fix_base.specs.Seen.{Note, Did, Failed, Asked, StorePart, LinkPart, AppPart}
 use Rattle.fix_engine.specs.InStep.{bytes_written}
 
 -- the text with an SOH for each bar
@@ -108,6 +108,7 @@ HasRooms link app (Did act.Stop ∷ notes) = HasRooms link app notes
 HasRooms link app (Failed (LinkPart unsent) ∷ notes) = (link < unsent) × HasRooms link app notes
 HasRooms link app (Failed StorePart ∷ notes) = HasRooms link app notes
 HasRooms link app (Failed AppPart ∷ notes) = HasRooms link app notes
+HasRooms link app (Asked d ∷ notes) = HasRooms link app notes
 
 -- the messages that were handed over, and those that may have been lost at that
 abbrev pub handed_in : List Act → List Act

@@ -42,18 +42,18 @@ pub data Served (id : Identity) (turns : ℕ) : ℕ → List Note → Type 0 whe
   not_begun : {to : Seat} {e : BeginFault} {notes : List Note} → BeginsTo {T = ⊤} (opened id) (Err e) to notes → Served id turns 9 notes
   ran : {x : ⊤} {at : Seat} {to : Live} {answer : RunEnd} {first more : List Note} → BeginsTo (opened id) (Ok x) at first → RanTo id turns at.live answer to more → Served id turns (status_of answer) (first ++ more)
 
--- a store that is told holds this end, with or without the record of it that is in doubt
-abbrev pub HoldsEnd : Option End → EndState → Type 0
-HoldsEnd stored e = IfSome stored (λ held. MayHold e.doubt e.end (Some held))
+-- an end that a store tells is this one, with or without the record of it that is in doubt
+abbrev pub HoldsEnd : (End → Type 0) → EndState → Type 0
+HoldsEnd holds e = (held : End) → holds held → MayHold e.doubt e.end (Some held)
 
 -- the same by the acts alone, and what is stored then. A connection that was opened is served lawfully since a new
 -- store: what was written on it may be written, what was handed over is what the counterparty sent, in order and none
 -- left out, and the end that this led to is stored
-pub data ServedLawfully (id : Identity) (stored : Option End) : ℕ → List Act → Type 0 where
+pub data ServedLawfully (id : Identity) (holds : End → Type 0) : ℕ → List Act → Type 0 where
   -- memory was refused before the opening
-  not_started : HoldsEnd stored new_state → ServedLawfully id stored 9 []
-  not_connected : (t : ℕ) → HoldsEnd stored new_state → ServedLawfully id stored 9 (act.Now t ∷ [])
-  served : {answer : RunEnd} {to : Live} {at : EndState} {acts : List Act} (t : ℕ) → EndStep id new_state act.Opened at → (served : HasServed id answer to new_state at acts) → HoldsEnd stored served.to → ServedLawfully id stored (status_of answer) (act.Now t ∷ act.Opened ∷ acts)
+  not_started : HoldsEnd holds new_state → ServedLawfully id holds 9 []
+  not_connected : (t : ℕ) → HoldsEnd holds new_state → ServedLawfully id holds 9 (act.Now t ∷ [])
+  served : {answer : RunEnd} {to : Live} {at : EndState} {acts : List Act} (t : ℕ) → EndStep id new_state act.Opened at → (served : HasServed id answer to new_state at acts) → HoldsEnd holds served.to → ServedLawfully id holds (status_of answer) (act.Now t ∷ act.Opened ∷ acts)
 
 -- a part is blamed only where its count of faults rose
 pub record StatusHasCause (status : ℕ) (old new : Faults) : Type 0 where

@@ -2,7 +2,8 @@ ghost use Rattle.std.specs.Prelude.{◌≡◌, [], ◌∷◌, Some, IfOk};
 ghost use Rattle.fix_base.specs.Says.{joined};
 ghost use Rattle.fix_disk.specs.MemorySink.{sink_of};
 ghost use Rattle.fix_parts.specs.Memory.{link_of, readings_of};
-ghost use Rattle.fix_engine.specs.Plain.{link_in, app_in, clock_in, store_in, store_from};
+ghost use Rattle.fix_engine.specs.Store.{store_from};
+ghost use Rattle.fix_engine.specs.Plain.{link_in, app_in, clock_in, store_in};
 ghost use Rattle.fix_top.specs.Sample.{SAMPLE, SAMPLE_TIME, ROOM as SAMPLE_ROOM, WritesSample};
 
 use crate::serve::serve_stdio;

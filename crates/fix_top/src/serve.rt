@@ -1,5 +1,5 @@
-ghost use Rattle.std.specs.Prelude.{◌≡◌, ◌≢◌, ◌↔◌, map, IfSome};
-ghost use Rattle.fix_base.specs.End.{new_end};
+ghost use Rattle.std.specs.Prelude.{◌≡◌, ◌≢◌, ◌↔◌, map, Some};
+ghost use Rattle.fix_base.specs.End.{End, new_end};
 ghost use Rattle.fix_base.specs.declared.identity.Identity.{Identity as TheIdentity};
 ghost use Rattle.fix_base.specs.Session.{IsValidIdentity};
 ghost use Rattle.fix_base.specs.Seen.{acts_of, Goes};
@@ -15,9 +15,10 @@ use std::alloc::Global;
 // Serves one connection of a new session.
 fn serve<O: Outside>(alloc: Global, identity: Identity, o: &mut O, turns: u64) -> Status
     requires valid { IsValidIdentity identity }
-    requires new { IfSome (O.seen o.old).stored (λ e. e ≡ new_end) }
+    requires new { (e : End) → (O.seen o.old).Holds e → e ≡ new_end }
+    requires opens { (O.seen o.old).open_at ≡ Some 0 }
     ensures serves { Goes (O.seen o.old) (O.seen o.new) (Served identity turns result.0) }
-    ensures lawful { Goes (O.seen o.old) (O.seen o.new) (λ notes. ServedLawfully identity (O.seen o.new).stored result.0 (acts_of notes)) }
+    ensures lawful { Goes (O.seen o.old) (O.seen o.new) (λ notes. ServedLawfully identity (O.seen o.new).Holds result.0 (acts_of notes)) }
     ensures cause { StatusHasCause result.0 (O.seen o.old).faults (O.seen o.new).faults }
     ensures words { result.0 ≢ 2 }
 {
@@ -40,14 +41,15 @@ fn serve<O: Outside>(alloc: Global, identity: Identity, o: &mut O, turns: u64) -
 /// store, the connection or the application failed, 8 where the turns are spent, 9 where memory was
 /// refused, 10 at a message that isn't answered yet, and 11 where every MsgSeqNum is used.
 pub fn serve_stdio<O: Outside>(alloc: Global, words: &[&str], o: &mut O, turns: u64) -> Status
-    requires new { IfSome (O.seen o.old).stored (λ e. e ≡ new_end) }
+    requires new { (e : End) → (O.seen o.old).Holds e → e ≡ new_end }
+    requires opens { (O.seen o.old).open_at ≡ Some 0 }
     // On other words.
     ensures words { (result.0 ≡ 2) ↔ IsNoForm (map (λ w. w.now) words.now) }
     ensures calls_none { result.0 ≡ 2 → o.new ≡ o.old }
 
     // On words that ask for a session.
     ensures serves { (id : TheIdentity) → IsForm (map (λ w. w.now) words.now) id → Goes (O.seen o.old) (O.seen o.new) (Served id turns result.0) }
-    ensures lawful { (id : TheIdentity) → IsForm (map (λ w. w.now) words.now) id → Goes (O.seen o.old) (O.seen o.new) (λ notes. ServedLawfully id (O.seen o.new).stored result.0 (acts_of notes)) }
+    ensures lawful { (id : TheIdentity) → IsForm (map (λ w. w.now) words.now) id → Goes (O.seen o.old) (O.seen o.new) (λ notes. ServedLawfully id (O.seen o.new).Holds result.0 (acts_of notes)) }
     ensures cause { StatusHasCause result.0 (O.seen o.old).faults (O.seen o.new).faults }
 {
     let Some(named) = read_words(words) else {

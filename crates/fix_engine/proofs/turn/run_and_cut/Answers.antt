@@ -17,9 +17,9 @@ returns-in-Ok-clause-notes g c =
 pub returns-in-Ok-mark-clause-notes : goal.returns-in-Ok-mark-clause-notes
 returns-in-Ok-mark-clause-notes g c =
     let h = c.in-Err.ensures.notes in
-    (_, Moves-append _ _ _ _ _ h.1 c.in-Ok-mark.ensures, cut (sym c.is_cut.ensures ∙ c.if-not-is_cut.false) h.2)
+    (_, Moves-append _ _ _ _ _ h.1 c.in-Ok-mark.ensures.noted, cut (sym c.is_cut.ensures ∙ c.if-not-is_cut.false) h.2)
 
 pub returns-in-Err-mark-clause-notes : goal.returns-in-Err-mark-clause-notes
 returns-in-Err-mark-clause-notes g c =
     let h = c.in-Err.ensures.notes in
-    (_, Moves-append _ _ _ _ _ h.1 c.in-Err-mark.ensures, rw append-nil (cut_memory (sym c.is_cut.ensures ∙ c.if-not-is_cut.false) h.2))
+    (_, Moves-append _ _ _ _ _ h.1 c.in-Err-mark.ensures.noted, rw append-nil (cut_memory (sym c.is_cut.ensures ∙ c.if-not-is_cut.false) h.2))

@@ -1,7 +1,7 @@
 use Rattle.std.proofs.Common.{[]}
 use Rattle.fix_base.proofs.SeenLemmas.{Moves-nil}
 use Rattle.fix_top.specs.Serve.{not_opened, not_begun}
-use Rattle.fix_top.proofs.ServeLemmas.{begun-ran, starts_in_step, stays_in_step, serves-lawfully}
+use Rattle.fix_top.proofs.ServeLemmas.{begun-ran, starts_in_step, stays_in_step, serves-lawfully, ran_cause}
 use Rattle.fix_top.proofs.serve.serve.Goals as goal
 
 pub returns-in-Err-clause-serves : goal.returns-in-Err-clause-serves
@@ -31,7 +31,12 @@ returns-clause-lawful g c =
     serves-lawfully _ 0 _ _ _ c.requires.new (b.0, b.1, not_begun b.2)
 
 pub begin-requires-clause-in_step : goal.begin-requires-clause-in_step
-begin-requires-clause-in_step g c = rw c.in-Ok.ensures (starts_in_step _ _ c.requires.new)
+begin-requires-clause-in_step g c = rw c.in-Ok.ensures (starts_in_step _ _ c.requires.new c.requires.opens)
 
 pub run_turns-requires-clause-in_step : goal.run_turns-requires-clause-in_step
-run_turns-requires-clause-in_step g c = stays_in_step _ _ _ _ _ (rw c.in-Ok.ensures (starts_in_step _ _ c.requires.new)) c.begin.ensures.in_step
+run_turns-requires-clause-in_step g c = stays_in_step _ _ _ _ _ (rw c.in-Ok.ensures (starts_in_step _ _ c.requires.new c.requires.opens)) c.begin.ensures.in_step
+
+pub returns-in-Ok-begin-clause-cause : goal.returns-in-Ok-begin-clause-cause
+returns-in-Ok-begin-clause-cause g c =
+    let b = rw c.in-Ok.ensures at c.in-Ok-begin.ensures.begins in
+    rw c.status.ensures (ran_cause _ _ _ _ _ _ _ _ b.1.faults b.2 c.run_turns.ensures.cause)

@@ -11,12 +11,12 @@ returns-in-Err-clause-begins g c = rw (← c.self.view_is, c.in_default.is) (_, 
 
 pub returns-in-Ok-open_connection-clause-begins : goal.returns-in-Ok-open_connection-clause-begins
 returns-in-Ok-open_connection-clause-begins g c =
-    let h = c.in-Ok-open_connection.ensures in
+    let h = c.in-Ok-open_connection.ensures.notes in
     rw (← c.self.view_is, c.in_default.is, c.take_reading.ensures.taken, c.in-Ok.ensures) (h.0, h.1, begins_ok _ _ _ _ h.2)
 
 pub returns-in-Err-open_connection-clause-begins : goal.returns-in-Err-open_connection-clause-begins
 returns-in-Err-open_connection-clause-begins g c =
-    let h = c.in-Err-open_connection.ensures in
+    let h = c.in-Err-open_connection.ensures.notes in
     rw (← c.self.view_is, c.in_default.is) (h.0, h.1, begins_err _ _ _ h.2)
 
 pub returns-in-Err-clause-lawful : goal.returns-in-Err-clause-lawful
@@ -24,15 +24,15 @@ returns-in-Err-clause-lawful g c = rw (← c.self.view_is, c.in_default.is) (ref
 
 pub returns-in-Ok-open_connection-clause-lawful : goal.returns-in-Ok-open_connection-clause-lawful
 returns-in-Ok-open_connection-clause-lawful g c =
-    rw (← c.self.view_is, c.in_default.is, c.take_reading.ensures.taken, c.in-Ok.ensures) (opened_lawful (record { identity = c.self.inside.party.identity; live = live c.self.inside.state c.self.inside.reader; stopped = None }) _ _ _ c.in-Ok-open_connection.ensures)
+    rw (← c.self.view_is, c.in_default.is, c.take_reading.ensures.taken, c.in-Ok.ensures) (opened_lawful (record { identity = c.self.inside.party.identity; live = live c.self.inside.state c.self.inside.reader; stopped = None }) _ _ _ c.in-Ok-open_connection.ensures.notes)
 
 pub returns-in-Err-open_connection-clause-lawful : goal.returns-in-Err-open_connection-clause-lawful
-returns-in-Err-open_connection-clause-lawful g c = rw (← c.self.view_is, c.in_default.is) (not_opened_lawful (record { identity = c.self.inside.party.identity; live = live c.self.inside.state c.self.inside.reader; stopped = None }) _ _ _ c.in-Err-open_connection.ensures)
+returns-in-Err-open_connection-clause-lawful g c = rw (← c.self.view_is, c.in_default.is) (not_opened_lawful (record { identity = c.self.inside.party.identity; live = live c.self.inside.state c.self.inside.reader; stopped = None }) _ _ _ c.in-Err-open_connection.ensures.notes)
 
 pub returns-in-Ok-open_connection-clause-in_step : goal.returns-in-Ok-open_connection-clause-in_step
 returns-in-Ok-open_connection-clause-in_step g c =
-    rw (← c.self.view_is, c.in_default.is, c.take_reading.ensures.taken, c.in-Ok.ensures) (opened_in_step (record { identity = c.self.inside.party.identity; live = live c.self.inside.state c.self.inside.reader; stopped = None }) _ _ _ c.in-Ok-open_connection.ensures)
+    rw (← c.self.view_is, c.in_default.is, c.take_reading.ensures.taken, c.in-Ok.ensures) (opened_in_step (record { identity = c.self.inside.party.identity; live = live c.self.inside.state c.self.inside.reader; stopped = None }) _ _ _ c.in-Ok-open_connection.ensures.opens c.in-Ok-open_connection.ensures.notes)
 
 pub returns-in-Ok-open_connection-clause-connected : goal.returns-in-Ok-open_connection-clause-connected
 returns-in-Ok-open_connection-clause-connected g c =
-    rw (← c.self.view_is, c.in_default.is, c.take_reading.ensures.taken, c.in-Ok.ensures) (opened_connected (record { identity = c.self.inside.party.identity; live = live c.self.inside.state c.self.inside.reader; stopped = None }) _ _ _ c.in-Ok-open_connection.ensures)
+    rw (← c.self.view_is, c.in_default.is, c.take_reading.ensures.taken, c.in-Ok.ensures) (opened_connected (record { identity = c.self.inside.party.identity; live = live c.self.inside.state c.self.inside.reader; stopped = None }) _ _ _ c.in-Ok-open_connection.ensures.opens c.in-Ok-open_connection.ensures.notes)

@@ -41,10 +41,10 @@ returns-clause-lawful g c = rw (← c.self.view_is, c.in_default.is, c.answer_of
 pub returns-clause-in_step : goal.returns-clause-in_step
 returns-clause-in_step g c =
     let h = c.run_and_cut-ran.ensures.notes in
-    rw (← c.self.view_is, c.in_default.is, c.stop_of-self-inside.ensures, c.answer_of-answer.ensures) (run_in_step _ _ _ _ _ _ (rw (← c.self.view_is, c.in_default.is) at c.requires.phase) h)
+    rw (← c.self.view_is, c.in_default.is, c.stop_of-self-inside.ensures, c.answer_of-answer.ensures) (run_in_step _ _ _ _ _ _ (rw (← c.self.view_is, c.in_default.is) at c.requires.phase) c.run_and_cut-ran.ensures.opens h)
 
 pub returns-clause-connected : goal.returns-clause-connected
-returns-clause-connected g c = rw (← c.self.view_is, c.answer_of-answer.ensures) (run_connected _ _ _ _ _ _ _ c.self.invariant.1.reading c.run_and_cut-ran.ensures.notes)
+returns-clause-connected g c = rw (← c.self.view_is, c.answer_of-answer.ensures) (run_connected _ _ _ _ _ _ _ c.self.invariant.1.reading c.run_and_cut-ran.ensures.opens c.run_and_cut-ran.ensures.notes)
 
 pub returns-clause-headline : goal.returns-clause-headline
 returns-clause-headline g c = rw (← c.self.view_is, c.in_default.is, c.answer_of-answer.ensures) (run_serves _ _ _ _ _ _ c.self.invariant.1.reading c.run_and_cut-ran.ensures.notes)
