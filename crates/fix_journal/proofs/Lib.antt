@@ -10,7 +10,7 @@ pub mod AsRead
 mod CallLemmas
 mod HeadLemmas
 mod ScanLemmas
-mod RoomLemmas
+pub mod RoomLemmas
 mod WindowLemmas
 mod MakeLemmas
 mod OpenLemmas
