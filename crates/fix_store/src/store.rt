@@ -83,6 +83,7 @@ impl<D: Disk> Store<D> {
         ensures number { IfOk result (λ n. n ≡ self.old.stored.last + 1) }
         ensures moves { self.old.stopped ≡ false → StoreKeeps (fault_of result) (Push entry.now) (D.disk self.old.disk) (D.disk self.new.disk) }
         ensures room { KeepRoom (fault_of result) (Push entry.now) (D.disk self.old.disk) (D.disk self.new.disk) }
+        ensures told { IsTold D.disk self.old }
     {
         if self.stopped {
             return Err(StoreFault::Stopped);
@@ -109,6 +110,7 @@ impl<D: Disk> Store<D> {
         ensures answers { KeepAnswers (fault_of result) (Expect next) self.old self.new }
         ensures moves { self.old.stopped ≡ false → StoreKeeps (fault_of result) (Expect next) (D.disk self.old.disk) (D.disk self.new.disk) }
         ensures room { KeepRoom (fault_of result) (Expect next) (D.disk self.old.disk) (D.disk self.new.disk) }
+        ensures told { IsTold D.disk self.old }
     {
         if self.stopped {
             return Err(StoreFault::Stopped);
@@ -128,6 +130,7 @@ impl<D: Disk> Store<D> {
         ensures answers { KeepAnswers (fault_of result) (Reset time) self.old self.new }
         ensures moves { self.old.stopped ≡ false → StoreKeeps (fault_of result) (Reset time) (D.disk self.old.disk) (D.disk self.new.disk) }
         ensures room { KeepRoom (fault_of result) (Reset time) (D.disk self.old.disk) (D.disk self.new.disk) }
+        ensures told { IsTold D.disk self.old }
     {
         if self.stopped {
             return Err(StoreFault::Stopped);
