@@ -128,4 +128,3 @@ pub record StoreReads (answer : Result Entry StoreFault) (number : ℕ) (old new
   pub tells_images : new.TellsImages ↔ old.TellsImages
   pub cause : Rises (store_failures (fault_of answer)) old.faults new.faults
   pub calls : IsSome old.bytes → new.clock ≤ old.clock + 1
-

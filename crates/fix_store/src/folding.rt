@@ -32,21 +32,21 @@ impl Folded {
     }
 
     // Whether the record may come next: an entry has a number left.
-    pub(crate) fn has_number(&self, record: &Spelt<'_>) -> bool
+    pub(crate) fn has_number(&self, spelt: &Spelt<'_>) -> bool
         requires { length self.now.places.items ≤ 999999999 }
-        ensures { IsTrue result ↔ HasNumber (record_of record.now) (stored_in (fold_of self.now)) }
+        ensures { IsTrue result ↔ HasNumber (record_of spelt.now) (stored_in (fold_of self.now)) }
     {
-        match record {
+        match spelt {
             Spelt::App { .. } | Spelt::Admin { .. } => self.places.len() < LAST_NUMBER,
             Spelt::Expect(_) | Spelt::Reset(_) => true,
         }
     }
 
     // Takes in the record of this index.
-    pub(crate) fn take(&mut self, index: u64, record: &Spelt<'_>) -> Result<(), AllocError>
-        ensures { OnOk result (fold_of self.new ≡ fold_with index (fold_of self.old) (record_of record.now)) }
+    pub(crate) fn take(&mut self, index: u64, spelt: &Spelt<'_>) -> Result<(), AllocError>
+        ensures { OnOk result (fold_of self.new ≡ fold_with index (fold_of self.old) (record_of spelt.now)) }
     {
-        match *record {
+        match *spelt {
             Spelt::App { .. } | Spelt::Admin { .. } => self.places.push(index)?,
             Spelt::Expect(number) => self.expected = number,
             Spelt::Reset(time) => self.reset(time),

@@ -11,6 +11,8 @@ mod numbers;
 mod reading;
 mod spelling;
 mod store;
+#[cfg(test)]
+mod tests;
 mod walking;
 
 pub use fault::StoreFault;

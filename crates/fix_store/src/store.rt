@@ -10,9 +10,9 @@ ghost use Rattle.fix_store.specs.Opening.{IsOpened, IsCause};
 ghost use Rattle.fix_store.specs.Folding.{fold_of};
 
 use crate::StoreFault;
+use crate::entries::entry_of;
 use crate::folding::Folded;
 use crate::keeping::append;
-use crate::entries::entry_of;
 use crate::numbers::number_after;
 use crate::spelling::{expect_payload, reset_payload, spell_entry};
 use crate::walking::fold;
