@@ -30,3 +30,5 @@ pub mod PeerEnds
 pub mod StoreLemmas
 pub mod PlainLemmas
 pub mod KindLemmas
+mod HeldLemmas
+mod RimLemmas

@@ -1,5 +1,5 @@
 -- What is seen of the disk of a message store, whether the store is open, and what its calls do to these.
-use Rattle.std.specs.Prelude.{◌≡◌, ◌↔◌, ℕ, ◌≤◌, List, [], if◌then◌else◌, Option, Some, None, IsSome, IfSome, Result, Ok, Err, ⊤}
+use Rattle.std.specs.Prelude.{◌≡◌, ◌↔◌, ℕ, ◌≤◌, List, [], if◌then◌else◌, Bool, true, false, Option, Some, None, IsSome, IfSome, Result, Ok, Err, ⊤}
 use Rattle.fix_base.specs.declared.act.Act.{Act}
 use Rattle.fix_base.specs.declared.entry.By.{By}
 use Rattle.fix_base.specs.declared.entry.Entry.{Entry}
@@ -37,21 +37,38 @@ IsTaken (held.Shut d) = ⊥
 IsTaken (held.Open s) = ⊥
 
 -- a disk is there, with a store on it or none
+abbrev pub is_held : {D : Type 0} → Held D → Bool
+is_held held.Taken = false
+is_held (held.Shut d) = true
+is_held (held.Open s) = true
+
 abbrev pub IsHeld : {D : Type 0} → Held D → Type 0
-IsHeld held.Taken = ⊥
-IsHeld (held.Shut d) = ⊤
-IsHeld (held.Open s) = ⊤
+IsHeld h = is_held h ≡ true
+
+-- the disk
+abbrev pub device_in : {D : Type 0} → Held D → Option D
+device_in held.Taken = None
+device_in (held.Shut d) = Some d
+device_in (held.Open s) = Some s.disk
+
+-- what is seen of it
+abbrev pub seen_on : {D : Type 0} → (D → DiskSeen) → Option D → DiskSeen
+seen_on disk None = untold 0
+seen_on disk (Some d) = disk d
 
 abbrev pub disk_in : {D : Type 0} → (D → DiskSeen) → Held D → DiskSeen
-disk_in disk held.Taken = untold 0
-disk_in disk (held.Shut d) = disk d
-disk_in disk (held.Open s) = disk s.disk
+disk_in disk h = seen_on disk (device_in h)
 
 -- how many entries the store has, where it is open: one that stopped isn't
 abbrev pub open_in : {D : Type 0} → Held D → Option ℕ
 open_in held.Taken = None
 open_in (held.Shut d) = None
 open_in (held.Open s) = if s.stopped then None else Some s.stored.last
+
+-- the disk, and how many entries the store has, where it is open
+pub record ShelfSeen (D : Type 0) : Type 0 where
+  pub device : Option D
+  pub open_at : Option ℕ
 
 -- the disk tells its file, which breaks first there
 abbrev pub BreaksAt : DiskSeen → ℕ → Type 0
@@ -108,6 +125,12 @@ pub record KeepLeaves {T : Type 0} (answer : Result T KeepFault) (r : Record) (o
   pub now : (e : End) → HoldsEnd old e → new.TellsImages → (c : List ℕ) → new.image c → IsEitherEnd e r c
   -- and where it was acknowledged with the record
   pub kept : LastsKept answer r old new
+
+-- where memory was refused, nothing was done
+abbrev pub KeepLeft : {T : Type 0} → Result T KeepFault → Record → DiskSeen → DiskSeen → Type 0
+KeepLeft (Ok x) r old new = KeepLeaves (Ok x) r old new
+KeepLeft {T} (Err keep.Failed) r old new = KeepLeaves {T = T} (Err keep.Failed) r old new
+KeepLeft (Err keep.OutOfMemory) r old new = ⊤
 
 abbrev pub FetchRoom : {T : Type 0} → Result T FetchFault → DiskSeen → DiskSeen → Type 0
 FetchRoom (Ok x) old new = room_left new ≡ room_left old

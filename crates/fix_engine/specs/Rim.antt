@@ -8,12 +8,19 @@ use Rattle.fix_parts.specs.Link.{LinkSeen}
 use Rattle.fix_parts.specs.App.{AppSeen}
 use Rattle.fix_store.specs.Store.{HoldsEnd}
 use Rattle.fix_store.specs.Rooms.{room_left}
-use Rattle.fix_engine.specs.Held.{disk_in, BreaksAt}
+use Rattle.fix_engine.specs.Held.{seen_on, BreaksAt}
 use Rattle.fix_engine.specs.declared.rim.Rim.{Rim}
 
 -- what is seen of the disk
 abbrev pub disk_seen : {D L A C T : Type 0} → (D → DiskSeen) → Rim D L A C T → DiskSeen
-disk_seen disk p = disk_in disk p.held
+disk_seen disk p = seen_on disk p.shelf.device
+
+-- the disk, and how many entries the store has, where it is open
+abbrev pub disk_in : {D L A C T : Type 0} → Rim D L A C T → Option D
+disk_in p = p.shelf.device
+
+abbrev pub open_at_of : {D L A C T : Type 0} → Rim D L A C T → Option ℕ
+open_at_of p = p.shelf.open_at
 
 -- the other parts
 abbrev pub link_in : {D L A C T : Type 0} → Rim D L A C T → Option L
@@ -41,20 +48,20 @@ seen_of tape disk open_at link app readings = record { tape = tape; Holds = Hold
 
 -- the one with the clock of the other, and its tape: what a look at the clock changes. The others likewise
 abbrev pub with_clock_of : {D L A C T : Type 0} → Rim D L A C T → Rim D L A C T → Rim D L A C T
-with_clock_of p q = record { alloc = p.alloc; held = p.held; plug = p.plug; app = p.app; clock = q.clock; tape = q.tape }
+with_clock_of p q = record { shelf = p.shelf; plug = p.plug; app = p.app; clock = q.clock; tape = q.tape }
 
 abbrev pub with_tape_of : {D L A C T : Type 0} → Rim D L A C T → Rim D L A C T → Rim D L A C T
-with_tape_of p q = record { alloc = p.alloc; held = p.held; plug = p.plug; app = p.app; clock = p.clock; tape = q.tape }
+with_tape_of p q = record { shelf = p.shelf; plug = p.plug; app = p.app; clock = p.clock; tape = q.tape }
 
 abbrev pub with_link_of : {D L A C T : Type 0} → Rim D L A C T → Rim D L A C T → Rim D L A C T
-with_link_of p q = record { alloc = p.alloc; held = p.held; plug = q.plug; app = p.app; clock = p.clock; tape = q.tape }
+with_link_of p q = record { shelf = p.shelf; plug = q.plug; app = p.app; clock = p.clock; tape = q.tape }
 
 abbrev pub with_store_of : {D L A C T : Type 0} → Rim D L A C T → Rim D L A C T → Rim D L A C T
-with_store_of p q = record { alloc = p.alloc; held = q.held; plug = p.plug; app = p.app; clock = p.clock; tape = q.tape }
+with_store_of p q = record { shelf = q.shelf; plug = p.plug; app = p.app; clock = p.clock; tape = q.tape }
 
 abbrev pub with_app_of : {D L A C T : Type 0} → Rim D L A C T → Rim D L A C T → Rim D L A C T
-with_app_of p q = record { alloc = p.alloc; held = p.held; plug = p.plug; app = q.app; clock = p.clock; tape = q.tape }
+with_app_of p q = record { shelf = p.shelf; plug = p.plug; app = q.app; clock = p.clock; tape = q.tape }
 
 -- the one with the application of the other
 abbrev pub with_app_alone_of : {D L A C T : Type 0} → Rim D L A C T → Rim D L A C T → Rim D L A C T
-with_app_alone_of p q = record { alloc = p.alloc; held = p.held; plug = p.plug; app = q.app; clock = p.clock; tape = p.tape }
+with_app_alone_of p q = record { shelf = p.shelf; plug = p.plug; app = q.app; clock = p.clock; tape = p.tape }

@@ -1,12 +1,13 @@
-ghost use Rattle.std.specs.Prelude.{◌≡◌, ◌<◌, ◌≤◌, false, None, Option, IfOk, IfSome, MatchResult};
+ghost use Rattle.std.specs.Prelude.{◌≡◌, false, None, Err, IfOk};
 ghost use Rattle.fix_base.specs.declared.entry.Entry.{Entry as TheEntry};
 ghost use Rattle.fix_base.specs.End.{End, IsEntry};
 ghost use Rattle.fix_base.specs.Payload.{IsKeepable, HasPayload};
 ghost use Rattle.fix_base.specs.Seen.{acts_of, store_failures};
 ghost use Rattle.fix_store.specs.Store.{IsTold, KeepAnswers, StoreKeeps, HoldsEnd, fault_of};
 ghost use Rattle.fix_store.specs.Rooms.{KeepRoom, room_left};
+ghost use Rattle.fix_engine.specs.declared.outside.KeepFault.TheVariants.{OutOfMemory};
 ghost use Rattle.fix_engine.specs.Outside.{keeps, loads, fetches, HasPlace, HasEntry, open_kept, open_loaded, open_fetched};
-ghost use Rattle.fix_engine.specs.Held.{IsTaken, IsHeld, disk_in, open_in, DiskMoves, KeepLeaves, LoadGives, LoadRoom, KeptRoom, FetchRoom, IsKindOf, load_fault_of};
+ghost use Rattle.fix_engine.specs.Held.{IsTaken, IsHeld, device_in, disk_in, open_in, DiskMoves, KeepLeft, LoadGives, LoadRoom, KeptRoom, FetchRoom, IsKindOf, load_fault_of};
 
 use crate::{FetchFault, KeepFault, Kind, LoadFault};
 use fix_base::{Entry, Record, SeqNum, Stored};
@@ -87,7 +88,7 @@ pub(crate) fn shut<D: Disk>(held: Held<D>) -> Held<D>
     requires { IsHeld held }
     ensures there { IsHeld result }
     ensures opens { open_in result ≡ None }
-    ensures disk { disk_in D.disk result ≡ disk_in D.disk held }
+    ensures disk { device_in result ≡ device_in held }
 {
     match held {
         Held::Shut(disk) => Held::Shut(disk),
@@ -122,7 +123,8 @@ pub(crate) fn keep_in<D: Disk>(held: &mut Held<D>, kept: &Record) -> Result<(), 
     ensures opens { open_in held.new ≡ open_kept result kept.now (open_in held.old) }
     ensures moves { DiskMoves (acts_of (keeps result kept.now)) (store_failures (keeps result kept.now)) (disk_in D.disk held.old) (disk_in D.disk held.new) }
     ensures room { KeptRoom result kept.now (disk_in D.disk held.old) (disk_in D.disk held.new) }
-    ensures leaves { KeepLeaves result kept.now (disk_in D.disk held.old) (disk_in D.disk held.new) }
+    ensures leaves { KeepLeft result kept.now (disk_in D.disk held.old) (disk_in D.disk held.new) }
+    ensures none { result ≡ Err OutOfMemory → held.new ≡ held.old }
 {
     let Held::Open(store) = held else {
         unreachable!();

@@ -76,7 +76,7 @@ pub record IsWalking {D : Type 0} (disk : D → DiskSeen) (old now : JournalSeen
 pub walk_begins : {D : Type 0} (disk : D → DiskSeen) (old : JournalSeen D) (f : Fold) → IsLawful (disk old.disk) → old.stopped ≡ false → f ≡ new_fold → IsWalking disk old old 0 f
 walk_begins disk old f laws still new = record {
   goes_on = record { count = refl; stopped = still };
-  within = subst (λ g. IsWithin g 0) (sym new) (record { few = omega arith; expected = (omega arith, omega arith); each = All-nil (λ i. i < 0) });
+  within = subst (λ g. IsWithin g 0) (sym new) (record { few = omega arith; expected = (omega arith, omega arith); since = tt; each = All-nil (λ i. i < 0) });
   found = λ payloads holds le. ([], refl, subst (IsFoldOf []) (sym new) nothing_yet);
   reads = reads_none (disk old.disk) laws;
 }
