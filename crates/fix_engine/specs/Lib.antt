@@ -16,4 +16,5 @@ pub mod Lawful
 pub mod Turns
 pub mod Stated
 pub mod InStep
+pub mod Restart
 pub mod LookBack

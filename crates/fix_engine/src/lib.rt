@@ -27,7 +27,7 @@ pub use fix_parts::{
     App, Clock, Handed, KeptTape, Link, MemoryApp, MemoryClock, MemoryLink, NoTape, Noted,
     ReadTurn, Said, Tape, WriteTurn,
 };
-pub use laws::{a_new_session_is_in_step, two_sessions_agree};
+pub use laws::{a_new_session_is_in_step, a_stop_is_lawful, two_sessions_agree};
 pub use outside::{FetchFault, KeepFault, Kind, LoadFault, Outside};
 pub use plain::Plain;
 pub use rim::Rim;
