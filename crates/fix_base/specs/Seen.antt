@@ -1,6 +1,6 @@
 -- What is seen from outside of the parts that an engine calls: the tape of its acts, the stored end, how
 -- often each part failed, and what the parts have yet to give and were given.
-use Rattle.std.specs.Prelude.{◌≡◌, ◌⊎◌, ◌↔◌, ℕ, suc, ◌+◌, ◌≤◌, min, List, [], ◌∷◌, ◌++◌, Option, Some, None}
+use Rattle.std.specs.Prelude.{◌≡◌, ◌⊎◌, ◌↔◌, ℕ, suc, ◌+◌, ◌≤◌, min, false, List, [], ◌∷◌, ◌++◌, Option, Some, None}
 use Rattle.fix_base.specs.End.{Record, End, folded}
 use Rattle.fix_base.specs.Parts.{PartsSeen, ActMoves, AskMoves, HasNoRoom, with_store_room}
 use Rattle.fix_base.specs.Act.{Act, Opened, Now, Read, Idle, Ended, Wrote, Kept, KeepLost, Handed, HandLost, Cut, Stop}
@@ -109,7 +109,7 @@ pub record NoneRose (old new : Faults) : Type 0 where
 abbrev pub NoteMoves : Note → PartsSeen → PartsSeen → Type 0
 NoteMoves (Did act) old new = ActMoves act old new
 -- what room a store has that failed isn't said
-NoteMoves (Failed StorePart) old new = new ≡ with_store_room old new.store_room
+NoteMoves (Failed StorePart) old new = (old.sure ≡ false) × (new ≡ with_store_room old new.store_room)
 NoteMoves (Failed (LinkPart unsent)) old new = HasNoRoom unsent old.link_room × (new ≡ old)
 NoteMoves (Failed AppPart) old new = new ≡ old
 NoteMoves (Asked draft) old new = AskMoves draft old new

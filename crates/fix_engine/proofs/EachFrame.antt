@@ -32,7 +32,7 @@ on_sure a f k = a (λ x. f x k)
 pub map_sure : {A B : Type 0} → (A → B) → CanNotFail A → CanNotFail B
 map_sure f a k = a (λ x. k (f x))
 
-decided : (A : Type 0) → CanNotFail (A ⊎ (A → ⊥))
+pub decided : (A : Type 0) → CanNotFail (A ⊎ (A → ⊥))
 decided A k = k (inr (λ a. k (inl a)))
 
 -- the only value that has P, or that there is none

@@ -1,11 +1,13 @@
 -- A session stays in step with what is outside of it, and keeps up with its counterparty.
-use Rattle.std.proofs.Common.{◌≡◌, ◌≢◌, inl, inr, ℕ, ◌≤◌, List, [], ◌∷◌, ◌++◌, length, Option, Some, None, Result, Ok, Err, refl, sym, ap, ◌∙◌, subst, append_assoc, arith}
+use Rattle.std.proofs.Common.{◌≡◌, ◌≢◌, ◌⊎◌, inl, inr, replicate, ℕ, ◌≤◌, List, [], ◌∷◌, ◌++◌, length, Option, Some, None, Result, Ok, Err, refl, sym, ap, ◌∙◌, subst, append_assoc, arith}
 use Rattle.std.specs.Prelude.{⊤, IfSome, IfNone}
-use Rattle.std.proofs.lemmas.List.{append-nil}
+use Rattle.std.proofs.lemmas.List.{append-nil, length-replicate}
 use Rattle.fix_base.specs.declared.identity.Identity.{Identity}
 use Rattle.fix_base.specs.declared.act.Act.{Act}
 use Rattle.fix_base.specs.declared.act.Act.TheVariants as act
 use Rattle.fix_base.specs.declared.entry.Record.{Record}
+use Rattle.fix_base.specs.declared.entry.Entry.TheVariants.{Admin}
+use Rattle.fix_base.specs.declared.entry.Stored.{Stored}
 use Rattle.fix_base.specs.End.{End, new_end}
 use Rattle.fix_base.specs.EndStep as steps
 use Rattle.fix_base.specs.EndStep.{Connection, EndState, new_state, EndStep, EndRun}
@@ -14,7 +16,7 @@ use Rattle.fix_base.specs.Session.{mirrored}
 use Rattle.fix_base.specs.Agrees.{Agrees}
 use Rattle.fix_base.specs.Reader.{bytes_read, ReaderKeepsUp}
 use Rattle.fix_base.specs.Payload.{LAST_TIME, IsPersistent}
-use Rattle.fix_base.specs.Seen.{Stores, grown, Note, acts_of, Seen, HoldsOn, Moves, Goes}
+use Rattle.fix_base.specs.Seen.{Stores, grown, Note, Did, acts_of, Seen, HoldsOn, Moves, Goes}
 use Rattle.fix_base.proofs.SeenLemmas.{Moves-nil}
 use Rattle.fix_base.proofs.RunLemmas.{EndRun-append}
 use Rattle.fix_base.proofs.ReaderLemmas.{reader}
@@ -27,10 +29,12 @@ use Rattle.fix_engine.specs.declared.stop.StopCause.{StopCause}
 use Rattle.fix_engine.specs.declared.stop.BeginFault.{BeginFault}
 use Rattle.fix_engine.specs.Turn.{Live, live, Ran}
 use Rattle.fix_engine.specs.declared.stop.BeginFault.TheVariants as begins
-use Rattle.fix_engine.specs.Run.{Seat, no_bytes, run_end, stop_cause, stopped_for_memory, Opens, BeginsTo, opened_to, no_memory, no_memory_to_open, begun}
+use Rattle.fix_engine.specs.Run.{Seat, seated_at, no_bytes, run_end, stop_cause, stopped_for_memory, Opens, BeginsTo, opened_to, no_memory, no_memory_to_open, begun}
 use Rattle.fix_engine.specs.Lawful.{IsCertain, MayHold, Fits, Leads, After, IsLawfulBegin}
 use Rattle.fix_engine.specs.InStep as step
-use Rattle.fix_engine.specs.InStep.{IsBeside, IsTape, IsStored, IsInStep, IsConnected, AreOfRun, HasServed, bytes_written}
+use Rattle.fix_engine.specs.InStep.{IsBeside, IsTape, IsStored, IsInStep, StandsInStep, IsConnected, AreOfRun, HasServed, bytes_written}
+use Rattle.fix_engine.specs.Outside.{IsStoredOf, IsLoaded}
+use Rattle.fix_engine.proofs.EachFrame.{decided, map_sure}
 use Rattle.fix_engine.proofs.BeginLemmas.{begins_ok, begins_err}
 use Rattle.fix_engine.proofs.LeadsLemmas.{leads_nowhere, leads_step, holds_end, Stores-split}
 use Rattle.fix_engine.proofs.ReadLemmas.{read_nothing}
@@ -298,3 +302,66 @@ not_opened_lawful old fault a b g = begin_lawful {T = ⊤} old (stopped_for_memo
 
 pub refused_lawful : (old : Seat) (a : Seen) → Goes a a (IsLawfulBegin {T = ⊤} old (Err begins.OutOfMemory) (stopped_for_memory old))
 refused_lawful old a = begin_lawful {T = ⊤} old (stopped_for_memory old) (Err begins.OutOfMemory) a a ([], Moves-nil a, no_memory)
+
+-- ---- a session that was opened over a store
+
+-- an end with nothing but what is stored
+abbrev at_end : End → EndState
+at_end e = record { end = e; expected = e.stored; handled = []; doubt = None; connection = None }
+
+-- the tape, where it is told
+pub tape_of : (tape : Option (List Act)) → (before : List Act) × IfSome tape (λ acts. acts ≡ before)
+tape_of None = ([], tt)
+tape_of (Some acts) = (acts, refl)
+
+at_end_in_step : (id : Identity) (stored : Stored) (w : Seen) (e : End) → IsStoredOf stored e → ((x : End) → w.Holds x → x ≡ e) → w.open_at ≡ Some stored.last → (start : EndState) × (before : List Act) × IsInStep start before w (seated_at id stored)
+at_end_in_step id stored w e numbers all opens =
+    let told = tape_of w.tape in (
+      at_end e,
+      told.0,
+      record {
+        acts = [];
+        to = at_end e;
+        run = steps.stop;
+        beside = step.down refl (record { doubt = refl; numbers = record { expected = sym numbers.expected; stored = sym numbers.expected; out = sym numbers.last } });
+        tape = subst (λ (acts : List Act). IsTape w acts) (sym (append-nil told.0)) told.1;
+        stored = all;
+        opens = opens;
+      },
+    )
+
+-- some end with these numbers
+numbered_end : Stored → End
+numbered_end stored = record { out = replicate stored.last (Admin 0 48 0); stored = stored.expected; since = stored.since }
+
+numbered_is : (stored : Stored) → IsStoredOf stored (numbered_end stored)
+unfolding numbered_end
+numbered_is stored = record { last = sym (length-replicate stored.last (Admin 0 48 0)); expected = refl; since = refl }
+
+-- what a store tells behind a load is what it told before
+loaded_same : (a b : Seen) → HoldsOn a.Holds b.Holds (act.Stop ∷ []) → (e : End) → b.Holds e → (x : End) × a.Holds x × (e ≡ x)
+loaded_same a b moves e h = let was = moves.only e h in (was.0, was.1, some_end e was.0 (was.2.2 ∙ was.2.1))
+
+pub loaded_stands : (id : Identity) (stored : Stored) (a b : Seen) → IsLoaded stored a → Moves a b (Did act.Stop ∷ []) → b.open_at ≡ Some stored.last → StandsInStep b (seated_at id stored)
+loaded_stands id stored a b loaded m opens = record { opens = opens; stands = map_sure by_case (decided ((e : End) × b.Holds e)) }
+  where
+    by_case : ((e : End) × b.Holds e) ⊎ ((e : End) × b.Holds e → ⊥) → (start : EndState) × (before : List Act) × IsInStep start before b (seated_at id stored)
+    by_case (inl known) =
+        let was = loaded_same a b m.stored known.0 known.1 in
+        at_end_in_step id stored b known.0 (subst (IsStoredOf stored) (sym was.2) (loaded.told was.0 was.1))
+        (λ x h. (let had = loaded_same a b m.stored x h in had.2 ∙ loaded.one had.0 was.0 had.1 was.1 ∙ sym was.2)) opens
+    by_case (inr never) = at_end_in_step id stored b (numbered_end stored) (numbered_is stored) (λ x h. absurd (never (x, h))) opens
+
+-- a session that is in step with some start stays so
+pub stands_on : (a b : Seen) (old new : Seat) → b.open_at ≡ Some new.live.state.last → ((start : EndState) (before : List Act) → IsInStep start before a old → IsInStep start before b new) → StandsInStep a old → StandsInStep b new
+stands_on a b old new opens keeps h = record { opens = opens; stands = map_sure (λ x. (x.0, x.1, keeps x.0 x.1 x.2)) h.stands }
+
+pub opened_stands : (old : Seat) (t : ℕ) (a b : Seen) → b.open_at ≡ a.open_at → Goes a b (Opens (Ok t)) → StandsInStep a old → StandsInStep b (seated old (begun old.live t) None)
+opened_stands old t a b same g h = stands_on a b old (seated old (begun old.live t) None) (same ∙ h.opens) (opened_in_step old t a b same g) h
+
+pub run_stands : (n : ℕ) (seat : Seat) (r : Result ⊤ Ending) (to : Live) (old new : Seen) → seat.live.state.phase ≢ Down → new.open_at ≡ open_behind r to.state → Goes old new (λ notes. Ran seat.identity n seat.live notes r to) → StandsInStep old seat → IfNone (stop_cause (run_end r)) (StandsInStep new (seated seat to (stop_cause (run_end r))))
+run_stands n seat r to old new is_open opens g h =
+    if_none (stop_cause (run_end r)) (StandsInStep new (seated seat to (stop_cause (run_end r))))
+    (λ none. stands_on old new seat (seated seat to (stop_cause (run_end r))) (opens ∙ open_unstopped r to.state none)
+    (λ start before k. moved start before old new seat to (stop_cause (run_end r)) g.0 (After seat.identity (run_end r) to) g.1 (opens ∙ open_unstopped r to.state none) (λ e q. after_beside seat.identity r to e none q) k
+    (Ran-lawful seat.identity n seat.live g.0 r to g.2 k.to (beside_fits seat.identity seat.live k.to is_open k.beside))) h)

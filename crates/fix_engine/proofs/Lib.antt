@@ -27,6 +27,9 @@ pub mod LookBackLemmas
 pub mod Shown
 pub mod Recounting
 pub mod PeerEnds
+pub mod RestartLemmas
 pub mod StoreLemmas
 pub mod PlainLemmas
 pub mod KindLemmas
+mod HeldLemmas
+mod RimLemmas

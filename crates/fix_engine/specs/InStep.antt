@@ -17,6 +17,7 @@ use Rattle.fix_engine.specs.State.{Down}
 use Rattle.fix_engine.specs.Turn.{Live}
 use Rattle.fix_engine.specs.declared.stop.RunEnd.{RunEnd}
 use Rattle.fix_engine.specs.Run.{Seat}
+use Rattle.fix_engine.specs.Stated.{CanNotFail}
 use Rattle.fix_engine.specs.Lawful.{IsCertain, MayHold, Fits, After}
 
 -- the end is in step with a session: on a connection, or between two of them
@@ -44,11 +45,10 @@ pub record IsInStep (start : EndState) (before : List Act) (w : Seen) (seat : Se
   pub stored : IsStored w to.end
   pub opens : w.open_at ≡ Some seat.live.state.last
 
--- the same since some start
+-- the same since some start: the store is open with the session's entries, and that there is such a start can't fail
 pub record StandsInStep (w : Seen) (seat : Seat) : Type 0 where
-  pub start : EndState
-  pub before : List Act
-  pub in_step : IsInStep start before w seat
+  pub opens : w.open_at ≡ Some seat.live.state.last
+  pub stands : CanNotFail ((start : EndState) × (before : List Act) × IsInStep start before w seat)
 
 -- an act of a run: no connection is opened, no store is reset, what is kept may be sent again, and the process goes
 -- on

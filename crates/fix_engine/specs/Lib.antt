@@ -9,8 +9,12 @@ pub mod Turn
 pub mod Run
 pub mod Store
 pub mod Plain
+pub mod Plug
+pub mod Held
+pub mod Rim
 pub mod Lawful
 pub mod Turns
 pub mod Stated
 pub mod InStep
+pub mod Restart
 pub mod LookBack

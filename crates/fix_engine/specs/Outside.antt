@@ -100,13 +100,14 @@ pub record IsStoredOf (stored : Stored) (e : End) : Type 0 where
   pub expected : stored.expected ≡ e.stored
   pub since : stored.since ≡ e.since
 
--- what a load gives: numbers within their bounds, those of the end that is told, of a file that is a store's
+-- what a load gives: numbers within their bounds, those of the end that is told, which is one, of a file that is a store's
 pub record IsLoaded (stored : Stored) (w : Seen) : Type 0 where
   pub last : stored.last ≤ 999999999
   pub expected : 1 ≤ stored.expected
   pub expected_bound : stored.expected ≤ 1000000000
   pub since : IfSome stored.since (λ time. time ≤ LAST_TIME)
   pub told : (e : End) → w.Holds e → IsStoredOf stored e
+  pub one : (a b : End) → w.Holds a → w.Holds b → a ≡ b
   pub unbroken : (place : ℕ) → w.Breaks place → ⊥
 
 -- what a load answers: a fault only where no room is told, and a break only where the file has it first

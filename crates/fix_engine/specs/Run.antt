@@ -1,11 +1,12 @@
 -- What the calls of a session answer, and when.
 use Rattle.std.specs.Prelude.{◌≡◌, ◌≢◌, ℕ, List, [], ◌∷◌, true, Option, Some, None, Result, Ok, Err, ⊤, min}
 use Rattle.fix_base.specs.declared.identity.Identity.{Identity}
+use Rattle.fix_base.specs.declared.entry.Stored.{Stored}
 use Rattle.fix_base.specs.Payload.{LAST_TIME}
 use Rattle.fix_base.specs.Stream.{Ahead}
 use Rattle.fix_base.specs.declared.act.Act.TheVariants as act
 use Rattle.fix_base.specs.Seen.{Faults, Note, Did, Rises}
-use Rattle.fix_engine.specs.State.{Phase, Down, AwaitLogon, Ending}
+use Rattle.fix_engine.specs.State.{State, Phase, Down, AwaitLogon, Ending}
 use Rattle.fix_engine.specs.declared.state.Ending.TheVariants as ending
 use Rattle.fix_engine.specs.declared.stop.RunEnd.{RunEnd}
 use Rattle.fix_engine.specs.declared.stop.RunEnd.TheVariants as run
@@ -13,6 +14,9 @@ use Rattle.fix_engine.specs.declared.stop.StopCause.{StopCause}
 use Rattle.fix_engine.specs.declared.stop.StopCause.TheVariants as cause
 use Rattle.fix_engine.specs.declared.stop.BeginFault.{BeginFault}
 use Rattle.fix_engine.specs.declared.stop.BeginFault.TheVariants as begins
+use Rattle.fix_engine.specs.declared.outside.LoadFault.{LoadFault}
+use Rattle.fix_engine.specs.declared.outside.LoadFault.TheVariants as load
+use Rattle.fix_engine.specs.Outside.{loads}
 use Rattle.fix_engine.specs.Turn.{Live, live, Ran}
 
 -- what a session is seen as
@@ -20,6 +24,10 @@ pub record Seat : Type 0 where
   pub identity : Identity
   pub live : Live
   pub stopped : Option StopCause
+
+-- a session that starts from these numbers
+abbrev pub state_of : Stored → State
+state_of stored = record { phase = Down; expected = stored.expected; kept = stored.expected; last = stored.last; reading = 0 }
 
 -- the first place of a stream
 abbrev pub no_bytes : Ahead
@@ -66,6 +74,13 @@ RunHasCause run.NumbersSpent old new = ⊤
 RunHasCause run.OutOfMemory old new = ⊤
 RunHasCause (run.Stopped c) old new = ⊤
 
+-- the store is blamed only where its count rose
+abbrev pub LoadHasCause : {T : Type 0} → Result T LoadFault → Faults → Faults → Type 0
+LoadHasCause (Ok x) old new = ⊤
+LoadHasCause (Err load.Failed) old new = Rises 1 old.store new.store
+LoadHasCause (Err (load.Damaged place)) old new = ⊤
+LoadHasCause (Err load.OutOfMemory) old new = ⊤
+
 -- the phase behind an answer: a session goes on only where all its turns were made
 abbrev pub IsDownUnlessSpent : RunEnd → Phase → Phase → Type 0
 IsDownUnlessSpent run.TurnsSpent old new = new ≢ Down
@@ -77,6 +92,15 @@ IsDownUnlessSpent run.AppFault old new = new ≡ Down
 IsDownUnlessSpent run.NumbersSpent old new = new ≡ Down
 IsDownUnlessSpent run.OutOfMemory old new = new ≡ Down
 IsDownUnlessSpent (run.Stopped c) old new = new ≡ old
+
+-- a session that was just opened over these numbers
+abbrev pub seated_at : Identity → Stored → Seat
+seated_at id stored = record { identity = id; live = live (state_of stored) no_bytes; stopped = None }
+
+-- what comes of opening a session: it has the numbers that the store told, or there is none
+pub data OpensTo (id : Identity) : Result Seat LoadFault → Result Stored LoadFault → List Note → Type 0 where
+  from_stored : (stored : Stored) → OpensTo id (Ok (seated_at id stored)) (Ok stored) (Did act.Stop ∷ [])
+  no_store : (fault : LoadFault) → OpensTo id (Err fault) (Err fault) (loads {T = Stored} (Err fault))
 
 -- what comes of opening a connection, with the reading
 pub data Opens : Result ℕ BeginFault → List Note → Type 0 where

@@ -3,7 +3,11 @@ ghost use Rattle.std.specs.Prelude.{◌≡◌, List, Some, None};
 ghost use Rattle.fix_base.specs.Lists.{IsPrefixOf};
 ghost use Rattle.fix_base.specs.Session.{mirrored};
 ghost use Rattle.fix_base.specs.Payload.{IsPersistent};
-ghost use Rattle.fix_base.specs.End.{new_end};
+ghost use Rattle.fix_base.specs.declared.entry.Stored.{Stored};
+ghost use Rattle.fix_base.specs.End.{End, new_end};
+ghost use Rattle.fix_engine.specs.Outside.{IsStoredOf};
+ghost use Rattle.fix_engine.specs.Lawful.{MayHold};
+ghost use Rattle.fix_engine.specs.Restart.{StartsAt, Restarts};
 ghost use Rattle.fix_base.specs.EndStep.{EndState, new_state};
 ghost use Rattle.fix_base.specs.Agrees.{Agrees};
 ghost use Rattle.fix_base.specs.Reader.{bytes_read, ReaderKeepsUp};
@@ -34,4 +38,11 @@ pub fn two_sessions_agree()
         (x : HasServed id first a mine opened acts) (y : HasServed (mirrored id) second b theirs facing others) →
         IsPersistent mine.end → IsPrefixOf (bytes_read others) (bytes_written acts) →
         Agrees theirs.end.stored theirs.handled mine.end.out → Agrees theirs.expected theirs.handled mine.end.out → ReaderKeepsUp mine.end x.to.end others y.to }
+{}
+
+/// A process that stopped, at whatever moment, and starts again with the numbers that its store
+/// has, goes on as a lawful end. The record that was in doubt, if any, is settled by the store.
+pub fn a_stop_is_lawful()
+    ensures lawful { (id : Identity) (stored : Stored) (start : EndState) → StartsAt stored start → Restarts id stored start }
+    ensures held { (stored : Stored) (start : EndState) (e : End) → MayHold start.doubt start.end (Some e) → IsStoredOf stored e → StartsAt stored start }
 {}

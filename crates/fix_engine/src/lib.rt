@@ -3,6 +3,7 @@
 #![tactic(auto)]
 
 mod handling;
+mod held;
 mod inbound;
 mod laws;
 mod machine;
@@ -12,7 +13,11 @@ mod outside;
 mod party;
 mod performing;
 mod plain;
+mod plug;
+mod reserving;
+mod rim;
 mod session;
+mod shelf;
 mod state;
 mod stop;
 mod turn;
@@ -22,9 +27,10 @@ pub use fix_parts::{
     App, Clock, Handed, KeptTape, Link, MemoryApp, MemoryClock, MemoryLink, NoTape, Noted,
     ReadTurn, Said, Tape, WriteTurn,
 };
-pub use laws::{a_new_session_is_in_step, two_sessions_agree};
+pub use laws::{a_new_session_is_in_step, a_stop_is_lawful, two_sessions_agree};
 pub use outside::{FetchFault, KeepFault, Kind, LoadFault, Outside};
 pub use plain::Plain;
+pub use rim::Rim;
 pub use session::Session;
 pub use state::{Decision, Ending, Phase, Refusal, Say, State, Step, Why};
 pub use stop::{BeginFault, RunEnd, StopCause};

@@ -1,4 +1,4 @@
-ghost use Rattle.std.specs.Prelude.{◌≡◌, ◌<◌, ◌∷◌, [], length, is_ok, option_map, MatchResult, IfOk, OnOk};
+ghost use Rattle.std.specs.Prelude.{◌≡◌, ◌<◌, ◌∷◌, [], length, is_ok, option_map, MatchResult, IfOk};
 ghost use Rattle.fix_base.specs.Payload.{IsKeepable};
 ghost use Rattle.fix_base.specs.Seen.{Moves, Asked};
 ghost use Rattle.fix_fields.specs.Drafted.{draft_body};
@@ -10,6 +10,7 @@ ghost use Rattle.fix_engine.specs.Store.{store_from, StoreKeeps, open_in, stored
 ghost use Rattle.fix_engine.specs.Plain.{link_in, app_in, clock_in, tape_in, store_in, seen_of, with_clock_of, with_tape_of, with_link_of, with_store_of, with_app_of, with_app_alone_of};
 
 use crate::memory_store::MemoryStore;
+use crate::reserving::reserve_read;
 use crate::{FetchFault, KeepFault, Kind, LoadFault, Outside};
 use fix_base::{OutOfMemory, Record, SeqNum, Stored};
 use fix_fields::Draft;
@@ -244,12 +245,4 @@ impl<L: Link, A: App, C: Clock, T: Tape> Outside for Plain<L, A, C, T> {
     {
         self.app.ask()
     }
-}
-
-// Makes room on the tape for a read into this room.
-fn reserve_read<T: Tape>(tape: &mut T, room: &[u8]) -> Result<(), OutOfMemory>
-    ensures told { T.told tape.new ≡ T.told tape.old }
-    ensures room { OnOk result (T.HasRoom tape.new (length room.now)) }
-{
-    tape.reserve(&Noted::Read(room))
 }

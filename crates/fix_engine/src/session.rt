@@ -1,21 +1,23 @@
-ghost use Rattle.std.specs.Prelude.{◌≡◌, ◌≢◌, ◌∷◌, ◌++◌, ℕ, List, [], IfSome, IfNone, IfOk, OnOk, OnErr, Some, None, Err};
+ghost use Rattle.std.specs.Prelude.{◌≡◌, ◌≢◌, ◌≤◌, ◌∷◌, ◌++◌, ℕ, List, [], IfSome, IfNone, Result, IfOk, OnOk, Some, None, Err};
+ghost use Rattle.fix_base.specs.declared.entry.Stored.{Stored};
 ghost use Rattle.fix_base.specs.Session.{IsValidIdentity};
 ghost use Rattle.fix_base.specs.EndStep.{EndState};
 ghost use Rattle.fix_base.specs.Seen.{acts_of, NoneRose, Goes};
 ghost use Rattle.fix_engine.specs.declared.state.State.{State};
-ghost use Rattle.fix_engine.specs.State.{IsInRange, first_state};
-ghost use Rattle.fix_engine.specs.Turn.{live};
+ghost use Rattle.fix_engine.specs.declared.outside.LoadFault.{LoadFault};
+ghost use Rattle.fix_engine.specs.State.{IsInRange};
+ghost use Rattle.fix_engine.specs.Outside.{LoadAnswers};
 ghost use Rattle.fix_engine.specs.Lawful.{IsLawful, IsLawfulBegin};
 ghost use Rattle.fix_engine.specs.InStep.{IsInStep, StandsInStep, IsConnected, HasServed};
-ghost use Rattle.fix_engine.specs.Run.{no_bytes, run_end, RanTo, stop_cause, RunHasCause, IsDownUnlessSpent, Opens, BeginsTo};
+ghost use Rattle.fix_engine.specs.Run.{state_of, LoadHasCause, OpensTo, run_end, RanTo, stop_cause, RunHasCause, IsDownUnlessSpent, Opens, BeginsTo};
 ghost use Rattle.fix_engine.specs.Turns.{HasTurns, IsSettled, ShowsPeerEnd};
 ghost use Rattle.fix_engine.specs.Stated.{IsAsStated};
 ghost use Rattle.fix_engine.specs.LookBack.{StandsAt, LooksBack};
 
 use crate::party::Party;
 use crate::turn::{ROOM, run_and_cut, take_reading};
-use crate::{BeginFault, Ending, Outside, Phase, RunEnd, State, StopCause};
-use fix_base::{Act, Identity, OutOfMemory};
+use crate::{BeginFault, Ending, LoadFault, Outside, Phase, RunEnd, State, StopCause};
+use fix_base::{Act, Identity, Stored};
 use fix_frame::Reader;
 use std::alloc::Global;
 use std::marker::Model;
@@ -92,26 +94,53 @@ fn stop_of(answer: RunEnd) -> Option<StopCause>
     }
 }
 
+// A session that starts from these numbers.
+fn state_from(stored: Stored) -> State
+    requires last { stored.last ≤ 999999999 }
+    requires first { 1 ≤ stored.expected }
+    requires bound { stored.expected ≤ 1000000000 }
+    ensures range { IsInRange result }
+    ensures numbers { result ≡ state_of stored }
+{
+    State {
+        phase: Phase::Down,
+        expected: stored.expected,
+        kept: stored.expected,
+        last: stored.last,
+        reading: 0,
+    }
+}
+
 impl Session {
-    /// A session of which nothing is stored, as acceptor. Both CompIDs must be ones: 1 to 64 bytes
-    /// from 0x20 to 0x7E.
-    pub fn open(alloc: Global, identity: Identity) -> Result<Session, OutOfMemory>
+    /// A session as acceptor, over what the message store has: it opens the store, and goes on with
+    /// its numbers. Both CompIDs must be ones: 1 to 64 bytes from 0x20 to 0x7E. Memory is taken
+    /// first: where it is refused, the store isn't asked.
+    pub fn open<O: Outside>(
+        alloc: Global,
+        o: &mut O,
+        identity: Identity,
+    ) -> Result<Session, LoadFault>
         requires { IsValidIdentity identity }
-        ensures { IfOk result (λ made. made ≡ record { identity = identity; live = live first_state no_bytes; stopped = None }) }
+        ensures opens { (loaded : Result Stored LoadFault) × LoadAnswers loaded (O.seen o.old) × Goes (O.seen o.old) (O.seen o.new) (OpensTo identity result loaded) }
+        ensures cause { LoadHasCause result (O.seen o.old).faults (O.seen o.new).faults }
+        ensures in_step { IfOk result (StandsInStep (O.seen o.new)) }
     {
-        Ok(Session {
-            reader: Reader::new(alloc)?,
-            room: vec![in alloc; 0u8; ROOM]?,
-            party: Party { alloc, identity },
-            state: State {
-                phase: Phase::Down,
-                expected: 1,
-                kept: 1,
-                last: 0,
-                reading: 0,
-            },
-            stopped: None,
-        })
+        let Ok(reader) = Reader::new(alloc) else {
+            return Err(LoadFault::OutOfMemory);
+        };
+        let Ok(room) = vec![in alloc; 0u8; ROOM] else {
+            return Err(LoadFault::OutOfMemory);
+        };
+        match o.load() {
+            Ok(stored) => Ok(Session {
+                party: Party { alloc, identity },
+                state: state_from(stored),
+                reader,
+                room,
+                stopped: None,
+            }),
+            Err(fault) => Err(fault),
+        }
     }
 
     /// Begins a connection: reads the clock once, and waits for the counterparty's Logon. The
@@ -134,6 +163,7 @@ impl Session {
         // outside of it, and connected.
         ensures lawful { IfNone self.old.stopped (Goes (O.seen o.old) (O.seen o.new) (IsLawfulBegin self.old result self.new)) }
         ensures in_step { IfNone self.new.stopped ((start : EndState) (before : List Act) → IsInStep start before (O.seen o.old) self.old → IsInStep start before (O.seen o.new) self.new) }
+        ensures stands { IfNone self.new.stopped (StandsInStep (O.seen o.new) self.new) }
         ensures connected { IfNone self.new.stopped ((start : EndState) (before : List Act) (h : IsInStep start before (O.seen o.old) self.old) → (time : ℕ) × IsConnected h.to (before ++ h.acts ++ Act.Now time ∷ []) (O.seen o.new) self.new) }
     {
         if let Some(cause) = self.stopped {
@@ -195,6 +225,7 @@ impl Session {
         // of it, and connected where all turns were made.
         ensures lawful { IfNone self.old.stopped (Goes (O.seen o.old) (O.seen o.new) (IsLawful self.old.identity self.old.live result self.new.live)) }
         ensures in_step { IfNone self.new.stopped ((start : EndState) (before : List Act) → IsInStep start before (O.seen o.old) self.old → IsInStep start before (O.seen o.new) self.new) }
+        ensures stands { IfNone self.new.stopped (StandsInStep (O.seen o.new) self.new) }
         ensures connected { result ≡ RunEnd.TurnsSpent → (start : EndState) (before : List Act) → IsConnected start before (O.seen o.old) self.old → IsConnected start before (O.seen o.new) self.new }
 
         // What it wrote on the connection may be written, and what it keeps may be sent again. Over what

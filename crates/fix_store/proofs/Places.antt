@@ -122,7 +122,8 @@ pub within_step : (f : Fold) (r : Record) (count index next : ℕ) → IsWithin 
 within_step f (Push entry) count index next within fits has lt le = record {
   few = omega (arith, has, length-append f.places (index ∷ []));
   expected = within.expected;
+  since = within.since;
   each = All-push (λ i. i < next) f.places index (all_below count next f.places le within.each) lt;
 }
-within_step f (Expect number) count index next within fits has lt le = record { few = within.few; expected = fits; each = all_below count next f.places le within.each }
-within_step f (Reset time) count index next within fits has lt le = record { few = omega arith; expected = (omega arith, omega arith); each = All-nil (λ i. i < next) }
+within_step f (Expect number) count index next within fits has lt le = record { few = within.few; expected = fits; since = within.since; each = all_below count next f.places le within.each }
+within_step f (Reset time) count index next within fits has lt le = record { few = omega arith; expected = (omega arith, omega arith); since = fits; each = All-nil (λ i. i < next) }

@@ -1,15 +1,15 @@
 -- What a store keeps in memory of its records, and how a walk over the records makes it.
-use Rattle.std.specs.Prelude.{◌≡◌, ◌↔◌, ℕ, ◌<◌, ◌≤◌, Bool, false, List, [], ◌∷◌, ◌++◌, length, take, map, slice_get, All, Option, Some, None, IsSome, Result, Ok, Err, ⊤}
+use Rattle.std.specs.Prelude.{◌≡◌, ◌↔◌, ℕ, ◌+◌, ◌<◌, ◌≤◌, Bool, false, List, [], ◌∷◌, ◌++◌, length, take, map, slice_get, All, Option, IfSome, Some, None, IsSome, Result, Ok, Err, ⊤}
 use Rattle.fix_base.specs.declared.entry.Entry.{Entry}
 use Rattle.fix_base.specs.declared.entry.Record.{Record}
 use Rattle.fix_base.specs.declared.entry.Entry.TheVariants.{App, Admin}
 use Rattle.fix_base.specs.declared.entry.Record.TheVariants.{Push, Expect, Reset}
-use Rattle.fix_base.specs.End.{new_end, folded_all}
-use Rattle.fix_base.specs.Payload.{IsKeepable}
+use Rattle.fix_base.specs.End.{End, new_end, folded_all}
+use Rattle.fix_base.specs.Payload.{IsKeepable, LAST_TIME}
 use Rattle.fix_base.specs.Seen.{Rises}
 use Rattle.fix_base.specs.declared.entry.Stored.{Stored}
 use Rattle.fix_disk.specs.Disk.{DiskSeen, LeavesAsIs}
-use Rattle.fix_disk.specs.Moments.{LeavesOnly}
+use Rattle.fix_disk.specs.Moments.{LeavesOnly, NeedsRoom}
 use Rattle.fix_journal.specs.declared.fault.OpenFault.{OpenFault}
 use Rattle.fix_journal.specs.declared.fault.OpenFault.TheVariants as open_fault
 use Rattle.fix_journal.specs.Format.{front}
@@ -66,6 +66,7 @@ pub record IsFoldOf (records : List Record) (f : Fold) : Type 0 where
 pub record IsWithin (f : Fold) (count : ℕ) : Type 0 where
   pub few : length f.places ≤ LAST_NUMBER
   pub expected : IsKeepable (Expect f.expected)
+  pub since : IfSome f.since (λ time. time ≤ LAST_TIME)
   pub each : All (λ index. index < count) f.places
 
 -- the journal's file has these records, so many
@@ -87,6 +88,7 @@ pub record Reads (failures : ℕ) (old new : DiskSeen) : Type 0 where
   pub any_moment : LeavesOnly old new old.image
   pub tells_images : new.TellsImages ↔ old.TellsImages
   pub cause : Rises failures old.faults new.faults
+  pub room : NeedsRoom failures 0 old new
 
 -- the first payload that is no record behind those before it, at its place in the file
 pub record IsFirstBad (payloads : List (List ℕ)) (place : ℕ) : Type 0 where

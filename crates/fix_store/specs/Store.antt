@@ -4,8 +4,8 @@ use Rattle.fix_base.specs.declared.entry.Entry.{Entry}
 use Rattle.fix_base.specs.declared.entry.Record.{Record}
 use Rattle.fix_base.specs.declared.entry.Entry.TheVariants.{Admin}
 use Rattle.fix_base.specs.declared.entry.Record.TheVariants.{Push, Expect, Reset}
-use Rattle.fix_base.specs.End.{End, folded, IsEntry}
-use Rattle.fix_base.specs.Payload.{HasPayload, IsKeepable}
+use Rattle.fix_base.specs.End.{End, new_end, folded, folded_all, IsEntry}
+use Rattle.fix_base.specs.Payload.{HasPayload, IsKeepable, LAST_TIME}
 use Rattle.fix_base.specs.Seen.{Rises}
 use Rattle.fix_base.specs.declared.entry.Stored.{Stored}
 use Rattle.fix_disk.specs.Disk.{DiskSeen, LeavesAsIs}
@@ -29,6 +29,7 @@ stored_of e = record { last = length e.out; expected = e.stored; since = e.since
 pub record IsInRange (s : Stored) : Type 0 where
   pub last : s.last ≤ LAST_NUMBER
   pub expected : IsKeepable (Expect s.expected)
+  pub since : IfSome s.since (λ time. time ≤ LAST_TIME)
 
 -- what it tells behind one more record
 abbrev pub stored_with : Stored → Record → Stored

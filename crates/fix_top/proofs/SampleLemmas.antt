@@ -7,10 +7,10 @@ use Rattle.fix_base.specs.declared.act.Act.TheVariants as act
 use Rattle.fix_base.specs.Payload.{LAST_TIME}
 use Rattle.fix_base.specs.Says.{joined}
 use Rattle.fix_base.specs.Stream.{HasNoItem}
-use Rattle.fix_base.specs.Seen.{Note, Did, acts_of}
+use Rattle.fix_base.specs.Seen.{Note, Did, acts_of, Seen}
+use Rattle.fix_base.specs.End.{new_end}
 use Rattle.fix_base.proofs.Fronted.{nothing_ahead}
 use Rattle.fix_base.specs.Parts.{left_before}
-use Rattle.fix_engine.specs.State.{first_state}
 use Rattle.fix_engine.specs.declared.state.State.{State}
 use Rattle.fix_engine.specs.declared.state.Ending.{Ending}
 use Rattle.fix_engine.specs.declared.stop.RunEnd.{RunEnd}
@@ -19,9 +19,10 @@ use Rattle.fix_engine.specs.Fold as fold
 use Rattle.fix_engine.specs.Fold.{Each, AndThen, first_ends, both}
 use Rattle.fix_engine.specs.Turn as turn
 use Rattle.fix_engine.specs.Turn.{Live, live, fed, Taken, Fed, Heard, Clocked, KeptExpected, Turn, OneTurn, Ran, settles_of}
-use Rattle.fix_engine.specs.Run.{no_bytes, begun, opened_to, run_end}
+use Rattle.fix_engine.specs.declared.outside.LoadFault.TheVariants as load
+use Rattle.fix_engine.specs.Run.{state_of, no_bytes, begun, opened_to, run_end}
 use Rattle.fix_engine.proofs.Turns.{Fed-answers}
-use Rattle.fix_top.specs.Serve.{status_of, Served, not_opened, not_begun, ran}
+use Rattle.fix_top.specs.Serve.{status_of, Served, not_made, not_opened, not_begun, ran}
 use Rattle.fix_top.specs.Sample.{SAMPLE_ID, SAMPLE_TIME, SAMPLE, BODY, LOGON_ANSWER, LOGOUT_ANSWER, LooksAt, ReadsPieces, HasRooms, ServesSample}
 use Rattle.fix_top.proofs.SampleStream.{IsAhead, given, none_given, not_waiting}
 use Rattle.fix_top.proofs.SampleReads.{Tells, reads_over, looks_of, IsFair, fair_first, fair_then, to_come, read_takes, read_less, idle_less}
@@ -164,7 +165,7 @@ ends_so notes r (on q never w h t e f) = absurd never
 ends_so notes r (over n t) = inr (record { done = refl; wrote = t.wrote; gave = t.gave })
 
 -- acts that write nothing before those
-ends_behind : (t status : ℕ) (notes : List Note) → ServesSample status (acts_of notes) → ServesSample status (act.Now t ∷ act.Opened ∷ acts_of notes)
+ends_behind : (t status : ℕ) (notes : List Note) → ServesSample status (acts_of notes) → ServesSample status (act.Stop ∷ act.Now t ∷ act.Opened ∷ acts_of notes)
 ends_behind t status notes (inl memory) = inl memory
 ends_behind t status notes (inr s) = inr (record { done = s.done; wrote = s.wrote; gave = s.gave })
 
@@ -172,13 +173,23 @@ ends_behind t status notes (inr s) = inr (record { done = s.done; wrote = s.wrot
 abbrev pub ALL_LINES : List ℕ
 ALL_LINES = lines_in (act.Handed 2 false BODY ∷ [])
 
+-- a store that is new, and has a file that is one
+pub record IsNewStore (w : Seen) : Type 0 where
+  pub new : w.Holds new_end
+  pub told : w.Tells
+  pub whole : (place : ℕ) → w.Breaks place → ⊥
+
 -- A connection that gives the sample's bytes, in whatever pieces, is served in one way, where the parts have room.
-pub sample_served : (turns status : ℕ) (notes : List Note) (pieces : List (List ℕ)) → joined pieces ≡ SAMPLE → length pieces + length SAMPLE < turns → Served SAMPLE_ID turns status notes → (link app : ℕ) → length (LOGON_ANSWER ++ LOGOUT_ANSWER) ≤ link → length ALL_LINES ≤ app → HasRooms link app notes → LooksAt SAMPLE_TIME (acts_of notes) → ReadsPieces pieces (acts_of notes) → ServesSample status (acts_of notes)
-sample_served turns status notes pieces bytes enough not_opened link app wrote gave rooms looks reads = inl refl
-sample_served turns status notes pieces bytes enough (not_begun b) link app wrote gave rooms looks reads = inl refl
-sample_served turns status notes pieces bytes enough (ran {to = to} {more = more} (opened_to t) d) link app wrote gave rooms looks reads =
-    let l = begun (live first_state no_bytes) t in
-    let at : IsAt AtLogon l.state = record { phase = refl; expected = refl; last = refl; reading = ap (λ u. min u LAST_TIME) looks.0 } in
+pub sample_served : (turns status : ℕ) (w : Seen) (notes : List Note) (pieces : List (List ℕ)) → IsNewStore w → joined pieces ≡ SAMPLE → length pieces + length SAMPLE < turns → Served SAMPLE_ID turns w status notes → (link app : ℕ) → length (LOGON_ANSWER ++ LOGOUT_ANSWER) ≤ link → length ALL_LINES ≤ app → HasRooms link app notes → LooksAt SAMPLE_TIME (acts_of notes) → ReadsPieces pieces (acts_of notes) → ServesSample status (acts_of notes)
+sample_served turns status w notes pieces fresh bytes enough not_made link app wrote gave rooms looks reads = inl refl
+sample_served turns status w notes pieces fresh bytes enough (not_opened load.Failed told) link app wrote gave rooms looks reads = absurd rooms
+sample_served turns status w notes pieces fresh bytes enough (not_opened (load.Damaged place) told) link app wrote gave rooms looks reads = absurd (fresh.whole place (told fresh.told))
+sample_served turns status w notes pieces fresh bytes enough (not_opened load.OutOfMemory told) link app wrote gave rooms looks reads = inl refl
+sample_served turns status w notes pieces fresh bytes enough (not_begun stored told b) link app wrote gave rooms looks reads = inl refl
+sample_served turns status w notes pieces fresh bytes enough (ran {to = to} {more = more} stored told (opened_to t) d) link app wrote gave rooms looks reads =
+    let numbers = told.told new_end fresh.new in
+    let l = begun (live (state_of stored) no_bytes) t in
+    let at : IsAt AtLogon l.state = record { phase = refl; expected = numbers.expected; last = numbers.last; reading = ap (λ u. min u LAST_TIME) looks.0 } in
     let rests : Rests (joined pieces) l AtLogon = record { stands = record { state = at; ahead = record { mark = refl; bytes = bytes } }; none = nothing_ahead true [] refl } in
     let fairly : IsFair SAMPLE_TIME pieces more [] = record { looks = looks.1; reads = subst (ReadsPieces pieces) (sym (append-nil (acts_of more))) reads } in
     let room : IsFit AtLogon more = record { link = link; app = app; rooms = rooms; written = wrote; handed = gave } in

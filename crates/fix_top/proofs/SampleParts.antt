@@ -46,7 +46,7 @@ rooms_told (Did act.Cut ∷ notes) old new link app h f = rooms_told notes f.0 n
 rooms_told (Did act.Stop ∷ notes) old new link app h f = rooms_told notes f.0 new link app (ap told_rooms f.1.1 ∙ h) f.2
 rooms_told (Failed (LinkPart unsent) ∷ notes) old new link app h f =
     (no_room unsent old.link_room link (ap (λ (x : Rooms). x.0) h) f.1.0, rooms_told notes f.0 new link app (ap told_rooms f.1.1 ∙ h) f.2)
-rooms_told (Failed StorePart ∷ notes) old new link app h f = rooms_told notes f.0 new link app (ap told_rooms f.1 ∙ h) f.2
+rooms_told (Failed StorePart ∷ notes) old new link app h f = absurd (not_sure old.sure (ap (λ (x : Rooms). x.2) h) f.1.0)
 rooms_told (Failed AppPart ∷ notes) old new link app h f = rooms_told notes f.0 new link app (ap told_rooms f.1 ∙ h) f.2
 rooms_told (Asked d ∷ notes) old new link app h f = rooms_told notes f.0 new link app (ap told_rooms f.1.1 ∙ h) f.2
 
@@ -82,7 +82,7 @@ looks_told t (Did act.Ended ∷ notes) old new h f = looks_told t notes f.0 new 
 looks_told t (Did act.Cut ∷ notes) old new h f = looks_told t notes f.0 new (ap readings_in f.1 ∙ h) f.2
 looks_told t (Did act.Stop ∷ notes) old new h f = looks_told t notes f.0 new (ap readings_in f.1.1 ∙ h) f.2
 looks_told t (Failed (LinkPart unsent) ∷ notes) old new h f = looks_told t notes f.0 new (ap readings_in f.1.1 ∙ h) f.2
-looks_told t (Failed StorePart ∷ notes) old new h f = looks_told t notes f.0 new (ap readings_in f.1 ∙ h) f.2
+looks_told t (Failed StorePart ∷ notes) old new h f = looks_told t notes f.0 new (ap readings_in f.1.1 ∙ h) f.2
 looks_told t (Failed AppPart ∷ notes) old new h f = looks_told t notes f.0 new (ap readings_in f.1 ∙ h) f.2
 looks_told t (Asked d ∷ notes) old new h f = looks_told t notes f.0 new (ap readings_in f.1.1 ∙ h) f.2
 
@@ -112,7 +112,7 @@ reads_told pieces (Did act.Ended ∷ notes) old new h f =
 reads_told pieces (Did act.Cut ∷ notes) old new h f = reads_told pieces notes f.0 new (ap come_in f.1 ∙ h) f.2
 reads_told pieces (Did act.Stop ∷ notes) old new h f = reads_told pieces notes f.0 new (ap come_in f.1.1 ∙ h) f.2
 reads_told pieces (Failed (LinkPart unsent) ∷ notes) old new h f = reads_told pieces notes f.0 new (ap come_in f.1.1 ∙ h) f.2
-reads_told pieces (Failed StorePart ∷ notes) old new h f = reads_told pieces notes f.0 new (ap come_in f.1 ∙ h) f.2
+reads_told pieces (Failed StorePart ∷ notes) old new h f = reads_told pieces notes f.0 new (ap come_in f.1.1 ∙ h) f.2
 reads_told pieces (Failed AppPart ∷ notes) old new h f = reads_told pieces notes f.0 new (ap come_in f.1 ∙ h) f.2
 reads_told pieces (Asked d ∷ notes) old new h f = reads_told pieces notes f.0 new (ap come_in f.1.1 ∙ h) f.2
 
@@ -137,7 +137,7 @@ wrote_told w (Did act.Ended ∷ notes) old new h f = wrote_told w notes f.0 new 
 wrote_told w (Did act.Cut ∷ notes) old new h f = wrote_told w notes f.0 new (ap written_in f.1 ∙ h) f.2
 wrote_told w (Did act.Stop ∷ notes) old new h f = wrote_told w notes f.0 new (ap written_in f.1.1 ∙ h) f.2
 wrote_told w (Failed (LinkPart unsent) ∷ notes) old new h f = wrote_told w notes f.0 new (ap written_in f.1.1 ∙ h) f.2
-wrote_told w (Failed StorePart ∷ notes) old new h f = wrote_told w notes f.0 new (ap written_in f.1 ∙ h) f.2
+wrote_told w (Failed StorePart ∷ notes) old new h f = wrote_told w notes f.0 new (ap written_in f.1.1 ∙ h) f.2
 wrote_told w (Failed AppPart ∷ notes) old new h f = wrote_told w notes f.0 new (ap written_in f.1 ∙ h) f.2
 wrote_told w (Asked d ∷ notes) old new h f = wrote_told w notes f.0 new (ap written_in f.1.1 ∙ h) f.2
 
@@ -169,6 +169,6 @@ lines_told w (Did act.Ended ∷ notes) old new t h f = lines_told w notes f.0 ne
 lines_told w (Did act.Cut ∷ notes) old new t h f = lines_told w notes f.0 new t (ap lines_of f.1 ∙ h) f.2
 lines_told w (Did act.Stop ∷ notes) old new t h f = lines_told w notes f.0 new t (ap lines_of f.1.1 ∙ h) f.2
 lines_told w (Failed (LinkPart unsent) ∷ notes) old new t h f = lines_told w notes f.0 new t (ap lines_of f.1.1 ∙ h) f.2
-lines_told w (Failed StorePart ∷ notes) old new t h f = lines_told w notes f.0 new t (ap lines_of f.1 ∙ h) f.2
+lines_told w (Failed StorePart ∷ notes) old new t h f = lines_told w notes f.0 new t (ap lines_of f.1.1 ∙ h) f.2
 lines_told w (Failed AppPart ∷ notes) old new t h f = lines_told w notes f.0 new t (ap lines_of f.1 ∙ h) f.2
 lines_told w (Asked d ∷ notes) old new t h f = lines_told w notes f.0 new t (ap lines_of f.1.1 ∙ h) f.2

@@ -55,7 +55,7 @@ rooms_first (Did act.Ended ∷ xs) ys link app h = rooms_first xs ys link app h
 rooms_first (Did act.Cut ∷ xs) ys link app h = rooms_first xs ys link app h
 rooms_first (Did act.Stop ∷ xs) ys link app h = rooms_first xs ys link app h
 rooms_first (Failed (LinkPart unsent) ∷ xs) ys link app h = (h.0, rooms_first xs ys link app h.1)
-rooms_first (Failed StorePart ∷ xs) ys link app h = rooms_first xs ys link app h
+rooms_first (Failed StorePart ∷ xs) ys link app h = absurd h
 rooms_first (Failed AppPart ∷ xs) ys link app h = rooms_first xs ys link app h
 rooms_first (Asked d ∷ xs) ys link app h = rooms_first xs ys link app h
 
@@ -84,6 +84,6 @@ rooms_then (Did act.Ended ∷ xs) ys link app h = rooms_then xs ys link app h
 rooms_then (Did act.Cut ∷ xs) ys link app h = rooms_then xs ys link app h
 rooms_then (Did act.Stop ∷ xs) ys link app h = rooms_then xs ys link app h
 rooms_then (Failed (LinkPart unsent) ∷ xs) ys link app h = rooms_then xs ys link app h.1
-rooms_then (Failed StorePart ∷ xs) ys link app h = rooms_then xs ys link app h
+rooms_then (Failed StorePart ∷ xs) ys link app h = absurd h
 rooms_then (Failed AppPart ∷ xs) ys link app h = rooms_then xs ys link app h
 rooms_then (Asked d ∷ xs) ys link app h = rooms_then xs ys link app h

@@ -1,23 +1,23 @@
 -- The sample over parts that tell all of themselves.
-use Rattle.std.proofs.Common.{◌≡◌, ℕ, ◌+◌, ◌^◌, ◌<◌, ◌≤◌, List, [], ◌∷◌, ◌++◌, length, codes, true, false, Some, None, refl, sym, ap, subst, ◌∙◌, inl, inr, arith, lit≤}
+use Rattle.std.proofs.Common.{◌≡◌, ℕ, ◌+◌, ◌^◌, ◌<◌, ◌≤◌, List, [], ◌∷◌, ◌++◌, length, codes, true, false, Option, Some, None, refl, sym, ap, subst, ◌∙◌, inl, inr, arith, lit≤}
 use Rattle.std.proofs.lemmas.List.{append-nil}
 use Rattle.fix_base.specs.declared.act.Act.{Act}
 use Rattle.fix_base.specs.Line.{line_text, body_text}
 use Rattle.fix_base.specs.Parts.{PartsSeen}
 use Rattle.fix_base.specs.Says.{joined}
-use Rattle.fix_base.specs.Seen.{Note, acts_of, Follows}
+use Rattle.fix_base.specs.Seen.{Note, acts_of, Follows, Seen}
 use Rattle.fix_parts.specs.Link.{LinkSeen}
 use Rattle.fix_disk.specs.Sink.{SinkSeen}
 use Rattle.fix_parts.specs.Line.{line_seen}
 use Rattle.fix_engine.specs.Store.{StoreSeen, store_from}
-use Rattle.fix_engine.specs.Plain.{parts_of}
+use Rattle.fix_engine.specs.Plain.{parts_of, seen_of}
 use Rattle.fix_top.specs.Words.{IsForm}
 use Rattle.fix_top.specs.Serve.{Served}
 use Rattle.fix_top.specs.Sample.{SAMPLE_ID, SAMPLE_TIME, ROOM, SAMPLE, LOGON, ORDER, LOGOUT, LINE, BODY, LOGON_ANSWER, LOGOUT_ANSWER, ServesSample, WritesSample}
 use Rattle.fix_top.proofs.SampleTexts.{number_2}
 use Rattle.fix_top.proofs.SampleRooms.{lines_in}
 use Rattle.fix_top.proofs.SampleParts.{rooms_told, looks_told, reads_told, wrote_told, lines_told, AreTaken}
-use Rattle.fix_top.proofs.SampleLemmas.{ALL_LINES, sample_served}
+use Rattle.fix_top.proofs.SampleLemmas.{ALL_LINES, IsNewStore, sample_served}
 
 -- parts with these pieces to come and one reading, to which nothing was given and that fail only where this room is spent
 abbrev pub sample_parts : List (List ℕ) → PartsSeen
@@ -67,10 +67,14 @@ told_so status notes new pieces f (inr s) =
     })
 
 -- parts with the sample's bytes to come, and with so much room, are given the answers and the line of the order
-pub sample_written : (turns status : ℕ) (notes : List Note) (old new : PartsSeen) (pieces : List (List ℕ)) → joined pieces ≡ SAMPLE → length pieces + length SAMPLE < turns → old ≡ sample_parts pieces → Served SAMPLE_ID turns status notes → Follows notes old new → WritesSample status new.written new.lines
-sample_written turns status notes old new pieces bytes enough is served follows =
+pub sample_written : (turns status : ℕ) (w : Seen) (notes : List Note) (new : PartsSeen) (pieces : List (List ℕ)) → IsNewStore w → joined pieces ≡ SAMPLE → length pieces + length SAMPLE < turns → w.parts ≡ sample_parts pieces → Served SAMPLE_ID turns w status notes → Follows notes w.parts new → WritesSample status new.written new.lines
+sample_written turns status w notes new pieces fresh bytes enough is served follows =
     let from = sample_parts pieces in
     let f : Follows notes from new = subst (λ (p : PartsSeen). Follows notes p new) is follows in
     told_so status notes new pieces f
-    (sample_served turns status notes pieces bytes enough served ROOM ROOM answers_long (omega (arith, ap length all_lines, line_long))
+    (sample_served turns status w notes pieces fresh bytes enough served ROOM ROOM answers_long (omega (arith, ap length all_lines, line_long))
     (rooms_told notes from new ROOM ROOM refl f) (looks_told SAMPLE_TIME notes from new refl f) (reads_told pieces notes from new refl f))
+
+-- a list in memory that was just made is a new store
+pub new_store : (store : StoreSeen) → store ≡ store_from [] → (told : Option (List Act)) (link : LinkSeen) (sink : SinkSeen) (readings : Option (List ℕ)) → IsNewStore (seen_of told store link (line_seen sink) readings)
+new_store store is told link sink readings = record { new = sym (ap (λ (s : StoreSeen). s.held) is); told = tt; whole = λ place h. h }

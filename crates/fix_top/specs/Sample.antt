@@ -106,7 +106,7 @@ HasRooms link app (Did act.Ended ∷ notes) = HasRooms link app notes
 HasRooms link app (Did act.Cut ∷ notes) = HasRooms link app notes
 HasRooms link app (Did act.Stop ∷ notes) = HasRooms link app notes
 HasRooms link app (Failed (LinkPart unsent) ∷ notes) = (link < unsent) × HasRooms link app notes
-HasRooms link app (Failed StorePart ∷ notes) = HasRooms link app notes
+HasRooms link app (Failed StorePart ∷ notes) = ⊥
 HasRooms link app (Failed AppPart ∷ notes) = HasRooms link app notes
 HasRooms link app (Asked d ∷ notes) = HasRooms link app notes
 

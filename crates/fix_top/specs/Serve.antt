@@ -1,20 +1,24 @@
 -- What comes of serving one connection, and with which status.
-use Rattle.std.specs.Prelude.{◌≡◌, ℕ, List, [], ◌∷◌, ◌++◌, Option, Some, None, IfSome, Ok, Err, ⊤}
+use Rattle.std.specs.Prelude.{◌≡◌, ◌⊎◌, ℕ, List, [], ◌∷◌, ◌++◌, Some, Ok, Err, ⊤}
 use Rattle.fix_base.specs.declared.identity.Identity.{Identity}
 use Rattle.fix_base.specs.declared.act.Act.{Act}
 use Rattle.fix_base.specs.declared.act.Act.TheVariants as act
+use Rattle.fix_base.specs.declared.entry.Stored.{Stored}
 use Rattle.fix_base.specs.End.{End}
-use Rattle.fix_base.specs.EndStep.{EndState, new_state, EndStep}
-use Rattle.fix_base.specs.Seen.{Faults, Note, Rises}
+use Rattle.fix_base.specs.EndStep.{EndState, EndStep, EndRun}
+use Rattle.fix_base.specs.Seen.{Note, Did, Rises, Seen}
 use Rattle.fix_engine.specs.declared.state.Why.TheVariants.{PeerEnd, LoggedOut, Refused}
-use Rattle.fix_engine.specs.State.{first_state}
 use Rattle.fix_engine.specs.declared.stop.RunEnd.{RunEnd}
 use Rattle.fix_engine.specs.declared.stop.RunEnd.TheVariants as run
 use Rattle.fix_engine.specs.declared.stop.BeginFault.{BeginFault}
-use Rattle.fix_engine.specs.Turn.{Live, live}
+use Rattle.fix_engine.specs.declared.outside.LoadFault.{LoadFault}
+use Rattle.fix_engine.specs.declared.outside.LoadFault.TheVariants as load
+use Rattle.fix_engine.specs.Outside.{IsStoredOf, IsLoaded, LoadAnswers, loads}
+use Rattle.fix_engine.specs.Turn.{Live}
 use Rattle.fix_engine.specs.Lawful.{MayHold}
 use Rattle.fix_engine.specs.InStep.{HasServed}
-use Rattle.fix_engine.specs.Run.{Seat, no_bytes, BeginsTo, RanTo}
+use Rattle.fix_engine.specs.Restart.{StartsAt}
+use Rattle.fix_engine.specs.Run.{Seat, seated_at, BeginsTo, RanTo}
 
 -- the status for how a run ended: 0 only where the counterparty's Logout was answered
 abbrev pub status_of : RunEnd → ℕ
@@ -28,35 +32,60 @@ status_of run.TurnsSpent = 8
 status_of run.OutOfMemory = 9
 status_of (run.NotBuilt n) = 10
 status_of run.NumbersSpent = 11
--- a new session isn't stopped before
+-- a session that was just opened isn't stopped before
 status_of (run.Stopped c) = 9
 
--- a session that was just opened
-abbrev pub opened : Identity → Seat
-opened id = record { identity = id; live = live first_state no_bytes; stopped = None }
+-- the status where the store wasn't opened
+abbrev pub load_status : LoadFault → ℕ
+load_status load.Failed = 5
+load_status (load.Damaged place) = 5
+load_status load.OutOfMemory = 9
 
--- what comes of serving one connection of a new session, in at most so many turns
-pub data Served (id : Identity) (turns : ℕ) : ℕ → List Note → Type 0 where
+-- these are the numbers of each end that is told
+abbrev pub AreNumbersOf : (End → Type 0) → Stored → Type 0
+AreNumbersOf holds stored = (e : End) → holds e → IsStoredOf stored e
+
+-- what comes of serving one connection over an outside that was seen so, in at most so many turns
+pub data Served (id : Identity) (turns : ℕ) (w : Seen) : ℕ → List Note → Type 0 where
   -- memory for the session was refused
-  not_opened : Served id turns 9 []
-  not_begun : {to : Seat} {e : BeginFault} {notes : List Note} → BeginsTo {T = ⊤} (opened id) (Err e) to notes → Served id turns 9 notes
-  ran : {x : ⊤} {at : Seat} {to : Live} {answer : RunEnd} {first more : List Note} → BeginsTo (opened id) (Ok x) at first → RanTo id turns at.live answer to more → Served id turns (status_of answer) (first ++ more)
+  not_made : Served id turns w 9 []
+  not_opened : (fault : LoadFault) → LoadAnswers (Err fault) w → Served id turns w (load_status fault) (loads {T = Stored} (Err fault))
+  not_begun : {to : Seat} {e : BeginFault} {notes : List Note} (stored : Stored) → IsLoaded stored w → BeginsTo {T = ⊤} (seated_at id stored) (Err e) to notes → Served id turns w 9 (Did act.Stop ∷ notes)
+  ran : {x : ⊤} {at : Seat} {to : Live} {answer : RunEnd} {first more : List Note} (stored : Stored) → IsLoaded stored w → BeginsTo (seated_at id stored) (Ok x) at first → RanTo id turns at.live answer to more → Served id turns w (status_of answer) (Did act.Stop ∷ first ++ more)
 
 -- an end that a store tells is this one, with or without the record of it that is in doubt
 abbrev pub HoldsEnd : (End → Type 0) → EndState → Type 0
 HoldsEnd holds e = (held : End) → holds held → MayHold e.doubt e.end (Some held)
 
--- the same by the acts alone, and what is stored then. A connection that was opened is served lawfully since a new
--- store: what was written on it may be written, what was handed over is what the counterparty sent, in order and none
--- left out, and the end that this led to is stored
-pub data ServedLawfully (id : Identity) (holds : End → Type 0) : ℕ → List Act → Type 0 where
-  -- memory was refused before the opening
-  not_started : HoldsEnd holds new_state → ServedLawfully id holds 9 []
-  not_connected : (t : ℕ) → HoldsEnd holds new_state → ServedLawfully id holds 9 (act.Now t ∷ [])
-  served : {answer : RunEnd} {to : Live} {at : EndState} {acts : List Act} (t : ℕ) → EndStep id new_state act.Opened at → (served : HasServed id answer to new_state at acts) → HoldsEnd holds served.to → ServedLawfully id holds (status_of answer) (act.Now t ∷ act.Opened ∷ acts)
+-- a store tells no other ends than it told
+abbrev pub HoldsStill : (End → Type 0) → (End → Type 0) → Type 0
+HoldsStill was holds = (start : EndState) → HoldsEnd was start → HoldsEnd holds start
 
--- a part is blamed only where its count of faults rose
-pub record StatusHasCause (status : ℕ) (old new : Faults) : Type 0 where
-  pub store : status ≡ 5 → Rises 1 old.store new.store
-  pub link : status ≡ 6 → Rises 1 old.link new.link
-  pub app : status ≡ 7 → Rises 1 old.app new.app
+-- From this end on the process started again, and served a connection lawfully: what was written on it may be written,
+-- what was handed over is what the counterparty sent, in order and none left out, and the end that this led to is stored.
+pub record IsServedFrom (id : Identity) (was holds : End → Type 0) (answer : RunEnd) (to : Live) (t : ℕ) (acts : List Act) (start : EndState) : Type 0 where
+  pub again : EndState
+  pub restarts : EndRun id start (act.Stop ∷ act.Now t ∷ []) again
+  pub at : EndState
+  pub opens : EndStep id again act.Opened at
+  pub served : HasServed id answer to again at acts
+  pub held : HoldsEnd was start → HoldsEnd holds served.to
+
+-- the same by the acts alone, and what is stored then: from whatever end there was with the numbers that the store
+-- gave, in doubt or not
+pub data ServedLawfully (id : Identity) (was holds : End → Type 0) : ℕ → List Act → Type 0 where
+  not_started : HoldsStill was holds → ServedLawfully id was holds 9 []
+  not_loaded : (fault : LoadFault) → HoldsStill was holds → ServedLawfully id was holds (load_status fault) []
+  only_loaded : HoldsStill was holds → ServedLawfully id was holds 9 (act.Stop ∷ [])
+  not_connected : (t : ℕ) → HoldsStill was holds → ServedLawfully id was holds 9 (act.Stop ∷ act.Now t ∷ [])
+  served : {answer : RunEnd} {to : Live} {acts : List Act} (t : ℕ) (stored : Stored) → AreNumbersOf was stored → ((start : EndState) → StartsAt stored start → IsServedFrom id was holds answer to t acts start) → ServedLawfully id was holds (status_of answer) (act.Stop ∷ act.Now t ∷ act.Opened ∷ acts)
+
+-- the file isn't a store's, where it is told
+abbrev pub IsBroken : Seen → Type 0
+IsBroken w = (place : ℕ) × (w.Tells → w.Breaks place)
+
+-- a part is blamed only where its count of faults rose, or where the store's file is none
+pub record StatusHasCause (status : ℕ) (old new : Seen) : Type 0 where
+  pub store : status ≡ 5 → Rises 1 old.faults.store new.faults.store ⊎ IsBroken old
+  pub link : status ≡ 6 → Rises 1 old.faults.link new.faults.link
+  pub app : status ≡ 7 → Rises 1 old.faults.app new.faults.app

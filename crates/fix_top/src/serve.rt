@@ -1,30 +1,27 @@
-ghost use Rattle.std.specs.Prelude.{◌≡◌, ◌≢◌, ◌↔◌, map, Some};
-ghost use Rattle.fix_base.specs.End.{End, new_end};
+ghost use Rattle.std.specs.Prelude.{◌≡◌, ◌≢◌, ◌↔◌, map};
 ghost use Rattle.fix_base.specs.declared.identity.Identity.{Identity as TheIdentity};
 ghost use Rattle.fix_base.specs.Session.{IsValidIdentity};
 ghost use Rattle.fix_base.specs.Seen.{acts_of, Goes};
 ghost use Rattle.fix_top.specs.Words.{IsForm, IsNoForm};
 ghost use Rattle.fix_top.specs.Serve.{Served, ServedLawfully, StatusHasCause};
 
-use crate::status::{MEMORY, WORDS, status};
+use crate::status::{MEMORY, WORDS, load_status, status};
 use crate::words::{identity_from, read_words};
 use fix_base::{Identity, Status};
 use fix_engine::{Outside, Session};
 use std::alloc::Global;
 
-// Serves one connection of a new session.
+// Serves one connection of a session over what is stored.
 fn serve<O: Outside>(alloc: Global, identity: Identity, o: &mut O, turns: u64) -> Status
-    requires valid { IsValidIdentity identity }
-    requires new { (e : End) → (O.seen o.old).Holds e → e ≡ new_end }
-    requires opens { (O.seen o.old).open_at ≡ Some 0 }
-    ensures serves { Goes (O.seen o.old) (O.seen o.new) (Served identity turns result.0) }
-    ensures lawful { Goes (O.seen o.old) (O.seen o.new) (λ notes. ServedLawfully identity (O.seen o.new).Holds result.0 (acts_of notes)) }
-    ensures cause { StatusHasCause result.0 (O.seen o.old).faults (O.seen o.new).faults }
+    requires { IsValidIdentity identity }
+    ensures serves { Goes (O.seen o.old) (O.seen o.new) (Served identity turns (O.seen o.old) result.0) }
+    ensures lawful { Goes (O.seen o.old) (O.seen o.new) (λ notes. ServedLawfully identity (O.seen o.old).Holds (O.seen o.new).Holds result.0 (acts_of notes)) }
+    ensures cause { StatusHasCause result.0 (O.seen o.old) (O.seen o.new) }
     ensures words { result.0 ≢ 2 }
 {
-    let mut session = match Session::open(alloc, identity) {
+    let mut session = match Session::open(alloc, o, identity) {
         Ok(session) => session,
-        Err(_) => return MEMORY,
+        Err(fault) => return load_status(fault),
     };
     match session.begin(o) {
         Ok(()) => status(session.run_turns(o, turns)),
@@ -34,23 +31,22 @@ fn serve<O: Outside>(alloc: Global, identity: Identity, o: &mut O, turns: u64) -
 
 /// Serves one session over one connection, as acceptor, in at most `turns` turns. The words are
 /// `--stdio`, BeginString (FIX.4.2 or FIX.4.4), this program's own CompID, and the counterparty's.
-/// The store must be a new one, where it is told.
+/// The session goes on from what the message store has, whatever a stop left of it.
 ///
 /// The status is 0 only where the counterparty's Logout was answered, 1 where the connection
 /// closed otherwise, 2 where the words are others (then nothing is called), 5, 6 and 7 where the
-/// store, the connection or the application failed, 8 where the turns are spent, 9 where memory was
-/// refused, 10 at a message that isn't answered yet, and 11 where every MsgSeqNum is used.
+/// store, the connection or the application failed, 5 also where the store's file is none, 8 where
+/// the turns are spent, 9 where memory was refused, 10 at a message that isn't answered yet, and 11
+/// where every MsgSeqNum is used.
 pub fn serve_stdio<O: Outside>(alloc: Global, words: &[&str], o: &mut O, turns: u64) -> Status
-    requires new { (e : End) → (O.seen o.old).Holds e → e ≡ new_end }
-    requires opens { (O.seen o.old).open_at ≡ Some 0 }
     // On other words.
     ensures words { (result.0 ≡ 2) ↔ IsNoForm (map (λ w. w.now) words.now) }
     ensures calls_none { result.0 ≡ 2 → o.new ≡ o.old }
 
     // On words that ask for a session.
-    ensures serves { (id : TheIdentity) → IsForm (map (λ w. w.now) words.now) id → Goes (O.seen o.old) (O.seen o.new) (Served id turns result.0) }
-    ensures lawful { (id : TheIdentity) → IsForm (map (λ w. w.now) words.now) id → Goes (O.seen o.old) (O.seen o.new) (λ notes. ServedLawfully id (O.seen o.new).Holds result.0 (acts_of notes)) }
-    ensures cause { StatusHasCause result.0 (O.seen o.old).faults (O.seen o.new).faults }
+    ensures serves { (id : TheIdentity) → IsForm (map (λ w. w.now) words.now) id → Goes (O.seen o.old) (O.seen o.new) (Served id turns (O.seen o.old) result.0) }
+    ensures lawful { (id : TheIdentity) → IsForm (map (λ w. w.now) words.now) id → Goes (O.seen o.old) (O.seen o.new) (λ notes. ServedLawfully id (O.seen o.old).Holds (O.seen o.new).Holds result.0 (acts_of notes)) }
+    ensures cause { StatusHasCause result.0 (O.seen o.old) (O.seen o.new) }
 {
     let Some(named) = read_words(words) else {
         return WORDS;

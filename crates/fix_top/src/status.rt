@@ -1,9 +1,9 @@
 ghost use Rattle.std.specs.Prelude.{◌≡◌};
-ghost use Rattle.fix_top.specs.Serve.{status_of};
+ghost use Rattle.fix_top.specs.Serve.{status_of, load_status as status_of_load};
 ghost use Rattle.fix_top.specs.Names.{name_of};
 
 use fix_base::Status;
-use fix_engine::{RunEnd, Why};
+use fix_engine::{LoadFault, RunEnd, Why};
 
 /// The words ask for no session.
 pub const WORDS: Status = Status(2);
@@ -25,8 +25,19 @@ pub fn status(answer: RunEnd) -> Status
         RunEnd::OutOfMemory => Status(9),
         RunEnd::NotBuilt { .. } => Status(10),
         RunEnd::NumbersSpent => Status(11),
-        // A new session isn't stopped before.
+        // A session that was just opened isn't stopped before.
         RunEnd::Stopped(_) => Status(9),
+    }
+}
+
+/// The status where the message store was not opened.
+pub fn load_status(fault: LoadFault) -> Status
+    ensures { result.0 ≡ status_of_load fault }
+{
+    match fault {
+        LoadFault::Failed => Status(5),
+        LoadFault::Damaged(_) => Status(5),
+        LoadFault::OutOfMemory => Status(9),
     }
 }
 

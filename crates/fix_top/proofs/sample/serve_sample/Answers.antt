@@ -1,6 +1,6 @@
 use Rattle.std.proofs.Common.{ℕ, List, Bor, map, ap}
 use Rattle.fix_top.specs.Sample.{SAMPLE_ID}
-use Rattle.fix_top.proofs.SampleWritten.{just_made, sample_form, enough_turns, sample_written}
+use Rattle.fix_top.proofs.SampleWritten.{just_made, new_store, sample_form, enough_turns, sample_written}
 use Rattle.fix_top.proofs.sample.serve_sample.Goals as goal
 
 abbrev text : Bor (List ℕ) → List ℕ
@@ -13,4 +13,4 @@ returns c =
     let goes = c.serve_stdio-status.ensures.serves SAMPLE_ID (sample_form _ (ap (map text) c.as_slice.ensures)) in
     let enough = enough_turns pieces.items pieces.len pieces.cap pieces.ok.0 pieces.ok.1 pieces.small in
     let from = just_made _ _ _ _ pieces.items made.link made.sink made.clock made.store in
-    sample_written _ _ goes.0 _ _ pieces.items c.requires enough from goes.2 goes.1.parts
+    sample_written _ _ _ goes.0 _ pieces.items (new_store _ made.store _ _ _ _) c.requires enough from goes.2 goes.1.parts

@@ -5,7 +5,7 @@ use Rattle.fix_engine.proofs.Turns.{Ran-has_turns}
 use Rattle.fix_engine.proofs.Prefix.{as_stated}
 use Rattle.fix_engine.proofs.Recounting.{looks_back}
 use Rattle.fix_engine.proofs.LawfulRuns.{run_lawful}
-use Rattle.fix_engine.proofs.InStepLemmas.{run_in_step, run_connected, run_serves}
+use Rattle.fix_engine.proofs.InStepLemmas.{run_in_step, run_stands, run_connected, run_serves}
 use Rattle.fix_engine.proofs.PeerEnds.{shows_peer_end}
 use Rattle.fix_engine.proofs.session.Session.run_turns.Goals as goal
 
@@ -52,3 +52,7 @@ returns-clause-headline g c = rw (← c.self.view_is, c.in_default.is, c.answer_
 pub returns-clause-peer_end : goal.returns-clause-peer_end
 returns-clause-peer_end g c =
     rw (← c.self.view_is, c.in_default.is, c.answer_of-answer.ensures) (shows_peer_end _ _ _ _ _ _ _ c.run_and_cut-ran.ensures.notes)
+
+pub returns-clause-stands : goal.returns-clause-stands
+returns-clause-stands g c =
+    rw (c.stop_of-self-inside.ensures, c.answer_of-answer.ensures) (run_stands _ _ _ _ _ _ (rw (← c.self.view_is, c.in_default.is) at c.requires.phase) c.run_and_cut-ran.ensures.opens c.run_and_cut-ran.ensures.notes (rw (← c.self.view_is, c.in_default.is) at c.requires.in_step))

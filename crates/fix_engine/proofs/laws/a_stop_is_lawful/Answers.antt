@@ -1,0 +1,8 @@
+use Rattle.fix_engine.proofs.RestartLemmas.{restarts, held_starts}
+use Rattle.fix_engine.proofs.laws.a_stop_is_lawful.Goals as goal
+
+pub returns-clause-lawful : goal.returns-clause-lawful
+returns-clause-lawful c = restarts
+
+pub returns-clause-held : goal.returns-clause-held
+returns-clause-held c = held_starts
