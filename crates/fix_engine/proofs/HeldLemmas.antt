@@ -8,11 +8,13 @@ use Rattle.fix_base.specs.declared.entry.Record.{Record}
 use Rattle.fix_base.specs.declared.entry.Stored.{Stored}
 use Rattle.fix_base.specs.End.{End, new_end, folded}
 use Rattle.fix_base.specs.Seen.{Stores, Rises, acts_of, store_failures}
-use Rattle.fix_disk.specs.Disk.{DiskSeen}
+use Rattle.fix_disk.specs.Disk.{DiskSeen, IsLawful}
+use Rattle.fix_disk.specs.Moments.{LeavesOnly}
+use Rattle.fix_journal.proofs.Moments.{started, weaker}
 use Rattle.fix_journal.specs.declared.fault.OpenFault.{OpenFault}
 use Rattle.fix_journal.specs.declared.fault.OpenFault.TheVariants as open_fault
 use Rattle.fix_journal.specs.Format.{OPEN, IsMade, HasRecords}
-use Rattle.fix_journal.specs.Opening.{Opens, open_failures}
+use Rattle.fix_journal.specs.Opening.{Opens, IsLeftByOpening, open_failures}
 use Rattle.fix_journal.proofs.SoundLemmas.{some_same}
 use Rattle.fix_store.specs.declared.fault.StoreFault.{StoreFault}
 use Rattle.fix_store.specs.declared.fault.StoreFault.TheVariants as fault
@@ -25,7 +27,7 @@ use Rattle.fix_engine.specs.declared.outside.KeepFault.TheVariants as keep
 use Rattle.fix_engine.specs.declared.outside.LoadFault.{LoadFault}
 use Rattle.fix_engine.specs.declared.outside.LoadFault.TheVariants as load
 use Rattle.fix_engine.specs.Outside.{IsStoredOf, loads}
-use Rattle.fix_engine.specs.Held.{BreaksAt, DiskMoves, KeepLeaves, IsLoadedFrom, load_fault_of}
+use Rattle.fix_engine.specs.Held.{BreaksAt, DiskMoves, KeepLeaves, LoadLeaves, IsLoadedFrom, load_fault_of}
 
 at_told : (o : Option (List ℕ)) → IsSome o → (file : List ℕ) × (o ≡ Some file)
 at_told None some = absurd (true≢false (sym some))
@@ -145,6 +147,12 @@ module _ {D : Type 0} (disk : D → DiskSeen) (old : DiskSeen) (store : StoreSee
     cause = cause;
   }
 
+  pub opened_lasts : (e : End) → HoldsEnd (disk store.disk) e → LastsEnd (disk store.disk) e
+  opened_lasts e h =
+      let file = at_told old.bytes (tells.0 (ap is_some h.1)) in
+      let f = found file.0 file.1 in
+      subst (LastsEnd (disk store.disk)) (one_held (disk store.disk) f.0 e f.3 h) f.4
+
   numbers : (e : End) → HoldsEnd old e → store.stored ≡ stored_of e
   numbers e h = let f = found h.0 h.1 in f.2 ∙ ap stored_of (one_end h.0 f.0 e f.1 h.2)
 
@@ -155,6 +163,7 @@ module _ {D : Type 0} (disk : D → DiskSeen) (old : DiskSeen) (store : StoreSee
     expected_bound = range.expected.1;
     since = range.since;
     told = λ e h. subst (λ s. IsStoredOf s e) (sym (numbers e h)) (record { last = refl; expected = refl; since = refl });
+    one = one_held old;
     unbroken = λ place b. (let h = before (ap is_some b.1) in held_whole old h.0 h.1 place b);
   })
 
@@ -234,3 +243,25 @@ pub refused_moves : (T : Type 0) (old new : DiskSeen) (failed : OpenFault) (said
 refused_moves T old new failed said is opens = subst (λ (f : LoadFault). DiskMoves (acts_of (loads {T = T} (Err f))) (store_failures (loads {T = T} (Err f))) old new) (sym is)
     (subst (λ acts. DiskMoves acts (store_failures (loads {T = T} (Err (load_fault_of failed)))) old new) (sym (no_acts T failed))
     (subst (λ n. DiskMoves [] n old new) (sym (its_failures T failed)) (refused_so old new failed opens)))
+
+-- ---- what a crash leaves of an opening
+
+left_by_opening : (old : DiskSeen) (e : End) → HoldsEnd old e → LastsEnd old e → old.TellsImages → (c : List ℕ) → IsLeftByOpening old c → HasEnd c e
+left_by_opening old e h lasts told c (inl left) = lasts told c left
+left_by_opening old e h lasts told c (inr unmade) =
+    let file = unmade.0 in
+    let was : HoldsEnd old new_end = (file.0, file.1, new_in file.0 (inl (file.2, refl))) in
+    subst (HasEnd c) (one_held old new_end e was h) (new_in c unmade.1)
+
+pub load_leaves : (old new : DiskSeen) (failed : Option OpenFault) → IsLawful old → Opens failed old new → LoadLeaves old new
+load_leaves old new failed laws opens = record {
+  any_moment = λ e h lasts. weaker old new (IsLeftByOpening old) (λ c. HasEnd c e) opens.any_moment (λ p c left. left_by_opening old e h lasts (laws.tells_now (opens.any_moment.told p)) c left);
+  now = λ e h lasts told c left. left_by_opening old e h lasts (opens.tells_images.0 told) c (opens.now told c left);
+}
+
+-- of no call at all
+pub leaves_same : (seen : DiskSeen) → IsLawful seen → LoadLeaves seen seen
+leaves_same seen laws = record {
+  any_moment = λ e h lasts. started seen (λ c. HasEnd c e) laws (λ p c left. lasts (laws.tells_now p) c left);
+  now = λ e h lasts. lasts;
+}

@@ -15,7 +15,7 @@ use Rattle.fix_disk.specs.FileDisk.{untold}
 use Rattle.fix_disk.specs.Moments.{LeavesOnly}
 use Rattle.fix_journal.specs.declared.fault.OpenFault.{OpenFault}
 use Rattle.fix_journal.specs.declared.fault.OpenFault.TheVariants as open_fault
-use Rattle.fix_store.specs.Reading.{IsBrokenAt}
+use Rattle.fix_store.specs.Reading.{HasEnd, IsBrokenAt}
 use Rattle.fix_store.specs.Store.{HoldsEnd, LastsEnd, IsEitherEnd}
 use Rattle.fix_store.specs.Rooms.{room_left}
 use Rattle.fix_engine.specs.Outside.{IsStoredOf}
@@ -81,13 +81,14 @@ pub record DiskMoves (acts : List Act) (failed : ℕ) (old new : DiskSeen) : Typ
   pub breaks : (place : ℕ) → BreaksAt new place ↔ BreaksAt old place
   pub cause : Rises failed old.faults new.faults
 
--- numbers within their bounds, those of the end that is told, of a file that doesn't break
+-- numbers within their bounds, those of the end that is told, which is one, of a file that doesn't break
 pub record IsLoadedFrom (stored : Stored) (seen : DiskSeen) : Type 0 where
   pub last : stored.last ≤ 999999999
   pub expected : 1 ≤ stored.expected
   pub expected_bound : stored.expected ≤ 1000000000
   pub since : IfSome stored.since (λ time. time ≤ LAST_TIME)
   pub told : (e : End) → HoldsEnd seen e → IsStoredOf stored e
+  pub one : (a b : End) → HoldsEnd seen a → HoldsEnd seen b → a ≡ b
   pub unbroken : (place : ℕ) → BreaksAt seen place → ⊥
 
 abbrev pub LoadGives : Result Stored LoadFault → DiskSeen → Type 0
@@ -106,6 +107,16 @@ abbrev pub load_fault_of : OpenFault → LoadFault
 load_fault_of open_fault.DiskFault = load.Failed
 load_fault_of (open_fault.Damaged place) = load.Damaged place
 load_fault_of open_fault.OutOfMemory = load.OutOfMemory
+
+-- a crash at any moment of an opening, or behind it, leaves the end that was on the disk
+pub record LoadLeaves (old new : DiskSeen) : Type 0 where
+  pub any_moment : (e : End) → HoldsEnd old e → LastsEnd old e → LeavesOnly old new (λ c. HasEnd c e)
+  pub now : (e : End) → HoldsEnd old e → LastsEnd old e → LastsEnd new e
+
+-- and behind an opening the end that is told is on it
+abbrev pub LoadLasts : {T : Type 0} → Result T LoadFault → DiskSeen → Type 0
+LoadLasts (Ok x) new = (e : End) → HoldsEnd new e → LastsEnd new e
+LoadLasts (Err fault) new = ⊤
 
 abbrev pub KeptRoom : {T : Type 0} → Result T KeepFault → Record → DiskSeen → DiskSeen → Type 0
 KeptRoom (Ok x) r old new = TakesRoom r (room_left old) (room_left new)

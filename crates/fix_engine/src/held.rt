@@ -7,7 +7,7 @@ ghost use Rattle.fix_store.specs.Store.{IsTold, KeepAnswers, StoreKeeps, HoldsEn
 ghost use Rattle.fix_store.specs.Rooms.{KeepRoom, room_left};
 ghost use Rattle.fix_engine.specs.declared.outside.KeepFault.TheVariants.{OutOfMemory};
 ghost use Rattle.fix_engine.specs.Outside.{keeps, loads, fetches, HasPlace, HasEntry, open_kept, open_loaded, open_fetched};
-ghost use Rattle.fix_engine.specs.Held.{IsTaken, IsHeld, device_in, disk_in, open_in, DiskMoves, KeepLeft, LoadGives, LoadRoom, KeptRoom, FetchRoom, IsKindOf, load_fault_of};
+ghost use Rattle.fix_engine.specs.Held.{IsTaken, IsHeld, device_in, disk_in, open_in, DiskMoves, KeepLeft, LoadGives, LoadRoom, LoadLeaves, LoadLasts, KeptRoom, FetchRoom, IsKindOf, load_fault_of};
 
 use crate::{FetchFault, KeepFault, Kind, LoadFault};
 use fix_base::{Entry, Record, SeqNum, Stored};
@@ -44,6 +44,8 @@ fn open_on<D: Disk>(alloc: Global, disk: D) -> (Held<D>, Result<Stored, LoadFaul
     ensures gives { LoadGives result.1 (D.disk disk) }
     ensures moves { DiskMoves (acts_of (loads result.1)) (store_failures (loads result.1)) (D.disk disk) (disk_in D.disk result.0) }
     ensures room { LoadRoom result.1 (D.disk disk) (disk_in D.disk result.0) }
+    ensures leaves { LoadLeaves (D.disk disk) (disk_in D.disk result.0) }
+    ensures lasts { LoadLasts result.1 (disk_in D.disk result.0) }
 {
     match Store::open(alloc, disk) {
         Ok(store) => {
@@ -75,6 +77,8 @@ pub(crate) fn opened<D: Disk>(
     ensures gives { LoadGives result.1 (disk_in D.disk held) }
     ensures moves { DiskMoves (acts_of (loads result.1)) (store_failures (loads result.1)) (disk_in D.disk held) (disk_in D.disk result.0) }
     ensures room { LoadRoom result.1 (disk_in D.disk held) (disk_in D.disk result.0) }
+    ensures leaves { LoadLeaves (disk_in D.disk held) (disk_in D.disk result.0) }
+    ensures lasts { LoadLasts result.1 (disk_in D.disk result.0) }
 {
     match held {
         Held::Shut(disk) => open_on(alloc, disk),

@@ -20,7 +20,7 @@ pub struct Rim<D: Disk, L, A, C, T> {
 }
 
 impl<D: Disk, L: Link, A: App, C: Clock, T: Tape> Rim<D, L, A, C, T> {
-    ghost use Rattle.std.specs.Prelude.{◌≡◌, Some, None};
+    ghost use Rattle.std.specs.Prelude.{◌≡◌, Some, None, option_map};
     ghost use Rattle.fix_engine.specs.Rim.{disk_in, open_at_of, link_in, unlinked_in, app_in, clock_in, tape_in};
 
     /// An outside over these parts. Its store isn't open. Without a connection a read ends, and a
@@ -50,6 +50,30 @@ impl<D: Disk, L: Link, A: App, C: Clock, T: Tape> Rim<D, L, A, C, T> {
         }
     }
 
+    /// The connection, if there is one.
+    pub fn link(&self) -> Option<&L>
+        ensures { option_map (λ l. l.now) result ≡ link_in self.now }
+    {
+        self.plug.link.as_ref()
+    }
+
+    /// The parts, without what the store holds in memory.
+    pub fn into_parts(self) -> (D, Option<L>, A, C, T)
+        ensures disk { disk_in self ≡ Some result.0 }
+        ensures link { result.1 ≡ link_in self }
+        ensures app { result.2 ≡ app_in self }
+        ensures clock { result.3 ≡ clock_in self }
+        ensures tape { result.4 ≡ tape_in self }
+    {
+        (
+            self.shelf.into_disk(),
+            self.plug.link,
+            self.app,
+            self.clock,
+            self.tape,
+        )
+    }
+
     /// The application.
     pub fn app(&self) -> &A
         ensures { result.now ≡ app_in self.now }
@@ -75,7 +99,7 @@ impl<D: Disk, L: Link, A: App, C: Clock, T: Tape> Outside for Rim<D, L, A, C, T>
     ghost use Rattle.fix_parts.specs.App.{AppTakes, AppAsks, HasKind};
     ghost use Rattle.fix_engine.specs.declared.outside.KeepFault.TheVariants as TheKeepFault;
     ghost use Rattle.fix_engine.specs.Outside.{marks, tells_time, reads, writes, keeps, hands, loads, fetches, HasPlace, HasEntry, open_kept, open_loaded, open_fetched, LoadAnswers, FetchAnswers};
-    ghost use Rattle.fix_engine.specs.Held.{seen_on, KeepLeft};
+    ghost use Rattle.fix_engine.specs.Held.{seen_on, KeepLeft, LoadLeaves, LoadLasts};
     ghost use Rattle.fix_engine.specs.Plug.{plug_of};
     ghost use Rattle.fix_engine.specs.Rim.{seen_of, disk_seen, disk_in, tape_in, app_in, clock_in, with_clock_of, with_tape_of, with_link_of, with_store_of, with_app_of, with_app_alone_of};
 
@@ -97,6 +121,9 @@ impl<D: Disk, L: Link, A: App, C: Clock, T: Tape> Outside for Rim<D, L, A, C, T>
         ensures noted { Moves (seen_of (T.told self.old.tape) (seen_on D.disk self.old.shelf.device) self.old.shelf.open_at (plug_of L.link self.old.plug) (A.app self.old.app) (C.readings self.old.clock)) (seen_of (T.told self.new.tape) (seen_on D.disk self.new.shelf.device) self.new.shelf.open_at (plug_of L.link self.new.plug) (A.app self.new.app) (C.readings self.new.clock)) (loads result) }
         ensures answers { LoadAnswers result (seen_of (T.told self.old.tape) (seen_on D.disk self.old.shelf.device) self.old.shelf.open_at (plug_of L.link self.old.plug) (A.app self.old.app) (C.readings self.old.clock)) }
         ensures opens { self.new.shelf.open_at ≡ open_loaded result }
+        // A crash at any moment of it leaves the end that was on the disk; at Ok it is the one that is told.
+        ensures leaves { LoadLeaves (disk_seen D.disk self.old) (disk_seen D.disk self.new) }
+        ensures lasts { LoadLasts result (disk_seen D.disk self.new) }
         ensures others { self.new ≡ with_store_of self.old self.new }
     {
         match self.tape.reserve(&Noted::Stop) {

@@ -6,7 +6,7 @@ ghost use Rattle.fix_base.specs.Seen.{acts_of, store_failures};
 ghost use Rattle.fix_store.specs.Store.{HoldsEnd};
 ghost use Rattle.fix_engine.specs.declared.outside.KeepFault.TheVariants.{OutOfMemory};
 ghost use Rattle.fix_engine.specs.Outside.{keeps, loads, fetches, HasPlace, HasEntry, open_kept, open_loaded, open_fetched};
-ghost use Rattle.fix_engine.specs.Held.{seen_on, DiskMoves, KeepLeft, LoadGives, LoadRoom, KeptRoom, FetchRoom, IsKindOf};
+ghost use Rattle.fix_engine.specs.Held.{seen_on, DiskMoves, KeepLeft, LoadGives, LoadRoom, LoadLeaves, LoadLasts, KeptRoom, FetchRoom, IsKindOf};
 
 use crate::held::{Held, fetch_from, keep_in, opened, put_back, shut};
 use crate::{FetchFault, KeepFault, Kind, LoadFault};
@@ -52,11 +52,24 @@ impl<D: Disk> Shelf<D> {
         ensures gives { LoadGives result (seen_on D.disk self.old.device) }
         ensures moves { DiskMoves (acts_of (loads result)) (store_failures (loads result)) (seen_on D.disk self.old.device) (seen_on D.disk self.new.device) }
         ensures room { LoadRoom result (seen_on D.disk self.old.device) (seen_on D.disk self.new.device) }
+        ensures leaves { LoadLeaves (seen_on D.disk self.old.device) (seen_on D.disk self.new.device) }
+        ensures lasts { LoadLasts result (seen_on D.disk self.new.device) }
     {
         let held = mem::replace(&mut self.held, Held::Taken);
         let (held, answer) = opened(self.alloc, held);
         put_back(&mut self.held, held);
         answer
+    }
+
+    /// The disk.
+    pub(crate) fn into_disk(self) -> D
+        ensures { self.device ≡ Some result }
+    {
+        match self.held {
+            Held::Shut(disk) => disk,
+            Held::Open(store) => store.into_disk(),
+            Held::Taken => unreachable!(),
+        }
     }
 
     /// Closes the store.
