@@ -29,11 +29,15 @@ use Rattle.fix_engine.specs.declared.stop.StopCause.{StopCause}
 use Rattle.fix_engine.specs.declared.stop.BeginFault.{BeginFault}
 use Rattle.fix_engine.specs.Turn.{Live, live, Ran}
 use Rattle.fix_engine.specs.declared.stop.BeginFault.TheVariants as begins
-use Rattle.fix_engine.specs.Run.{Seat, seated_at, no_bytes, run_end, stop_cause, stopped_for_memory, Opens, BeginsTo, opened_to, no_memory, no_memory_to_open, begun}
-use Rattle.fix_engine.specs.Lawful.{IsCertain, MayHold, Fits, Leads, After, IsLawfulBegin}
+use Rattle.fix_engine.specs.Run.{Seat, seated_at, seated_again, no_bytes, run_end, stop_cause, stopped_for_memory, Opens, BeginsTo, opened_to, no_memory, no_memory_to_open, begun}
+use Rattle.fix_engine.specs.Lawful.{HasNumbers, IsCertain, MayHold, Fits, Leads, After, AfterBegin, IsLawfulBegin}
 use Rattle.fix_engine.specs.InStep as step
-use Rattle.fix_engine.specs.InStep.{IsBeside, IsTape, IsStored, IsInStep, StandsInStep, IsConnected, AreOfRun, HasServed, bytes_written}
-use Rattle.fix_engine.specs.Outside.{IsStoredOf, IsLoaded}
+use Rattle.fix_engine.specs.InStep.{IsBeside, IsTape, IsStored, IsInStep, StandsInStep, Trails, IsConnected, AreOfRun, HasServed, bytes_written}
+use Rattle.fix_engine.specs.declared.outside.LoadFault.{LoadFault}
+use Rattle.fix_engine.specs.declared.outside.LoadFault.TheVariants as load
+use Rattle.fix_engine.specs.declared.stop.StopCause.TheVariants as stops
+use Rattle.fix_engine.specs.Outside.{IsStoredOf, IsLoaded, loads}
+use Rattle.fix_engine.proofs.RestartLemmas.{restarts, held_starts}
 use Rattle.fix_engine.proofs.EachFrame.{decided, map_sure}
 use Rattle.fix_engine.proofs.BeginLemmas.{begins_ok, begins_err}
 use Rattle.fix_engine.proofs.LeadsLemmas.{leads_nowhere, leads_step, holds_end, Stores-split}
@@ -365,3 +369,109 @@ run_stands n seat r to old new is_open opens g h =
     (λ none. stands_on old new seat (seated seat to (stop_cause (run_end r))) (opens ∙ open_unstopped r to.state none)
     (λ start before k. moved start before old new seat to (stop_cause (run_end r)) g.0 (After seat.identity (run_end r) to) g.1 (opens ∙ open_unstopped r to.state none) (λ e q. after_beside seat.identity r to e none q) k
     (Ran-lawful seat.identity n seat.live g.0 r to g.2 k.to (beside_fits seat.identity seat.live k.to is_open k.beside))) h)
+
+-- ---- what is left of a session that stopped
+
+trail : (start : EndState) (before : List Act) (old new : Seen) (seat : Seat) (to : Live) (stopped : Option StopCause) (notes : List Note) (P : EndState → Type 0) → Moves old new notes → ((e : EndState) → P e → HasNumbers to.state e) → (h : IsInStep start before old seat) → Leads seat.identity h.to (acts_of notes) P → Trails start before new (seated seat to stopped)
+trail start before old new seat to stopped notes P m numbers h l = record {
+  acts = h.acts ++ acts_of notes;
+  to = l.to;
+  run = EndRun-append h.run l.run;
+  numbers = numbers l.to l.holds;
+  tape = subst (λ acts. IsTape new acts) (append_assoc before h.acts (acts_of notes)) (tape_moves old.tape new.tape (before ++ h.acts) (acts_of notes) m.tape h.tape);
+  held = told_holds old.Holds new.Holds (acts_of notes) h.to.end (MayHold l.to.doubt l.to.end) m.stored l.store h.stored;
+}
+
+after_numbers : (id : Identity) (r : Result ⊤ Ending) (to : Live) (e : EndState) → After id (run_end r) to e → HasNumbers to.state e
+after_numbers id (Ok x) to e h = h.on.settled.numbers
+after_numbers id (Err (ending.Closed why)) to e h = h.settled.numbers
+after_numbers id (Err (ending.NotBuilt n)) to e h = h.settled.numbers
+after_numbers id (Err ending.LinkFault) to e h = h.settled.numbers
+after_numbers id (Err ending.AppFault) to e h = h.settled.numbers
+after_numbers id (Err ending.NumbersSpent) to e h = h.settled.numbers
+after_numbers id (Err ending.StoreFault) to e h = h.numbers
+after_numbers id (Err ending.OutOfMemory) to e h = h.numbers
+
+pub run_trails : (n : ℕ) (seat : Seat) (r : Result ⊤ Ending) (to : Live) (stopped : Option StopCause) (old new : Seen) → seat.live.state.phase ≢ Down → Goes old new (λ notes. Ran seat.identity n seat.live notes r to) → (start : EndState) (before : List Act) → IsInStep start before old seat → Trails start before new (seated seat to stopped)
+run_trails n seat r to stopped old new is_open g start before h =
+    trail start before old new seat to stopped g.0 (After seat.identity (run_end r) to) g.1 (after_numbers seat.identity r to) h
+    (Ran-lawful seat.identity n seat.live g.0 r to g.2 h.to (beside_fits seat.identity seat.live h.to is_open h.beside))
+
+begins_numbers : {T : Type 0} (id : Identity) (r : Result T BeginFault) (to : Live) (e : EndState) → AfterBegin id r to e → HasNumbers to.state e
+begins_numbers id (Ok x) to e h = h.on.settled.numbers
+begins_numbers id (Err begins.OutOfMemory) to e h = h.numbers
+begins_numbers id (Err (begins.Stopped why)) to e h = absurd h
+
+begin_trails : {T : Type 0} (old : Seat) (to : Live) (stopped : Option StopCause) (r : Result T BeginFault) (a b : Seen) → Goes a b (IsLawfulBegin old r (seated old to stopped)) → (start : EndState) (before : List Act) → IsInStep start before a old → Trails start before b (seated old to stopped)
+begin_trails old to stopped r a b g start before h =
+    trail start before a b old to stopped g.0 (AfterBegin old.identity r to) g.1 (begins_numbers old.identity r to) h
+    (g.2 h.to (beside_settled old.identity old.live h.to h.beside))
+
+pub opened_trails : (old : Seat) (t : ℕ) (a b : Seen) → Goes a b (Opens (Ok t)) → (start : EndState) (before : List Act) → IsInStep start before a old → Trails start before b (seated old (begun old.live t) None)
+opened_trails old t a b g = begin_trails {T = ⊤} old (begun old.live t) None (Ok tt) a b (opened_lawful old t a b g)
+
+pub not_opened_trails : (old : Seat) (fault : BeginFault) (a b : Seen) → Goes a b (Opens (Err fault)) → (start : EndState) (before : List Act) → IsInStep start before a old → Trails start before b (stopped_for_memory old)
+not_opened_trails old fault a b g = begin_trails {T = ⊤} old old.live (Some stops.OutOfMemory) (Err fault) a b (not_opened_lawful old fault a b g)
+
+pub refused_trails : (old : Seat) (a : Seen) (start : EndState) (before : List Act) → IsInStep start before a old → Trails start before a (stopped_for_memory old)
+refused_trails old a = begin_trails {T = ⊤} old old.live (Some stops.OutOfMemory) (Err begins.OutOfMemory) a a (refused_lawful old a)
+
+-- ---- a session whose store is opened again
+
+-- whatever a stop left, the session goes on in step
+pub again_in_step : (old : Seat) (stored : Stored) (a b : Seen) → IsLoaded stored a → Moves a b (Did act.Stop ∷ []) → b.open_at ≡ Some stored.last → (start : EndState) (before : List Act) (e : End) → a.Holds e → Trails start before a old → IsInStep start before b (seated_again old stored)
+again_in_step old stored a b loaded m opens start before e holds t =
+    let r = restarts old.identity stored t.to (held_starts stored t.to e (t.held e holds) (loaded.told e holds)) in
+    record {
+      acts = t.acts ++ act.Stop ∷ [];
+      to = r.to;
+      run = EndRun-append t.run r.run;
+      beside = step.down refl r.certain;
+      tape = subst (λ acts. IsTape b acts) (append_assoc before t.acts (act.Stop ∷ [])) (tape_moves a.tape b.tape (before ++ t.acts) (act.Stop ∷ []) m.tape t.tape);
+      stored = λ x h.
+          (let had = loaded_same a b m.stored x h in
+          had.2 ∙ r.held had.0 (t.held had.0 had.1) (loaded.told had.0 had.1));
+      opens = opens;
+    }
+
+pub again_stands : (old : Seat) (stored : Stored) (a b : Seen) → IsLoaded stored a → Moves a b (Did act.Stop ∷ []) → b.open_at ≡ Some stored.last → StandsInStep b (seated_again old stored)
+again_stands old stored a b loaded m opens =
+    let h = loaded_stands old.identity stored a b loaded m opens in
+    record {
+      opens = opens;
+      stands = map_sure (λ x. (
+        x.0,
+        x.1,
+        record {
+          acts = x.2.acts;
+          to = x.2.to;
+          run = x.2.run;
+          beside = step.down refl (beside_settled old.identity (seated_at old.identity stored).live x.2.to x.2.beside);
+          tape = x.2.tape;
+          stored = x.2.stored;
+          opens = opens;
+        },
+      )) h.stands;
+    }
+
+-- a refusal leaves what was left
+pub refused_trail : (old : Seat) (fault : LoadFault) (stopped : Option StopCause) (a b : Seen) → Moves a b (loads {T = Stored} (Err fault)) → (start : EndState) (before : List Act) → Trails start before a old → Trails start before b (seated old old.live stopped)
+refused_trail old fault stopped a b m start before t = record {
+  acts = t.acts;
+  to = t.to;
+  run = t.run;
+  numbers = t.numbers;
+  tape = subst (λ acts. IsTape b acts) (append-nil (before ++ t.acts)) (tape_moves a.tape b.tape (before ++ t.acts) [] (m.tape ∙ ap (grown a.tape) (no_acts fault)) t.tape);
+  held = λ e h. (let had = still e h in subst (λ x. MayHold t.to.doubt t.to.end (Some x)) (sym had.2) (t.held had.0 had.1));
+}
+  where
+    no_acts : (f : LoadFault) → acts_of (loads {T = Stored} (Err f)) ≡ []
+    no_acts load.Failed = refl
+    no_acts (load.Damaged place) = refl
+    no_acts load.OutOfMemory = refl
+
+    nothing : HoldsOn a.Holds b.Holds []
+    nothing = subst (HoldsOn a.Holds b.Holds) (no_acts fault) m.stored
+
+    still : (e : End) → b.Holds e → (x : End) × a.Holds x × (e ≡ x)
+    still e h = let was = nothing.only e h in (was.0, was.1, some_end e was.0 was.2)

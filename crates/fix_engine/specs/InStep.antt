@@ -18,7 +18,7 @@ use Rattle.fix_engine.specs.Turn.{Live}
 use Rattle.fix_engine.specs.declared.stop.RunEnd.{RunEnd}
 use Rattle.fix_engine.specs.Run.{Seat}
 use Rattle.fix_engine.specs.Stated.{CanNotFail}
-use Rattle.fix_engine.specs.Lawful.{IsCertain, MayHold, Fits, After}
+use Rattle.fix_engine.specs.Lawful.{HasNumbers, IsCertain, MayHold, Fits, After}
 
 -- the end is in step with a session: on a connection, or between two of them
 pub data IsBeside (id : Identity) (l : Live) (e : EndState) : Type 0 where
@@ -49,6 +49,17 @@ pub record IsInStep (start : EndState) (before : List Act) (w : Seen) (seat : Se
 pub record StandsInStep (w : Seen) (seat : Seat) : Type 0 where
   pub opens : w.open_at ≡ Some seat.live.state.last
   pub stands : CanNotFail ((start : EndState) × (before : List Act) × IsInStep start before w seat)
+
+-- What is left where a session stopped, or the process did behind one of its calls: since the end was `start`, and the
+-- tape had the acts `before`, a lawful run led to an end with the session's numbers. The tape has the acts of the run
+-- behind those, and what is stored is this end, with or without the record that is in doubt.
+pub record Trails (start : EndState) (before : List Act) (w : Seen) (seat : Seat) : Type 0 where
+  pub acts : List Act
+  pub to : EndState
+  pub run : EndRun seat.identity start acts to
+  pub numbers : HasNumbers seat.live.state to
+  pub tape : IsTape w (before ++ acts)
+  pub held : (e : End) → w.Holds e → MayHold to.doubt to.end (Some e)
 
 -- an act of a run: no connection is opened, no store is reset, what is kept may be sent again, and the process goes
 -- on

@@ -102,6 +102,29 @@ pub data OpensTo (id : Identity) : Result Seat LoadFault → Result Stored LoadF
   from_stored : (stored : Stored) → OpensTo id (Ok (seated_at id stored)) (Ok stored) (Did act.Stop ∷ [])
   no_store : (fault : LoadFault) → OpensTo id (Err fault) (Err fault) (loads {T = Stored} (Err fault))
 
+-- why a session is stopped whose store wasn't opened
+abbrev pub load_stop : LoadFault → StopCause
+load_stop load.Failed = cause.StoreFault
+load_stop (load.Damaged place) = cause.StoreFault
+load_stop load.OutOfMemory = cause.OutOfMemory
+
+-- a stopped session stays as it is
+abbrev pub stays_stopped : Option StopCause → LoadFault → Option StopCause
+stays_stopped None fault = Some (load_stop fault)
+stays_stopped (Some why) fault = Some why
+
+-- a session that goes on from these numbers, and one whose store wasn't opened
+abbrev pub seated_again : Seat → Stored → Seat
+seated_again old stored = record { identity = old.identity; live = live (state_of stored) old.live.ahead; stopped = None }
+
+abbrev pub seated_refused : Seat → LoadFault → Seat
+seated_refused old fault = record { identity = old.identity; live = old.live; stopped = stays_stopped old.stopped fault }
+
+-- what comes of opening the store of a session again
+pub data ReopensTo {T : Type 0} (old : Seat) : Result T LoadFault → Result Stored LoadFault → Seat → List Note → Type 0 where
+  again : {x : T} (stored : Stored) → ReopensTo old (Ok x) (Ok stored) (seated_again old stored) (Did act.Stop ∷ [])
+  refused_again : (fault : LoadFault) → ReopensTo old (Err fault) (Err fault) (seated_refused old fault) (loads {T = Stored} (Err fault))
+
 -- what comes of opening a connection, with the reading
 pub data Opens : Result ℕ BeginFault → List Note → Type 0 where
   opened : (t : ℕ) → Opens (Ok t) (Did (act.Now t) ∷ Did act.Opened ∷ [])

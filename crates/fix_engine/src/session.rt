@@ -1,5 +1,6 @@
-ghost use Rattle.std.specs.Prelude.{◌≡◌, ◌≢◌, ◌≤◌, ◌∷◌, ◌++◌, ℕ, List, [], IfSome, IfNone, Result, IfOk, OnOk, Some, None, Err};
+ghost use Rattle.std.specs.Prelude.{◌≡◌, ◌≢◌, ◌≤◌, ◌∷◌, ◌++◌, ℕ, List, [], IfSome, IfNone, Result, IfOk, OnOk, OnErr, Some, None, Err};
 ghost use Rattle.fix_base.specs.declared.entry.Stored.{Stored};
+ghost use Rattle.fix_base.specs.End.{End};
 ghost use Rattle.fix_base.specs.Session.{IsValidIdentity};
 ghost use Rattle.fix_base.specs.EndStep.{EndState};
 ghost use Rattle.fix_base.specs.Seen.{acts_of, NoneRose, Goes};
@@ -8,8 +9,8 @@ ghost use Rattle.fix_engine.specs.declared.outside.LoadFault.{LoadFault};
 ghost use Rattle.fix_engine.specs.State.{IsInRange};
 ghost use Rattle.fix_engine.specs.Outside.{LoadAnswers};
 ghost use Rattle.fix_engine.specs.Lawful.{IsLawful, IsLawfulBegin};
-ghost use Rattle.fix_engine.specs.InStep.{IsInStep, StandsInStep, IsConnected, HasServed};
-ghost use Rattle.fix_engine.specs.Run.{state_of, LoadHasCause, OpensTo, run_end, RanTo, stop_cause, RunHasCause, IsDownUnlessSpent, Opens, BeginsTo};
+ghost use Rattle.fix_engine.specs.InStep.{IsInStep, StandsInStep, Trails, IsConnected, HasServed};
+ghost use Rattle.fix_engine.specs.Run.{state_of, stays_stopped, LoadHasCause, OpensTo, ReopensTo, run_end, RanTo, stop_cause, RunHasCause, IsDownUnlessSpent, Opens, BeginsTo};
 ghost use Rattle.fix_engine.specs.Turns.{HasTurns, IsSettled, ShowsPeerEnd};
 ghost use Rattle.fix_engine.specs.Stated.{IsAsStated};
 ghost use Rattle.fix_engine.specs.LookBack.{StandsAt, LooksBack};
@@ -111,6 +112,20 @@ fn state_from(stored: Stored) -> State
     }
 }
 
+// Why the session is stopped where its store was not opened.
+fn stop_by(stopped: Option<StopCause>, fault: LoadFault) -> StopCause
+    ensures { Some result ≡ stays_stopped stopped fault }
+{
+    if let Some(cause) = stopped {
+        return cause;
+    }
+    match fault {
+        LoadFault::Failed => StopCause::StoreFault,
+        LoadFault::Damaged(_) => StopCause::StoreFault,
+        LoadFault::OutOfMemory => StopCause::OutOfMemory,
+    }
+}
+
 impl Session {
     /// A session as acceptor, over what the message store has: it opens the store, and goes on with
     /// its numbers. Both CompIDs must be ones: 1 to 64 bytes from 0x20 to 0x7E. Memory is taken
@@ -143,6 +158,32 @@ impl Session {
         }
     }
 
+    /// Opens the message store again: the session goes on from what is stored, whatever a stop left
+    /// of it. A session that isn't stopped must be Down, and is stopped where this is refused; one
+    /// that is stopped stays so then. On Ok it isn't stopped, and in step with the outside.
+    pub fn reopen<O: Outside>(&mut self, o: &mut O) -> Result<(), LoadFault>
+        requires { IfNone self.old.stopped (self.old.live.state.phase ≡ Phase.Down) }
+        ensures loads { (loaded : Result Stored LoadFault) × LoadAnswers loaded (O.seen o.old) × Goes (O.seen o.old) (O.seen o.new) (ReopensTo self.old result loaded self.new) }
+        ensures cause { LoadHasCause result (O.seen o.old).faults (O.seen o.new).faults }
+        ensures stands { OnOk result (StandsInStep (O.seen o.new) self.new) }
+        // Where the store tells what it holds: the acts since some start are a run of a lawful end
+        // still, and what was in doubt is settled.
+        ensures in_step { OnOk result ((start : EndState) (before : List Act) (e : End) → (O.seen o.old).Holds e → Trails start before (O.seen o.old) self.old → IsInStep start before (O.seen o.new) self.new) }
+        ensures trails { OnErr result ((start : EndState) (before : List Act) → Trails start before (O.seen o.old) self.old → Trails start before (O.seen o.new) self.new) }
+    {
+        match o.load() {
+            Ok(stored) => {
+                self.state = state_from(stored);
+                self.stopped = None;
+                Ok(())
+            }
+            Err(fault) => {
+                self.stopped = Some(stop_by(self.stopped, fault));
+                Err(fault)
+            }
+        }
+    }
+
     /// Begins a connection: reads the clock once, and waits for the counterparty's Logon. The
     /// phase must be Down, and the outside in step with the session: what it tells of its tape and
     /// of its store is what the session's calls did. A stopped session answers `Stopped` and calls
@@ -163,6 +204,7 @@ impl Session {
         // outside of it, and connected.
         ensures lawful { IfNone self.old.stopped (Goes (O.seen o.old) (O.seen o.new) (IsLawfulBegin self.old result self.new)) }
         ensures in_step { IfNone self.new.stopped ((start : EndState) (before : List Act) → IsInStep start before (O.seen o.old) self.old → IsInStep start before (O.seen o.new) self.new) }
+        ensures trails { IfNone self.old.stopped ((start : EndState) (before : List Act) → IsInStep start before (O.seen o.old) self.old → Trails start before (O.seen o.new) self.new) }
         ensures stands { IfNone self.new.stopped (StandsInStep (O.seen o.new) self.new) }
         ensures connected { IfNone self.new.stopped ((start : EndState) (before : List Act) (h : IsInStep start before (O.seen o.old) self.old) → (time : ℕ) × IsConnected h.to (before ++ h.acts ++ Act.Now time ∷ []) (O.seen o.new) self.new) }
     {
@@ -225,6 +267,7 @@ impl Session {
         // of it, and connected where all turns were made.
         ensures lawful { IfNone self.old.stopped (Goes (O.seen o.old) (O.seen o.new) (IsLawful self.old.identity self.old.live result self.new.live)) }
         ensures in_step { IfNone self.new.stopped ((start : EndState) (before : List Act) → IsInStep start before (O.seen o.old) self.old → IsInStep start before (O.seen o.new) self.new) }
+        ensures trails { IfNone self.old.stopped ((start : EndState) (before : List Act) → IsInStep start before (O.seen o.old) self.old → Trails start before (O.seen o.new) self.new) }
         ensures stands { IfNone self.new.stopped (StandsInStep (O.seen o.new) self.new) }
         ensures connected { result ≡ RunEnd.TurnsSpent → (start : EndState) (before : List Act) → IsConnected start before (O.seen o.old) self.old → IsConnected start before (O.seen o.new) self.new }
 

@@ -3,7 +3,7 @@ use Rattle.std.specs.Prelude.{None}
 use Rattle.fix_engine.specs.Turn.{live}
 use Rattle.fix_engine.specs.Run.{no_memory}
 use Rattle.fix_engine.proofs.BeginLemmas.{begins_ok, begins_err}
-use Rattle.fix_engine.proofs.InStepLemmas.{opened_lawful, opened_in_step, opened_stands, opened_connected, not_opened_lawful, refused_lawful}
+use Rattle.fix_engine.proofs.InStepLemmas.{opened_lawful, opened_in_step, opened_stands, opened_connected, opened_trails, not_opened_lawful, not_opened_trails, refused_lawful, refused_trails}
 use Rattle.fix_engine.proofs.session.Session.begin.Goals as goal
 
 pub returns-in-Err-clause-begins : goal.returns-in-Err-clause-begins
@@ -40,3 +40,13 @@ returns-in-Ok-open_connection-clause-connected g c =
 pub returns-in-Ok-open_connection-clause-stands : goal.returns-in-Ok-open_connection-clause-stands
 returns-in-Ok-open_connection-clause-stands g c =
     rw (c.in_default.is, c.take_reading.ensures.taken, c.in-Ok.ensures) (opened_stands (record { identity = c.self.inside.party.identity; live = live c.self.inside.state c.self.inside.reader; stopped = None }) _ _ _ c.in-Ok-open_connection.ensures.opens c.in-Ok-open_connection.ensures.notes (rw (← c.self.view_is, c.in_default.is) at c.requires.in_step))
+
+pub returns-in-Err-clause-trails : goal.returns-in-Err-clause-trails
+returns-in-Err-clause-trails g c = rw (← c.self.view_is, c.in_default.is) (refused_trails (record { identity = c.self.inside.party.identity; live = live c.self.inside.state c.self.inside.reader; stopped = None }) _)
+
+pub returns-in-Ok-open_connection-clause-trails : goal.returns-in-Ok-open_connection-clause-trails
+returns-in-Ok-open_connection-clause-trails g c =
+    rw (← c.self.view_is, c.in_default.is, c.take_reading.ensures.taken, c.in-Ok.ensures) (opened_trails (record { identity = c.self.inside.party.identity; live = live c.self.inside.state c.self.inside.reader; stopped = None }) _ _ _ c.in-Ok-open_connection.ensures.notes)
+
+pub returns-in-Err-open_connection-clause-trails : goal.returns-in-Err-open_connection-clause-trails
+returns-in-Err-open_connection-clause-trails g c = rw (← c.self.view_is, c.in_default.is) (not_opened_trails (record { identity = c.self.inside.party.identity; live = live c.self.inside.state c.self.inside.reader; stopped = None }) _ _ _ c.in-Err-open_connection.ensures.notes)

@@ -1,3 +1,5 @@
+use Rattle.std.specs.Prelude.{None}
+use Rattle.fix_engine.specs.Turn.{live}
 use Rattle.fix_engine.proofs.Causes.{RanTo-has_cause}
 use Rattle.fix_engine.proofs.Phases.{Ran-phase}
 use Rattle.fix_engine.proofs.Settled.{Ran-settled}
@@ -5,7 +7,7 @@ use Rattle.fix_engine.proofs.Turns.{Ran-has_turns}
 use Rattle.fix_engine.proofs.Prefix.{as_stated}
 use Rattle.fix_engine.proofs.Recounting.{looks_back}
 use Rattle.fix_engine.proofs.LawfulRuns.{run_lawful}
-use Rattle.fix_engine.proofs.InStepLemmas.{run_in_step, run_stands, run_connected, run_serves}
+use Rattle.fix_engine.proofs.InStepLemmas.{run_in_step, run_stands, run_trails, run_connected, run_serves}
 use Rattle.fix_engine.proofs.PeerEnds.{shows_peer_end}
 use Rattle.fix_engine.proofs.session.Session.run_turns.Goals as goal
 
@@ -56,3 +58,7 @@ returns-clause-peer_end g c =
 pub returns-clause-stands : goal.returns-clause-stands
 returns-clause-stands g c =
     rw (c.stop_of-self-inside.ensures, c.answer_of-answer.ensures) (run_stands _ _ _ _ _ _ (rw (← c.self.view_is, c.in_default.is) at c.requires.phase) c.run_and_cut-ran.ensures.opens c.run_and_cut-ran.ensures.notes (rw (← c.self.view_is, c.in_default.is) at c.requires.in_step))
+
+pub returns-clause-trails : goal.returns-clause-trails
+returns-clause-trails g c =
+    rw (← c.self.view_is, c.in_default.is) (run_trails _ (record { identity = c.self.inside.party.identity; live = live c.self.inside.state c.self.inside.reader; stopped = None }) _ _ _ _ _ (rw (← c.self.view_is, c.in_default.is) at c.requires.phase) c.run_and_cut-ran.ensures.notes)
