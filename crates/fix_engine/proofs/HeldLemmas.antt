@@ -188,9 +188,9 @@ module _ (old new : DiskSeen) (failed : OpenFault) (opens : Opens (Some failed) 
   then_file file is = elim (made_or_not file) [
     | inl made ↦ inl (subst (λ o. IfSome o (λ f. IsMade f → new.bytes ≡ old.bytes)) is opens.made_same made)
     | inr unmade ↦ (
-      let now = at_told new.bytes (opens.tells_bytes.1 (ap is_some is)) in
-      let has = subst (λ o. IfSome o (λ c. HasRecords c [])) now.1 (subst (λ o. IfSome o (λ f. (IsMade f → ⊥) → IfSome new.bytes (λ c. HasRecords c []))) is opens.as_read unmade) in
-      inr ((file, is, new_in file (inl (unmade, refl))), (now.0, now.1, new_in now.0 has)))
+        let now = at_told new.bytes (opens.tells_bytes.1 (ap is_some is)) in
+        let has = subst (λ o. IfSome o (λ c. HasRecords c [])) now.1 (subst (λ o. IfSome o (λ f. (IsMade f → ⊥) → IfSome new.bytes (λ c. HasRecords c []))) is opens.as_read unmade) in
+        inr ((file, is, new_in file (inl (unmade, refl))), (now.0, now.1, new_in now.0 has)))
   ]
 
   then_end : (e : End) → HoldsEnd old e → HoldsEnd new e
@@ -210,11 +210,11 @@ module _ (old new : DiskSeen) (failed : OpenFault) (opens : Opens (Some failed) 
   then_breaks : (place : ℕ) → BreaksAt new place ↔ BreaksAt old place
   then_breaks place = (
     λ b. (
-      let file = at_told old.bytes (opens.tells_bytes.0 (ap is_some b.1)) in
-      elim (then_file file.0 file.1) [
-        | inl same ↦ (b.0, sym same ∙ b.1, b.2)
-        | inr both ↦ absurd (held_whole new new_end both.1 place b)
-      ]),
+        let file = at_told old.bytes (opens.tells_bytes.0 (ap is_some b.1)) in
+        elim (then_file file.0 file.1) [
+          | inl same ↦ (b.0, sym same ∙ b.1, b.2)
+          | inr both ↦ absurd (held_whole new new_end both.1 place b)
+        ]),
     λ b. elim (then_file b.0 b.1) [
       | inl same ↦ (b.0, same ∙ b.1, b.2)
       | inr both ↦ absurd (held_whole old new_end both.0 place b)

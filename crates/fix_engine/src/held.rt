@@ -67,10 +67,7 @@ fn load_fault(fault: OpenFault) -> LoadFault
 }
 
 // Opens the store anew.
-pub(crate) fn opened<D: Disk>(
-    alloc: Global,
-    held: Held<D>,
-) -> (Held<D>, Result<Stored, LoadFault>)
+pub(crate) fn opened<D: Disk>(alloc: Global, held: Held<D>) -> (Held<D>, Result<Stored, LoadFault>)
     requires { IsHeld held }
     ensures there { IsHeld result.0 }
     ensures opens { open_in result.0 ≡ open_loaded result.1 }

@@ -11,3 +11,4 @@ mod words;
 pub use sample::{InMemory, Sampled, serve_sample};
 pub use serve::serve_stdio;
 pub use status::status_name;
+pub use words::asks_for_session;

@@ -3,9 +3,9 @@ ghost use Rattle.fix_base.specs.Says.{joined};
 ghost use Rattle.fix_top.specs.Sample.{SAMPLE};
 
 use super::*;
-use fix_base::{Bytes, Status, Stored};
-use fix_disk::MemorySink;
-use fix_engine::Plain;
+use fix_base::{Bytes, OutOfMemory, Status, Stored};
+use fix_disk::{Disk, MemoryDisk, MemorySink};
+use fix_engine::{Outside, Rim};
 use fix_parts::{KeptTape, LineApp, MemoryClock, MemoryLink};
 use std::alloc::Global;
 use std::process::Abort;
@@ -35,7 +35,7 @@ const LINE: &[u8] = b"2 N 35=D|11=A1|21=1|55=XYZ|54=1|60=20240102-10:00:00|40=1|
 
 const WORDS: [&str; 4] = ["--stdio", "FIX.4.2", "SELL", "BUY"];
 
-type Tested = Plain<MemoryLink, LineApp<MemorySink>, MemoryClock, KeptTape>;
+type Tested = Rim<MemoryDisk, MemoryLink, LineApp<MemorySink>, MemoryClock, KeptTape>;
 
 // The texts as bytes, one after the other.
 fn bytes_of(alloc: Global, texts: &[&[u8]]) -> Result<Vec<u8>, Fail> {
@@ -48,16 +48,16 @@ fn bytes_of(alloc: Global, texts: &[&[u8]]) -> Result<Vec<u8>, Fail> {
     Ok(bytes)
 }
 
-// The calls that fail: of the store, of the connection, and of the sink; 0 for none.
+// The calls that fail: of the disk, of the connection, and of the sink; 0 for none.
 #[derive(Clone, Copy)]
 struct Fails {
-    keep: u64,
+    disk: u64,
     link: u64,
     sink: u64,
 }
 
 const NONE: Fails = Fails {
-    keep: 0,
+    disk: 0,
     link: 0,
     sink: 0,
 };
@@ -70,19 +70,49 @@ fn served(
     fails: Fails,
     turns: u64,
 ) -> Result<(Status, Tested), Fail> {
+    let disk = MemoryDisk::new(alloc, 1000, 0, vec![in alloc; fails.disk]?, None)?;
+    served_on(alloc, disk, words, pieces, fails, turns)
+}
+
+// The same over this disk.
+fn served_on(
+    alloc: Global,
+    disk: MemoryDisk,
+    words: &[&str],
+    pieces: Vec<Bytes>,
+    fails: Fails,
+    turns: u64,
+) -> Result<(Status, Tested), Fail> {
     let mut readings = Vec::new(alloc);
     readings.push(1_704_189_600_000_000)?;
     let sink = MemorySink::new(alloc, 1000, vec![in alloc; fails.sink]?)?;
-    let mut o = Plain::new(
+    let link = MemoryLink::new(alloc, pieces, 1000, vec![in alloc; fails.link]?)?;
+    let mut o = Rim::new(
         alloc,
-        MemoryLink::new(alloc, pieces, 1000, vec![in alloc; fails.link]?)?,
+        disk,
+        Some(link),
         LineApp::new(alloc, sink),
         MemoryClock::new(readings),
         KeptTape::new(alloc),
-        vec![in alloc; fails.keep]?,
     );
     let status = serve_stdio(alloc, words, &mut o, turns);
     Ok((status, o))
+}
+
+// What is stored, as a process that starts finds it.
+fn stored(o: &mut Tested) -> Result<Stored, Fail> {
+    match o.load() {
+        Ok(stored) => Ok(stored),
+        Err(_) => Err(OutOfMemory.into()),
+    }
+}
+
+// The bytes that went out.
+fn written(o: &Tested) -> &[u8] {
+    match o.link() {
+        Some(link) => link.written(),
+        None => b"",
+    }
 }
 
 // The texts in one piece.
@@ -113,12 +143,12 @@ fn assert_serves(
     pieces: Vec<Bytes>,
     want: &Want<'_>,
 ) -> Result<Stored, Fail> {
-    let (status, o) = served(alloc, WORDS.as_slice(), pieces, NONE, u64::MAX)?;
+    let (status, mut o) = served(alloc, WORDS.as_slice(), pieces, NONE, u64::MAX)?;
     assert_eq!(rt; status, Status(want.status));
-    let written = bytes_of(alloc, want.written)?;
-    assert!(rt; o.link().written() == written.as_slice());
+    let expected = bytes_of(alloc, want.written)?;
+    assert!(rt; written(&o) == expected.as_slice());
     assert!(rt; o.app().sink().written() == want.lines);
-    Ok(o.stored())
+    stored(&mut o)
 }
 
 #[test]
@@ -231,20 +261,57 @@ fn other_words_are_refused(rt: HostRuntime) -> Result<(), Fail> {
 #[test]
 fn each_fault_has_its_status(rt: HostRuntime) -> Result<(), Fail> {
     let alloc = rt.alloc();
-    for (keep, link, sink, want) in [
-        (1, 0, 0, 5),
-        (2, 0, 0, 5),
-        (3, 0, 0, 5),
-        (0, 1, 0, 6),
-        (0, 2, 0, 6),
-        (0, 3, 0, 6),
-        (0, 0, 1, 7),
-    ] {
-        let fails = Fails { keep, link, sink };
+    // The opening makes eight calls of the disk, and each of three records four.
+    for disk in 1..=20 {
+        let fails = Fails { disk, ..NONE };
+        let pieces = at_once(alloc, &[LOGON, ORDER, LOGOUT])?;
+        let (status, _) = served(alloc, WORDS.as_slice(), pieces, fails, u64::MAX)?;
+        assert_eq!(rt; status, Status(5));
+    }
+    for (link, sink, want) in [(1, 0, 6), (2, 0, 6), (3, 0, 6), (0, 1, 7)] {
+        let fails = Fails {
+            disk: 21,
+            link,
+            sink,
+        };
         let pieces = at_once(alloc, &[LOGON, ORDER, LOGOUT])?;
         let (status, _) = served(alloc, WORDS.as_slice(), pieces, fails, u64::MAX)?;
         assert_eq!(rt; status, Status(want));
     }
+    Ok(())
+}
+
+#[test]
+fn a_damaged_file_is_refused(rt: HostRuntime) -> Result<(), Fail> {
+    let alloc = rt.alloc();
+    let mut disk = MemoryDisk::new(alloc, 1000, 0, Vec::new(alloc), None)?;
+    assert!(rt; disk.write_at(0, b"\x01\0\0\0\0\0\0\0\0\0").is_ok());
+    let pieces = at_once(alloc, &[LOGON, ORDER, LOGOUT])?;
+    let (status, o) = served_on(alloc, disk, WORDS.as_slice(), pieces, NONE, u64::MAX)?;
+    assert_eq!(rt; status, Status(5));
+    assert!(rt; o.tape().acts().is_empty());
+    Ok(())
+}
+
+#[test]
+fn a_stop_before_the_number_is_kept_leaves_the_old_one(rt: HostRuntime) -> Result<(), Fail> {
+    let alloc = rt.alloc();
+    // The order is handed over, and the first disk call of the record behind it fails.
+    let fails = Fails { disk: 13, ..NONE };
+    let pieces = at_once(alloc, &[LOGON, ORDER])?;
+    let (status, o) = served(alloc, WORDS.as_slice(), pieces, fails, u64::MAX)?;
+    assert_eq!(rt; status, Status(5));
+    assert!(rt; o.app().sink().written() == LINE);
+    let (disk, ..) = o.into_parts();
+    let pieces = at_once(alloc, &[])?;
+    let (status, mut o) = served_on(alloc, disk, WORDS.as_slice(), pieces, NONE, u64::MAX)?;
+    assert_eq!(rt; status, Status(1));
+    let want = Stored {
+        last: 1,
+        expected: 1,
+        since: None,
+    };
+    assert_eq!(rt; stored(&mut o)?, want);
     Ok(())
 }
 

@@ -1,5 +1,5 @@
 ghost use Rattle.std.specs.List.{list_all};
-ghost use Rattle.std.specs.Prelude.{◌≡◌, ◌&&◌, nat_le, [], ◌∷◌, map, IfOk, IfSome, IfNone};
+ghost use Rattle.std.specs.Prelude.{◌≡◌, ◌&&◌, nat_le, [], ◌∷◌, map, MatchBool, IfOk, IfSome, IfNone};
 ghost use Rattle.fix_base.specs.Session.{is_comp_id};
 ghost use Rattle.fix_top.specs.Words.{IsForm, IsNoForm, identity_of};
 
@@ -66,6 +66,16 @@ pub fn read_words<'a>(words: &'a [&'a str]) -> Option<Named<'a>>
         sender.as_bytes(),
         target.as_bytes(),
     )
+}
+
+/// Whether the words ask for a session.
+pub fn asks_for_session(words: &[&str]) -> bool
+    ensures { MatchBool result (IsNoForm (map (λ w. w.now) words.now) → ⊥) (IsNoForm (map (λ w. w.now) words.now)) }
+{
+    match read_words(words) {
+        Some(_) => true,
+        None => false,
+    }
 }
 
 /// The identity that is named.

@@ -8,10 +8,10 @@ ghost use Rattle.std.specs.Prelude.{◌≡◌, ◌↔◌, map};
 ghost use Rattle.fix_top.specs.Words.{IsNoForm};
 
 use fix_base::Status;
-use fix_disk::StreamSink;
-use fix_engine::Plain;
+use fix_disk::{MemoryDisk, StreamSink};
+use fix_engine::Rim;
 use fix_parts::{LineApp, NoTape, StdioLink, SystemClock};
-use fix_top::{serve_stdio, status_name};
+use fix_top::{asks_for_session, serve_stdio, status_name};
 use help::{HELP, VERSION};
 use std::alloc::{AllocError, Global};
 use std::env;
@@ -24,18 +24,27 @@ const LINK: Status = Status(6);
 
 const MEMORY: Status = Status(9);
 
+/// So many bytes of the message store are kept, in memory.
+const STORE: usize = 16_777_216;
+
 // Serves a session over the standard streams.
 fn serve(rt: &HostRuntime, words: &[&str]) -> Status
     ensures { (result.0 ≡ 2) ↔ IsNoForm (map (λ w. w.now) words.now) }
 {
+    if !asks_for_session(words) {
+        return WORDS;
+    }
     let alloc = rt.alloc();
-    let mut o = Plain::new(
+    let Ok(disk) = MemoryDisk::new(alloc, STORE, 0, Vec::new(alloc), None) else {
+        return MEMORY;
+    };
+    let mut o = Rim::new(
         alloc,
-        StdioLink::new(rt.stdin(), rt.stdout()),
+        disk,
+        Some(StdioLink::new(rt.stdin(), rt.stdout())),
         LineApp::new(alloc, StreamSink::new(rt.stderr())),
         SystemClock::new(rt),
         NoTape,
-        Vec::new(alloc),
     );
     serve_stdio(alloc, words, &mut o, u64::MAX)
 }
