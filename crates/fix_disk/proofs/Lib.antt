@@ -6,3 +6,4 @@ mod PastLemmas
 pub mod WriteLemmas
 mod FileLemmas
 mod StreamLemmas
+mod RoomLemmas

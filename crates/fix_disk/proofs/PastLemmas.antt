@@ -1,5 +1,5 @@
 -- One change more, at the next moment.
-use Rattle.std.proofs.Common.{◌≡◌, ◌⊎◌, inl, inr, ⊎_elim, ℕ, ◌<◌, ◌≤◌, max, List, [], ◌∷◌, ◌++◌, refl, sym, ◌∙◌, ap, subst, arith}
+use Rattle.std.proofs.Common.{◌≡◌, ◌⊎◌, inl, inr, ⊎_elim, ℕ, ◌<◌, ◌≤◌, max, List, [], ◌∷◌, ◌++◌, Option, refl, sym, ◌∙◌, ap, subst, arith}
 use Rattle.fix_disk.specs.Disk.{Elapses, next_moment}
 use Rattle.fix_disk.specs.State.{State, Leaves, blank}
 use Rattle.fix_disk.specs.Past.{Step, Change, after, replayed, LeavesSince, latest}
@@ -27,9 +27,10 @@ adds (x ∷ steps) step s t c (inl before) = inl (inl before)
 adds (x ∷ steps) step s t c (inr left) = ⊎_elim (λ l. inl (inr l)) (λ l. inr l) (adds steps step (after x.change s) t c left)
 
 -- a call that changes nothing
-pub elapses_same : (state : State) (steps : List Step) (past clock later faults failed : ℕ) → later ≡ next_moment clock → Elapses (told state steps past clock faults) (told state steps past later failed)
-elapses_same state steps past clock later faults failed is = record {
+pub elapses_same : (state : State) (steps : List Step) (past clock later faults failed : ℕ) (room : Option ℕ) → later ≡ next_moment clock → Elapses (told state steps past clock faults room) (told state steps past later failed room)
+elapses_same state steps past clock later faults failed room is = record {
   clock = λ told. is;
+  room = refl;
   tells_images = (λ t. t, λ t. t);
   tells_past = (λ p. ((p.0, omega (arith, p.1, is)), p.1), λ p. (p.0.0, p.1));
   nothing_else = λ told t c le left. inl left;
@@ -37,11 +38,12 @@ elapses_same state steps past clock later faults failed is = record {
 }
 
 -- a call that makes a change, which is kept where the past is told
-pub elapses_step : (state now : State) (steps more : List Step) (change : Change) (past kept clock moment later faults failed : ℕ) → later ≡ next_moment clock → moment ≡ later → kept ≡ past
+pub elapses_step : (state now : State) (steps more : List Step) (change : Change) (past kept clock moment later faults failed : ℕ) (room new_room : Option ℕ) → new_room ≡ room → later ≡ next_moment clock → moment ≡ later → kept ≡ past
     → (0 < past → more ≡ steps ++ record { moment = moment; change = change } ∷ []) → (0 < past → replayed steps blank ≡ state) → now ≡ after change state
-    → Elapses (told state steps past clock faults) (told now more kept later failed)
-elapses_step state now steps more change past kept clock moment later faults failed is is_moment is_kept pushed replays becomes = record {
+    → Elapses (told state steps past clock faults room) (told now more kept later failed new_room)
+elapses_step state now steps more change past kept clock moment later faults failed room new_room is_room is is_moment is_kept pushed replays becomes = record {
   clock = λ told. is;
+  room = is_room;
   tells_images = (λ t. t, λ t. t);
   tells_past = (λ p. ((was p.0, omega (arith, p.1, is)), p.1), λ p. (omega (arith, p.0.0, is_kept), p.1));
   nothing_else = λ told t c le left.

@@ -1,5 +1,5 @@
 -- What is seen of a disk, what a crash may leave of it, and what its calls do to that.
-use Rattle.std.specs.Prelude.{◌≡◌, ◌⊎◌, ◌↔◌, ℕ, ◌+◌, ◌<◌, ◌≤◌, min, max, List, ◌++◌, length, take, drop, slice_index, Option, Some, None, IsSome, IfSome, Result, Ok, Err, OnOk, IfOk}
+use Rattle.std.specs.Prelude.{◌≡◌, ◌⊎◌, ◌↔◌, ℕ, ◌+◌, ◌<◌, ◌≤◌, min, max, List, ◌++◌, length, take, drop, slice_index, Option, Some, None, IsSome, IfSome, Result, Ok, Err, OnOk, OnErr, IfOk, ⊤}
 use Rattle.fix_base.specs.Seen.{LAST_COUNT, Rises}
 use Rattle.fix_disk.specs.declared.disk.DiskFailed.{DiskFailed}
 
@@ -11,6 +11,7 @@ pub record DiskSeen : Type 1 where
   pub image_since : ℕ → List ℕ → Type 0  -- what a crash since a moment might have left, where it is told
   pub clock : ℕ  -- the moment now, where the bytes are told
   pub faults : ℕ  -- how often the disk failed
+  pub room : Option ℕ  -- where it is told, the disk fails only at a write that ends past this place
 
 -- what always holds of it
 pub record IsLawful (s : DiskSeen) : Type 0 where
@@ -46,12 +47,18 @@ abbrev pub failures : {T : Type 0} → Result T DiskFailed → ℕ
 failures (Ok x) = 0
 failures (Err e) = 1
 
+-- a disk with this room may fail at a call that needs so much of it
+abbrev pub MayFail : Option ℕ → ℕ → Type 0
+MayFail None end = ⊤
+MayFail (Some room) end = room < end
+
 abbrev pub next_moment : ℕ → ℕ
 next_moment t = min (t + 1) LAST_COUNT
 
 -- a call is one moment, and what was told stays told; a crash since t might have left what it might have left before, or what it may leave now
 pub record Elapses (old new : DiskSeen) : Type 0 where
   pub clock : IsSome old.bytes → new.clock ≡ next_moment old.clock
+  pub room : new.room ≡ old.room
   pub tells_images : new.TellsImages ↔ old.TellsImages
   pub tells_past : new.TellsPast ↔ (old.TellsPast × (new.clock < LAST_COUNT))
   pub nothing_else : new.TellsPast → (t : ℕ) (c : List ℕ) → t ≤ old.clock → new.image_since t c → old.image_since t c ⊎ new.image c
@@ -67,12 +74,14 @@ pub record DiskMeasures (answer : Result ℕ DiskFailed) (old new : DiskSeen) : 
   pub same : LeavesAsIs old new
   pub time : Elapses old new
   pub cause : Rises (failures answer) old.faults new.faults
+  pub need : OnErr answer (MayFail old.room 0)
 
 pub record DiskReads {T : Type 0} (answer : Result T DiskFailed) (at : ℕ) (room : List ℕ) (old new : DiskSeen) : Type 0 where
   pub read : OnOk answer (IfSome old.bytes (λ bytes. room ≡ take (length room) (drop at bytes)))
   pub same : LeavesAsIs old new
   pub time : Elapses old new
   pub cause : Rises (failures answer) old.faults new.faults
+  pub need : OnErr answer (MayFail old.room 0)
 
 -- what a write does to the bytes; one that failed may have changed its range
 abbrev pub WrittenAfter : {T : Type 0} → Result T DiskFailed → ℕ → List ℕ → Option (List ℕ) → Option (List ℕ) → Type 0
@@ -87,6 +96,7 @@ pub record DiskWrites {T : Type 0} (answer : Result T DiskFailed) (at : ℕ) (by
   pub lost : old.TellsImages → (c : List ℕ) → old.image c → new.image c
   pub time : Elapses old new
   pub cause : Rises (failures answer) old.faults new.faults
+  pub need : OnErr answer (MayFail old.room (at + length bytes))
 
 pub record DiskSyncs {T : Type 0} (answer : Result T DiskFailed) (old new : DiskSeen) : Type 0 where
   pub bytes : new.bytes ≡ old.bytes
@@ -94,6 +104,7 @@ pub record DiskSyncs {T : Type 0} (answer : Result T DiskFailed) (old new : Disk
   pub no_more : old.TellsImages → (c : List ℕ) → new.image c → old.image c
   pub time : Elapses old new
   pub cause : Rises (failures answer) old.faults new.faults
+  pub need : OnErr answer (MayFail old.room 0)
 
 -- so many bytes stand there
 abbrev pub HasRange : Option (List ℕ) → ℕ → ℕ → Type 0

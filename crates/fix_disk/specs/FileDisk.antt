@@ -14,6 +14,7 @@ untold faults = record {
   image_since = λ t c. ⊥;
   clock = 0;
   faults = faults;
+  room = None;
 }
 
 abbrev pub file_disk_of : FileDisk → DiskSeen

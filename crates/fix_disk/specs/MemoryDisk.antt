@@ -1,5 +1,5 @@
 -- What is seen of a disk in memory.
-use Rattle.std.specs.Prelude.{◌≡◌, ◌⊎◌, ℕ, ◌+◌, ◌<◌, ◌≤◌, length, vec_len, List, Option, Some, ⊤, refl, if◌then◌else◌, ◌==◌}
+use Rattle.std.specs.Prelude.{◌≡◌, ◌⊎◌, ℕ, ◌+◌, ◌<◌, ◌≤◌, length, vec_len, List, Option, Some, None, ⊤, refl, if◌then◌else◌, ◌==◌}
 use Rattle.std.proofs.Common.{subst, sym}
 use Rattle.std.proofs.Math.Nat.{le_refl}
 use Rattle.fix_base.specs.Seen.{LAST_COUNT}
@@ -7,13 +7,19 @@ use Rattle.fix_disk.specs.declared.memory_disk.MemoryDisk.{MemoryDisk}
 use Rattle.fix_disk.specs.Disk.{DiskSeen, IsLawful, next_moment}
 use Rattle.fix_disk.specs.Fuse.{IsStruck}
 use Rattle.fix_disk.specs.State.{State, Leaves, blank}
+use Rattle.fix_disk.specs.Script.{told_room}
 use Rattle.fix_disk.specs.Contents.{state_of}
 use Rattle.fix_disk.specs.Past.{Step, LeavesSince, counts_now, only_now}
 use Rattle.fix_disk.specs.Kept.{log_steps}
 
 -- a disk that tells its bytes and its images, and where it keeps its steps those since a moment
-abbrev pub told : State → List Step → ℕ → ℕ → ℕ → DiskSeen
-told state steps past clock faults = record {
+-- the room that is told: none where calls are to fail, or steps are kept
+abbrev pub room_of : List ℕ → Option ℕ → ℕ → ℕ → Option ℕ
+room_of fail None past capacity = if past == 0 then told_room fail capacity else None
+room_of fail (Some first) past capacity = None
+
+abbrev pub told : State → List Step → ℕ → ℕ → ℕ → Option ℕ → DiskSeen
+told state steps past clock faults room = record {
   bytes = Some state.bytes;
   TellsImages = ⊤;
   image = Leaves state;
@@ -21,10 +27,11 @@ told state steps past clock faults = record {
   image_since = LeavesSince steps blank;
   clock = clock;
   faults = faults;
+  room = room;
 }
 
 abbrev pub disk_of : MemoryDisk → DiskSeen
-disk_of d = told (state_of d.contents) (log_steps d.log) d.log.most d.failing.calls d.failing.faults
+disk_of d = told (state_of d.contents) (log_steps d.log) d.log.most d.failing.calls d.failing.faults (room_of d.failing.numbers.items d.fuse d.log.most d.contents.capacity)
 
 -- the bytes, those of the last sync and which were written since
 abbrev pub disk_state : MemoryDisk → State

@@ -9,6 +9,9 @@ pub mod Turn
 pub mod Run
 pub mod Store
 pub mod Plain
+pub mod Plug
+pub mod Held
+pub mod Rim
 pub mod Lawful
 pub mod Turns
 pub mod Stated

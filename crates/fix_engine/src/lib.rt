@@ -3,6 +3,7 @@
 #![tactic(auto)]
 
 mod handling;
+mod held;
 mod inbound;
 mod laws;
 mod machine;
@@ -12,6 +13,8 @@ mod outside;
 mod party;
 mod performing;
 mod plain;
+mod plug;
+mod rim;
 mod session;
 mod state;
 mod stop;
@@ -25,6 +28,7 @@ pub use fix_parts::{
 pub use laws::{a_new_session_is_in_step, two_sessions_agree};
 pub use outside::{FetchFault, KeepFault, Kind, LoadFault, Outside};
 pub use plain::Plain;
+pub use rim::Rim;
 pub use session::Session;
 pub use state::{Decision, Ending, Phase, Refusal, Say, State, Step, Why};
 pub use stop::{BeginFault, RunEnd, StopCause};

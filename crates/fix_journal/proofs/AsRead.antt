@@ -1,10 +1,10 @@
 -- A disk as it is read is a disk of its own, whose one image is what a read gives. What holds of the images of any disk
 -- holds so of what is read, also where a disk tells no images.
-use Rattle.std.proofs.Common.{◌≡◌, ℕ, ◌≤◌, true, false, List, length, Option, Some, None, Result, Ok, Err, refl, sym, ◌∙◌, ap, subst, true≢false}
+use Rattle.std.proofs.Common.{◌≡◌, ℕ, List, length, Option, Some, None, Result, Ok, Err, refl, sym, ◌∙◌, ap, subst, true≢false}
 use Rattle.std.specs.Prelude.{IsSome, IfSome, OnOk, is_some}
 use Rattle.fix_disk.specs.Disk.{DiskSeen, IsLawful, Torn, Only}
 use Rattle.fix_disk.specs.declared.disk.DiskFailed.{DiskFailed}
-use Rattle.fix_journal.specs.Synced.{WritesSynced, TornFrom}
+use Rattle.fix_journal.specs.Synced.{WritesSynced}
 use Rattle.fix_journal.specs.AtRest.{IsAtRest}
 use Rattle.fix_journal.specs.Opening.{Rests}
 use Rattle.fix_journal.proofs.SoundLemmas.{some_same, told_case}
@@ -22,6 +22,7 @@ as_read seen = record {
   image_since = λ t c. ⊥;
   clock = seen.clock;
   faults = seen.faults;
+  room = None;
 }
 
 pub lawful : (seen : DiskSeen) → IsLawful (as_read seen)

@@ -10,6 +10,7 @@ pub mod AsRead
 mod CallLemmas
 mod HeadLemmas
 mod ScanLemmas
+pub mod RoomLemmas
 mod WindowLemmas
 mod MakeLemmas
 mod OpenLemmas

@@ -1,11 +1,11 @@
 -- The records of a file, computed from its bytes.
-use Rattle.std.proofs.Common.{◌≡◌, ◌≢◌, inl, inr, ℕ, ◌+◌, ◌≤◌, zero, suc, Bool, true, false, nat_eq, leb, if◌then◌else◌, List, [], ◌∷◌, ◌++◌, length, take, drop, get_or, refl, sym, ◌∙◌, ap, arith, append_assoc, length-append}
+use Rattle.std.proofs.Common.{◌≡◌, ◌≢◌, inl, inr, ℕ, ◌+◌, ◌≤◌, zero, suc, Bool, true, false, if◌then◌else◌, List, [], ◌∷◌, ◌++◌, length, take, drop, refl, sym, ◌∙◌, ap, arith, append_assoc, length-append}
 use Rattle.std.specs.Prelude.{All, nat_le, ◌==◌, slice_index}
 use Rattle.std.specs.Int.{w32, to_be_bytes, from_be_bytes}
 use Rattle.std.proofs.lemmas.Nat.{from_be_bytes-to_be_bytes_4}
 use Rattle.std.proofs.lemmas.List.{take_at, drop_at}
 use Rattle.std.proofs.lemmas.Bool.{eqb-true, leb-true, le-leb, false_from_ne_true}
-use Rattle.fix_journal.specs.Format.{OPEN, IsPayload, body_of, recorded, front, IsMade, IsJournal, HasRecords}
+use Rattle.fix_journal.specs.Format.{OPEN, IsPayload, body_of, recorded, front, IsJournal, HasRecords}
 use Rattle.fix_journal.specs.Payloads.{size_in, payloads_from, payloads_in}
 use Rattle.fix_journal.proofs.Unique.{first_of, later_of}
 use Rattle.fix_journal.proofs.Gates.{length-front}

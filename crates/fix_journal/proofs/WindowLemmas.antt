@@ -5,6 +5,8 @@ use Rattle.std.proofs.lemmas.List.{drop-take, drop-drop, length-take, take_at, t
 use Rattle.std.proofs.Math.Seq.{take-add}
 use Rattle.fix_base.specs.Seen.{Rises}
 use Rattle.fix_disk.specs.Disk.{DiskSeen, IsLawful}
+use Rattle.fix_disk.specs.Moments.{NeedsRoom}
+use Rattle.fix_journal.proofs.RoomLemmas.{needs_then}
 use Rattle.fix_journal.specs.declared.heads.Head.{Head}
 use Rattle.fix_journal.specs.declared.heads.Head.TheVariants.{Record}
 use Rattle.fix_journal.specs.Opening.{Judges, IsWithin, IsUntouched}
@@ -12,12 +14,13 @@ use Rattle.fix_journal.specs.Window.{IsWindow, GoesOn}
 use Rattle.fix_journal.specs.declared.window.Window.{Window}
 use Rattle.fix_journal.proofs.ScanLemmas.{IsScanning, passes}
 
--- the walk, of which the window shows what comes next, and the calls so far
+-- the walk, of which the window shows what comes next, the calls so far, and the room
 pub record IsWalking (old now : DiskSeen) (end gate : ℕ) (gates : List ℕ) (w : Window) : Type 0 where
   pub scanning : IsScanning old now end gate gates
   pub shows : IsWindow now.bytes end w
   pub behind : w.from ≤ gate
   pub calls : GoesOn 9 w.from old now
+  pub room : NeedsRoom 0 0 old now
 
 -- what a window shows at a place is what the file has there
 pub shown_is : (file held : List ℕ) (from at count end : ℕ) → held ≡ take (length held) (drop from file) → length file ≡ end → from ≤ at → at + count ≤ from + length held → count ≡ min (end - at) 5 → take count (drop (at - from) held) ≡ take 5 (drop at file)
@@ -38,10 +41,11 @@ shown_is file held from at count end is long le reaches few =
     ∙ take_min 5 there
 
 pub walks_on : (old mid new : DiskSeen) (end gate size : ℕ) (gates : List ℕ) (w v : Window) (head : Head) → head ≡ Record size → IsLawful mid → IsWalking old mid end gate gates w → IfSome mid.bytes (λ file. Judges head (drop gate file)) → IsWithin head (end - gate) → IsUntouched mid new → Rises 0 mid.faults new.faults
-    → IsWindow new.bytes end v → v.from ≤ gate → GoesOn w.from v.from mid new → IsWalking old new end (gate + (5 + size)) (gates ++ gate ∷ []) v
-walks_on old mid new end gate size gates w v head is laws so_far there within untouched cause shows behind calls = record {
+    → IsWindow new.bytes end v → v.from ≤ gate → GoesOn w.from v.from mid new → NeedsRoom 0 0 mid new → IsWalking old new end (gate + (5 + size)) (gates ++ gate ∷ []) v
+walks_on old mid new end gate size gates w v head is laws so_far there within untouched cause shows behind calls room = record {
   scanning = passes old mid new end gate size gates head is laws so_far.scanning there within untouched cause;
   shows = shows;
   behind = omega (arith, behind);
   calls = λ some. omega (arith, so_far.calls some, calls (ap is_some so_far.scanning.untouched.bytes ∙ some));
+  room = needs_then 0 0 old mid new so_far.room.same room;
 }

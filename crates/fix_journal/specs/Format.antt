@@ -5,7 +5,7 @@
 --   from 9 on      records, then one closed gate
 --
 -- A record is an open gate, its payload's length as four bytes with the most significant first, and the payload.
-use Rattle.std.specs.Prelude.{◌≡◌, ◌≢◌, ◌⊎◌, ℕ, ◌≤◌, List, [], ◌∷◌, ◌++◌, length, take, drop, slice_index, All}
+use Rattle.std.specs.Prelude.{◌≡◌, ◌≢◌, ◌⊎◌, ℕ, ◌+◌, ◌≤◌, List, [], ◌∷◌, ◌++◌, length, take, drop, slice_index, All}
 use Rattle.std.specs.Int.{w32, to_be_bytes}
 
 -- a gate that lets what stands behind it count; any other byte is a closed gate
@@ -33,6 +33,10 @@ recorded (payload ∷ payloads) = OPEN ∷ (body_of payload ++ recorded payloads
 -- a made file up to the gate behind these records
 abbrev pub front : List (List ℕ) → List ℕ
 front payloads = OPEN ∷ (NAME ++ recorded payloads)
+
+-- the length of a file up to the closed gate behind these records, and with it
+abbrev pub file_size : List (List ℕ) → ℕ
+file_size payloads = length (front payloads) + 1
 
 abbrev pub IsMade : List ℕ → Type 0
 IsMade file = (10 ≤ length file) × (slice_index file 0 ≡ OPEN)

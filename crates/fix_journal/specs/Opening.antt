@@ -2,7 +2,7 @@
 use Rattle.std.specs.Prelude.{◌≡◌, ◌≢◌, ◌⊎◌, ◌↔◌, ℕ, ◌+◌, ◌<◌, ◌≤◌, Bool, true, false, List, [], ◌∷◌, ◌++◌, length, take, drop, slice_index, Option, Some, None, IsSome, IfSome, Vec, Result, Ok, Err, OnOk, ⊤}
 use Rattle.fix_base.specs.Seen.{Rises}
 use Rattle.fix_disk.specs.Disk.{DiskSeen, Only, failures}
-use Rattle.fix_disk.specs.Moments.{LeavesOnly}
+use Rattle.fix_disk.specs.Moments.{LeavesOnly, NeedsRoom}
 use Rattle.fix_disk.specs.declared.disk.DiskFailed.{DiskFailed}
 use Rattle.fix_journal.specs.declared.heads.Head.{Head}
 use Rattle.fix_journal.specs.declared.heads.Head.TheVariants.{Closed, Record, Broken}
@@ -149,3 +149,8 @@ abbrev pub IsCause : OpenFault → List ℕ → Type 0
 IsCause DiskFault file = ⊤
 IsCause (Damaged place) file = IsDamagedAt file place
 IsCause OutOfMemory file = ⊤
+
+-- what an opening needs of the room: ten bytes for a file that it makes, else none
+pub record OpenRoom (fault : Option OpenFault) (old new : DiskSeen) : Type 0 where
+  pub unmade : NeedsRoom (open_failures fault) 10 old new
+  pub made : IfSome old.bytes (λ file. IsMade file → NeedsRoom (open_failures fault) 0 old new)

@@ -1,7 +1,8 @@
 ghost use Rattle.std.specs.Prelude.{◌≡◌, ◌+◌, ◌^◌, ◌<◌, ◌≤◌, ◌++◌, ◌∷◌, [], false, List, ℕ, take, length, vec_len, vec_capacity, IfOk, IfErr, IfSome, Some, None};
-ghost use Rattle.fix_journal.specs.Format.{body_of, front};
-ghost use Rattle.fix_journal.specs.Journal.{Holds, AppendAnswers, JournalAppends, ReadAnswers, JournalReads};
-ghost use Rattle.fix_journal.specs.Opening.{IsOpened, IsCause, Opens};
+ghost use Rattle.fix_disk.specs.Moments.{NeedsRoom};
+ghost use Rattle.fix_journal.specs.Format.{body_of, front, file_size};
+ghost use Rattle.fix_journal.specs.Journal.{Holds, AppendAnswers, JournalAppends, append_failures, ReadAnswers, JournalReads, read_failures};
+ghost use Rattle.fix_journal.specs.Opening.{IsOpened, IsCause, Opens, OpenRoom};
 ghost use Rattle.fix_journal.specs.Window.{OpenCalls};
 
 use crate::appending::append_at;
@@ -51,6 +52,8 @@ impl<D: Disk> Journal<D> {
         ensures moves_refused { IfErr result (λ r. Opens (Some r.fault) (D.disk disk) (D.disk r.disk)) }
         ensures calls { IfOk result (λ j. OpenCalls (D.disk disk) (D.disk j.disk)) }
         ensures calls_refused { IfErr result (λ r. OpenCalls (D.disk disk) (D.disk r.disk)) }
+        ensures room { IfOk result (λ j. OpenRoom None (D.disk disk) (D.disk j.disk)) }
+        ensures room_refused { IfErr result (λ r. OpenRoom (Some r.fault) (D.disk disk) (D.disk r.disk)) }
     {
         let mut disk = disk;
         match find(alloc, &mut disk) {
@@ -69,6 +72,8 @@ impl<D: Disk> Journal<D> {
         requires { 1 ≤ length payload.now }
         ensures answers { AppendAnswers result (length payload.now) self.old self.new }
         ensures moves { self.old.stopped ≡ false → JournalAppends result payload.now (D.disk self.old.disk) (D.disk self.new.disk) }
+        ensures room { (D.disk self.new.disk).room ≡ (D.disk self.old.disk).room }
+        ensures need { (payloads : List (List ℕ)) → Holds (D.disk self.old.disk) payloads → NeedsRoom (append_failures result) (file_size (payloads ++ payload.now ∷ [])) (D.disk self.old.disk) (D.disk self.new.disk) }
     {
         if self.stopped {
             return Err(AppendFault::Stopped);
@@ -98,6 +103,7 @@ impl<D: Disk> Journal<D> {
         requires { index < self.old.count }
         ensures answers { ReadAnswers result self.old self.new }
         ensures moves { JournalReads result index into.new.items (D.disk self.old.disk) (D.disk self.new.disk) }
+        ensures room { NeedsRoom (read_failures result) 0 (D.disk self.old.disk) (D.disk self.new.disk) }
     {
         if self.stopped {
             return Err(ReadFault::Stopped);

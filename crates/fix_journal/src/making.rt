@@ -1,3 +1,5 @@
+ghost use Rattle.fix_disk.specs.Disk.{failures};
+ghost use Rattle.fix_disk.specs.Moments.{NeedsRoom};
 ghost use Rattle.fix_journal.specs.Opening.{Rests, IsClosed, IsShort, IsUnmadeBy, Makes};
 ghost use Rattle.fix_journal.specs.Window.{CallsAtMost};
 
@@ -10,6 +12,7 @@ fn make_closed<D: Disk>(disk: &mut D) -> Result<(), DiskFailed>
     requires { Rests (D.disk disk.old) IsClosed }
     ensures makes { Makes result (D.disk disk.old) (D.disk disk.new) }
     ensures calls { CallsAtMost 4 (D.disk disk.old) (D.disk disk.new) }
+    ensures room { NeedsRoom (failures result) 10 (D.disk disk.old) (D.disk disk.new) }
 {
     match write_synced(disk, 1, b"FIXJRNL1\0") {
         Ok(()) => write_synced(disk, 0, &[1]),
@@ -23,6 +26,7 @@ fn make_short<D: Disk>(disk: &mut D) -> Result<(), DiskFailed>
     requires { Rests (D.disk disk.old) IsShort }
     ensures makes { Makes result (D.disk disk.old) (D.disk disk.new) }
     ensures calls { CallsAtMost 6 (D.disk disk.old) (D.disk disk.new) }
+    ensures room { NeedsRoom (failures result) 10 (D.disk disk.old) (D.disk disk.new) }
 {
     match write_synced(disk, 0, &[0]) {
         Ok(()) => make_closed(disk),
@@ -35,6 +39,7 @@ pub(crate) fn make<D: Disk>(disk: &mut D, is_short: bool) -> Result<(), DiskFail
     requires { Rests (D.disk disk.old) (IsUnmadeBy is_short) }
     ensures makes { Makes result (D.disk disk.old) (D.disk disk.new) }
     ensures calls { CallsAtMost 6 (D.disk disk.old) (D.disk disk.new) }
+    ensures room { NeedsRoom (failures result) 10 (D.disk disk.old) (D.disk disk.new) }
 {
     if is_short {
         make_short(disk)

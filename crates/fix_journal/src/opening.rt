@@ -1,5 +1,6 @@
 ghost use Rattle.std.specs.Prelude.{◌≤◌, length, IfOk, IfSome};
-ghost use Rattle.fix_journal.specs.Opening.{Rests, IsUnmadeBy, IsNamed, HasLength, Finds, Opens, fault_of};
+ghost use Rattle.fix_disk.specs.Moments.{NeedsRoom};
+ghost use Rattle.fix_journal.specs.Opening.{Rests, IsUnmadeBy, IsNamed, HasLength, Finds, Opens, OpenRoom, open_failures, fault_of};
 ghost use Rattle.fix_journal.specs.Window.{CallsAtMost, OpenCalls};
 
 use crate::OpenFault;
@@ -16,6 +17,7 @@ fn start<D: Disk>(alloc: Global, disk: &mut D, is_short: bool) -> Result<Vec<u64
     ensures finds { IfSome (D.disk disk.old).bytes (Finds result (D.disk disk.new)) }
     ensures opens { Opens (fault_of result) (D.disk disk.old) (D.disk disk.new) }
     ensures calls { CallsAtMost 6 (D.disk disk.old) (D.disk disk.new) }
+    ensures room { NeedsRoom (open_failures (fault_of result)) 10 (D.disk disk.old) (D.disk disk.new) }
 {
     let mut gates = Vec::new(alloc);
     if gates.push(9).is_err() {
@@ -33,6 +35,7 @@ pub(crate) fn find<D: Disk>(alloc: Global, disk: &mut D) -> Result<Vec<u64>, Ope
     ensures finds { IfSome (D.disk disk.old).bytes (Finds result (D.disk disk.new)) }
     ensures opens { Opens (fault_of result) (D.disk disk.old) (D.disk disk.new) }
     ensures calls { OpenCalls (D.disk disk.old) (D.disk disk.new) }
+    ensures room { OpenRoom (fault_of result) (D.disk disk.old) (D.disk disk.new) }
 {
     match survey(disk) {
         Ok(Kind::Unmade(is_short)) => start(alloc, disk, is_short),

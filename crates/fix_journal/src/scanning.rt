@@ -1,6 +1,7 @@
 ghost use Rattle.std.specs.Prelude.{◌≡◌, ◌+◌, ◌<◌, ◌≤◌, ◌-◌, ◌*◌, ◌/◌, drop, length, IfOk, IfSome, IsSome};
 ghost use Rattle.fix_base.specs.Seen.{Rises};
 ghost use Rattle.fix_disk.specs.Disk.{failures};
+ghost use Rattle.fix_disk.specs.Moments.{NeedsRoom};
 ghost use Rattle.fix_journal.specs.Opening.{Judges, IsWithin, IsUntouched, Scans, open_failures, fault_of, HasLength, IsNamed};
 ghost use Rattle.fix_journal.specs.Window.{IsWindow, GoesOn, CallsAtMost};
 
@@ -25,6 +26,7 @@ fn look_at<D: Disk>(
     ensures within { IfOk result (λ head. IsWithin head (end - gate)) }
     ensures untouched { IsUntouched (D.disk disk.old) (D.disk disk.new) }
     ensures cause { Rises (failures result) (D.disk disk.old).faults (D.disk disk.new).faults }
+    ensures room { NeedsRoom (failures result) 0 (D.disk disk.old) (D.disk disk.new) }
     ensures shows { IfOk result (λ _. IsWindow (D.disk disk.new).bytes end window.new) }
     ensures from { window.new.from ≤ gate }
     ensures calls { GoesOn window.old.from window.new.from (D.disk disk.old) (D.disk disk.new) }
@@ -54,6 +56,7 @@ fn walk<D: Disk>(
     ensures found { IfSome (D.disk disk.old).bytes (Scans result) }
     ensures untouched { IsUntouched (D.disk disk.old) (D.disk disk.new) }
     ensures cause { Rises (open_failures (fault_of result)) (D.disk disk.old).faults (D.disk disk.new).faults }
+    ensures room { NeedsRoom (open_failures (fault_of result)) 0 (D.disk disk.old) (D.disk disk.new) }
     ensures calls { GoesOn 9 end (D.disk disk.old) (D.disk disk.new) }
 {
     let mut gates = Vec::new(alloc);
@@ -81,6 +84,7 @@ pub(crate) fn scan<D: Disk>(alloc: Global, disk: &mut D, end: u64) -> Result<Vec
     ensures found { IfSome (D.disk disk.old).bytes (Scans result) }
     ensures untouched { IsUntouched (D.disk disk.old) (D.disk disk.new) }
     ensures cause { Rises (open_failures (fault_of result)) (D.disk disk.old).faults (D.disk disk.new).faults }
+    ensures room { NeedsRoom (open_failures (fault_of result)) 0 (D.disk disk.old) (D.disk disk.new) }
     ensures calls { CallsAtMost (1 + end / 65532) (D.disk disk.old) (D.disk disk.new) }
 {
     let Ok(mut window) = blank_window(alloc) else {

@@ -1,6 +1,7 @@
 ghost use Rattle.std.specs.Prelude.{◌≡◌, ◌≤◌, min, take, List, ℕ, length, IfOk, IfSome};
 ghost use Rattle.fix_base.specs.Seen.{Rises};
 ghost use Rattle.fix_disk.specs.Disk.{failures};
+ghost use Rattle.fix_disk.specs.Moments.{NeedsRoom};
 ghost use Rattle.fix_journal.specs.Window.{CallsAtMost};
 ghost use Rattle.fix_journal.specs.Opening.{IsKind, HasTen, HasLength, IsUntouched, Rests};
 
@@ -42,6 +43,7 @@ fn kind_of<D: Disk>(disk: &mut D, end: u64) -> Result<Kind, DiskFailed>
     ensures ten { IfOk result HasTen }
     ensures untouched { IsUntouched (D.disk disk.old) (D.disk disk.new) }
     ensures cause { Rises (failures result) (D.disk disk.old).faults (D.disk disk.new).faults }
+    ensures room { NeedsRoom (failures result) 0 (D.disk disk.old) (D.disk disk.new) }
     ensures calls { CallsAtMost 1 (D.disk disk.old) (D.disk disk.new) }
 {
     if end == 0 {
@@ -61,6 +63,7 @@ pub(crate) fn survey<D: Disk>(disk: &mut D) -> Result<Kind, DiskFailed>
     ensures ten { IfOk result HasTen }
     ensures untouched { IsUntouched (D.disk disk.old) (D.disk disk.new) }
     ensures cause { Rises (failures result) (D.disk disk.old).faults (D.disk disk.new).faults }
+    ensures room { NeedsRoom (failures result) 0 (D.disk disk.old) (D.disk disk.new) }
     ensures calls { CallsAtMost 3 (D.disk disk.old) (D.disk disk.new) }
 {
     match disk.sync() {

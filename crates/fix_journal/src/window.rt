@@ -1,6 +1,7 @@
 ghost use Rattle.std.specs.Prelude.{◌≡◌, ◌+◌, ◌-◌, ◌<◌, ◌≤◌, min, length, take, drop, vec_capacity, IfOk, IfSome, OnOk};
 ghost use Rattle.fix_base.specs.Seen.{Rises};
 ghost use Rattle.fix_disk.specs.Disk.{failures};
+ghost use Rattle.fix_disk.specs.Moments.{NeedsRoom};
 ghost use Rattle.fix_journal.specs.Opening.{IsUntouched, HasLength};
 ghost use Rattle.fix_journal.specs.Window.{MOST_HELD, IsWindow, GoesOn, CallsAtMost};
 
@@ -53,6 +54,7 @@ pub(crate) fn read_from<D: Disk>(
     ensures from { window.new.from ≡ at }
     ensures untouched { IsUntouched (D.disk disk.old) (D.disk disk.new) }
     ensures cause { Rises (failures result) (D.disk disk.old).faults (D.disk disk.new).faults }
+    ensures room { NeedsRoom (failures result) 0 (D.disk disk.old) (D.disk disk.new) }
     ensures calls { CallsAtMost 1 (D.disk disk.old) (D.disk disk.new) }
 {
     window.from = at;
@@ -79,6 +81,7 @@ pub(crate) fn reach<D: Disk>(
     ensures from { window.new.from ≤ at }
     ensures untouched { IsUntouched (D.disk disk.old) (D.disk disk.new) }
     ensures cause { Rises (failures result) (D.disk disk.old).faults (D.disk disk.new).faults }
+    ensures room { NeedsRoom (failures result) 0 (D.disk disk.old) (D.disk disk.new) }
     ensures calls { GoesOn window.old.from window.new.from (D.disk disk.old) (D.disk disk.new) }
 {
     if at - window.from + count <= window.held.len() as u64 {

@@ -11,6 +11,7 @@ use Rattle.fix_journal.specs.declared.fault.OpenFault.TheVariants.{DiskFault, Da
 use Rattle.fix_journal.specs.Format.{front}
 use Rattle.fix_journal.specs.Journal.{JournalSeen, Holds}
 use Rattle.fix_journal.proofs.Moments.{started, weaker, then_on}
+use Rattle.fix_journal.proofs.RoomLemmas.{needs_then}
 use Rattle.fix_store.specs.declared.folding.Folded.{Folded}
 use Rattle.fix_store.specs.Spelling.{spelled}
 use Rattle.fix_store.specs.Store.{HasNumber}
@@ -45,6 +46,7 @@ reads_none seen laws = record {
   any_moment = started seen seen.image laws (λ p c left. left);
   tells_images = (λ told. told, λ told. told);
   cause = omega arith;
+  room = record { same = refl; need = λ some. absurd (omega (arith, some)) };
 }
 
 pub reads_then : (n : ℕ) (old mid new : DiskSeen) → IsLawful mid → Reads 0 old mid → Reads n mid new → Reads n old new
@@ -60,6 +62,7 @@ reads_then n old mid new laws first second = record {
       (weaker mid new mid.image old.image second.any_moment (λ p c left. (first.same.images (first.tells_images.0 (laws.tells_now (second.any_moment.told p))) c).0 left));
   tells_images = (λ told. first.tells_images.0 (second.tells_images.0 told), λ told. second.tells_images.1 (first.tells_images.1 told));
   cause = omega (arith, first.cause, second.cause);
+  room = needs_then n 0 old mid new first.room.same second.room;
 }
 
 -- ---- the walk up to an index

@@ -9,7 +9,7 @@ use Rattle.fix_base.specs.Payload.{IsKeepable}
 use Rattle.fix_base.specs.Seen.{Rises}
 use Rattle.fix_base.specs.declared.entry.Stored.{Stored}
 use Rattle.fix_disk.specs.Disk.{DiskSeen, LeavesAsIs}
-use Rattle.fix_disk.specs.Moments.{LeavesOnly}
+use Rattle.fix_disk.specs.Moments.{LeavesOnly, NeedsRoom}
 use Rattle.fix_journal.specs.declared.fault.OpenFault.{OpenFault}
 use Rattle.fix_journal.specs.declared.fault.OpenFault.TheVariants as open_fault
 use Rattle.fix_journal.specs.Format.{front}
@@ -87,6 +87,7 @@ pub record Reads (failures : ℕ) (old new : DiskSeen) : Type 0 where
   pub any_moment : LeavesOnly old new old.image
   pub tells_images : new.TellsImages ↔ old.TellsImages
   pub cause : Rises failures old.faults new.faults
+  pub room : NeedsRoom failures 0 old new
 
 -- the first payload that is no record behind those before it, at its place in the file
 pub record IsFirstBad (payloads : List (List ℕ)) (place : ℕ) : Type 0 where

@@ -5,3 +5,4 @@ pub mod Store
 pub mod Keeping
 pub mod Folding
 pub mod Opening
+pub mod Rooms

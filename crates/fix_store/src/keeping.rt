@@ -1,5 +1,8 @@
-ghost use Rattle.std.specs.Prelude.{◌≡◌, ◌≤◌, false, length};
-ghost use Rattle.fix_journal.specs.Format.{MOST_PAYLOAD};
+ghost use Rattle.std.specs.Prelude.{◌≡◌, ◌≤◌, ◌++◌, ◌∷◌, [], List, ℕ, false, length};
+ghost use Rattle.fix_disk.specs.Moments.{NeedsRoom};
+ghost use Rattle.fix_journal.specs.Format.{MOST_PAYLOAD, file_size};
+ghost use Rattle.fix_journal.specs.Journal.{Holds};
+ghost use Rattle.fix_store.specs.Store.{fault_of, store_failures};
 ghost use Rattle.fix_store.specs.Keeping.{AppendAnswers, Appends};
 
 use crate::StoreFault;
@@ -19,6 +22,8 @@ pub(crate) fn append<D: Disk>(
     ensures answers { AppendAnswers result journal.old journal.new }
     ensures stops { stopped.new ≡ journal.new.stopped }
     ensures moves { Appends result payload.now (D.disk journal.old.disk) (D.disk journal.new.disk) }
+    ensures room { (D.disk journal.new.disk).room ≡ (D.disk journal.old.disk).room }
+    ensures need { (payloads : List (List ℕ)) → Holds (D.disk journal.old.disk) payloads → NeedsRoom (store_failures (fault_of result)) (file_size (payloads ++ payload.now ∷ [])) (D.disk journal.old.disk) (D.disk journal.new.disk) }
 {
     match journal.append(payload) {
         Ok(index) => Ok(index),

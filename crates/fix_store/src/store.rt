@@ -5,6 +5,7 @@ ghost use Rattle.fix_journal.specs.Opening.{Opens};
 ghost use Rattle.fix_journal.specs.Opening as journal;
 ghost use Rattle.fix_store.specs.Spelling.{spelled_entry};
 ghost use Rattle.fix_store.specs.Store.{IsTold, IsInRange, KeepAnswers, StoreKeeps, ReadAnswers, StoreReads, ReadsAs, fault_of};
+ghost use Rattle.fix_store.specs.Rooms.{OpenRoom, KeepRoom, ReadRoom};
 ghost use Rattle.fix_store.specs.Opening.{IsOpened, IsCause};
 ghost use Rattle.fix_store.specs.Folding.{fold_of};
 
@@ -53,6 +54,8 @@ impl<D: Disk> Store<D> {
         ensures refused { IfErr result (λ r. IfSome (D.disk disk).bytes (IsCause r.fault)) }
         ensures moves { IfOk result (λ s. Opens None (D.disk disk) (D.disk s.disk)) }
         ensures moves_refused { IfErr result (λ r. Opens (Some r.fault) (D.disk disk) (D.disk r.disk)) }
+        ensures room { IfOk result (λ s. OpenRoom None (D.disk disk) (D.disk s.disk)) }
+        ensures room_refused { IfErr result (λ r. OpenRoom (Some r.fault) (D.disk disk) (D.disk r.disk)) }
     {
         let mut journal = match Journal::open(alloc, disk) {
             Ok(journal) => journal,
@@ -79,6 +82,8 @@ impl<D: Disk> Store<D> {
         ensures answers { KeepAnswers (fault_of result) (Push entry.now) self.old self.new }
         ensures number { IfOk result (λ n. n ≡ self.old.stored.last + 1) }
         ensures moves { self.old.stopped ≡ false → StoreKeeps (fault_of result) (Push entry.now) (D.disk self.old.disk) (D.disk self.new.disk) }
+        ensures room { KeepRoom (fault_of result) (Push entry.now) (D.disk self.old.disk) (D.disk self.new.disk) }
+        ensures told { IsTold D.disk self.old }
     {
         if self.stopped {
             return Err(StoreFault::Stopped);
@@ -104,6 +109,8 @@ impl<D: Disk> Store<D> {
         requires last { next ≤ 1000000000 }
         ensures answers { KeepAnswers (fault_of result) (Expect next) self.old self.new }
         ensures moves { self.old.stopped ≡ false → StoreKeeps (fault_of result) (Expect next) (D.disk self.old.disk) (D.disk self.new.disk) }
+        ensures room { KeepRoom (fault_of result) (Expect next) (D.disk self.old.disk) (D.disk self.new.disk) }
+        ensures told { IsTold D.disk self.old }
     {
         if self.stopped {
             return Err(StoreFault::Stopped);
@@ -122,6 +129,8 @@ impl<D: Disk> Store<D> {
         requires { time ≤ LAST_TIME }
         ensures answers { KeepAnswers (fault_of result) (Reset time) self.old self.new }
         ensures moves { self.old.stopped ≡ false → StoreKeeps (fault_of result) (Reset time) (D.disk self.old.disk) (D.disk self.new.disk) }
+        ensures room { KeepRoom (fault_of result) (Reset time) (D.disk self.old.disk) (D.disk self.new.disk) }
+        ensures told { IsTold D.disk self.old }
     {
         if self.stopped {
             return Err(StoreFault::Stopped);
@@ -140,6 +149,7 @@ impl<D: Disk> Store<D> {
         requires { n ≤ self.old.stored.last }
         ensures answers { ReadAnswers (fault_of result) self.old self.new }
         ensures moves { self.old.stopped ≡ false → StoreReads result n (D.disk self.old.disk) (D.disk self.new.disk) }
+        ensures room { ReadRoom (fault_of result) (D.disk self.old.disk) (D.disk self.new.disk) }
     {
         if self.stopped {
             return Err(StoreFault::Stopped);

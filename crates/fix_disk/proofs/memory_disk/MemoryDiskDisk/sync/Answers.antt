@@ -6,6 +6,7 @@ use Rattle.fix_disk.specs.Past.{Synced}
 use Rattle.fix_disk.specs.MemoryDisk.{lawful}
 use Rattle.fix_disk.proofs.ImageLemmas.{only_bytes}
 use Rattle.fix_disk.proofs.PastLemmas.{in_time_push, replays_push, elapses_step}
+use Rattle.fix_disk.proofs.RoomLemmas.{same_room}
 use Rattle.fix_disk.proofs.WriteLemmas.{unraised}
 use Rattle.fix_disk.proofs.memory_disk.MemoryDiskDisk.sync.Goals as goal
 
@@ -35,6 +36,7 @@ returns-clause-moves c =
       bytes = ap (λ (x : State). Some x.bytes) is;
       durable = λ told image left. only_bytes s image (subst (λ x. Leaves x image) is left);
       no_more = λ told image left. subst (Leaves s) (sym (only_bytes s image (subst (λ x. Leaves x image) is left))) ((lawful old).as_read tt);
-      time = elapses_step s (state_of c.sync.new.self) (log_steps old.log) (log_steps c.note_sync.new.self) Synced old.log.most c.note_sync.new.self.most old.failing.calls c.calls.result c.fails.new.self.calls old.failing.faults c.fails.new.self.faults c.fails.ensures.calls c.calls.ensures c.note_sync.ensures.most c.note_sync.ensures.steps old.replays is;
+      time = elapses_step s (state_of c.sync.new.self) (log_steps old.log) (log_steps c.note_sync.new.self) Synced old.log.most c.note_sync.new.self.most old.failing.calls c.calls.result c.fails.new.self.calls old.failing.faults c.fails.new.self.faults _ _ (same_room old.failing.numbers.items c.fails.new.self.numbers.items old.fuse old.log.most c.note_sync.new.self.most old.contents.capacity c.sync.new.self.capacity (ap (λ v. v.items) c.fails.ensures.numbers) c.note_sync.ensures.most c.sync.ensures.capacity) c.fails.ensures.calls c.calls.ensures c.note_sync.ensures.most c.note_sync.ensures.steps old.replays is;
       cause = unraised c.fails.result old.failing.faults c.fails.new.self.faults c.if-fails.false c.fails.ensures.faults;
+      need = tt;
     }

@@ -1,10 +1,11 @@
-use Rattle.std.proofs.Common.{arith, ap, sym, subst, ◌≡◌, ◌<◌}
+use Rattle.std.proofs.Common.{arith, ap, sym, subst, rules, length, ◌+◌, ◌≡◌, ◌<◌}
 use Rattle.fix_disk.specs.State.{State, Leaves, after_write}
 use Rattle.fix_disk.specs.Contents.{state_of}
 use Rattle.fix_disk.specs.Kept.{log_steps}
 use Rattle.fix_disk.specs.Past.{Wrote}
 use Rattle.fix_disk.proofs.ImageLemmas.{comes_from, torn_is_left, still_left}
 use Rattle.fix_disk.proofs.PastLemmas.{in_time_push, replays_push, elapses_step}
+use Rattle.fix_disk.proofs.RoomLemmas.{same_room, needed}
 use Rattle.fix_disk.proofs.WriteLemmas.{written_after, risen}
 use Rattle.fix_disk.proofs.memory_disk.MemoryDiskDisk.write_at.Goals as goal
 
@@ -36,8 +37,9 @@ returns-clause-moves c =
       written = written_after c.answer.result at bytes s.bytes c.write.new.self.bytes.items (omega (arith, c.requires)) (ap (λ (x : State). x.bytes) is);
       torn = λ told image left. comes_from at bytes s old.contents.marks old.contents.grows (omega (arith, c.requires)) image (subst (λ x. Leaves x image) is left);
       lost = λ told image left. subst (λ x. Leaves x image) (sym is) (still_left at bytes s old.contents.marks old.contents.grows (omega (arith, c.requires)) image left);
-      time = elapses_step s (state_of c.write.new.self) (log_steps old.log) (log_steps c.note_write.new.self) (Wrote at bytes) old.log.most c.note_write.new.self.most old.failing.calls c.calls.result c.fails-fails.new.self.calls old.failing.faults c.fails-fails.new.self.faults c.fails-fails.ensures.calls c.calls.ensures c.note_write.ensures.most c.note_write.ensures.steps old.replays is;
+      time = elapses_step s (state_of c.write.new.self) (log_steps old.log) (log_steps c.note_write.new.self) (Wrote at bytes) old.log.most c.note_write.new.self.most old.failing.calls c.calls.result c.fails-fails.new.self.calls old.failing.faults c.fails-fails.new.self.faults _ _ (same_room old.failing.numbers.items c.fails-fails.new.self.numbers.items old.fuse old.log.most c.note_write.new.self.most old.contents.capacity c.write.new.self.capacity (ap (λ v. v.items) c.fails-fails.ensures.numbers) c.note_write.ensures.most c.write.ensures.capacity) c.fails-fails.ensures.calls c.calls.ensures c.note_write.ensures.most c.note_write.ensures.steps old.replays is;
       cause = risen c.answer.result c.fails-fails.result old.failing.faults c.fails-fails.new.self.faults c.answer.ensures c.fails-fails.ensures.faults;
+      need = needed c.answer.result c.fails-fails.result c.has_place-has_place.result old.failing.numbers.items old.fuse old.log.most old.contents.capacity (at + length bytes) _ (search rules) c.answer.ensures c.fails-fails.ensures.fails;
     }
 
 pub returns-clause-torn : goal.returns-clause-torn

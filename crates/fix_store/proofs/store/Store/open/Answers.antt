@@ -1,6 +1,7 @@
 use Rattle.std.proofs.Common.{false, refl, ◌∙◌, sym, ap}
 use Rattle.std.specs.Prelude.{IsSome, is_some}
 use Rattle.fix_store.proofs.OpenLemmas.{opens_whole, opens_refused, journal_cause, walk_cause, end_found, sound_opened}
+use Rattle.fix_store.proofs.RoomLemmas.{journal_refused, walk_done, walk_refused}
 use Rattle.fix_store.proofs.store.Store.open.Goals as goal
 
 pub invariant_of-result : goal.invariant_of-result
@@ -35,3 +36,19 @@ returns-in-Err-fold-clause-moves_refused g c =
 
 pub returns-in-Err-clause-refused : goal.returns-in-Err-clause-refused
 returns-in-Err-clause-refused g c = journal_cause c.in-Err.refused.fault (g.D.Disk.disk c.args.disk).bytes c.in-Err.ensures.refused
+
+pub returns-in-Ok-fold-clause-room : goal.returns-in-Ok-fold-clause-room
+returns-in-Ok-fold-clause-room g c =
+    let disk = g.D.Disk.disk in
+    walk_done disk (disk c.args.disk) c.in-Ok.journal (disk c.fold.new.journal.disk) c.in-Ok.ensures.opened c.in-Ok.ensures.moves c.in-Ok.ensures.room c.in-Ok-fold.ensures.reads
+
+pub returns-in-Err-fold-clause-room_refused : goal.returns-in-Err-fold-clause-room_refused
+returns-in-Err-fold-clause-room_refused g c =
+    let disk = g.D.Disk.disk in
+    rw c.into_disk.ensures
+    (walk_refused disk (disk c.args.disk) c.in-Ok.journal (disk c.fold.new.journal.disk) c.in-Ok.ensures.opened c.in-Ok.ensures.moves c.in-Ok.ensures.room c.in-Err-fold.fault c.in-Err-fold.ensures.reads)
+
+pub returns-in-Err-clause-room_refused : goal.returns-in-Err-clause-room_refused
+returns-in-Err-clause-room_refused g c =
+    let disk = g.D.Disk.disk in
+    journal_refused c.in-Err.refused.fault (disk c.args.disk) (disk c.in-Err.refused.disk) c.in-Err.ensures.moves_refused c.in-Err.ensures.refused c.in-Err.ensures.room_refused

@@ -4,6 +4,7 @@ use Rattle.fix_store.specs.declared.fault.StoreFault.TheVariants.{NumbersSpent, 
 use Rattle.fix_store.specs.Folding.{fold_of, IsSound}
 use Rattle.fix_store.specs.Spelling.{spelled}
 use Rattle.fix_store.proofs.KeepLemmas.{calm, keeps_at, sound_at, refused, when_ok}
+use Rattle.fix_store.proofs.RoomLemmas.{room_at}
 use Rattle.fix_store.proofs.store.Store.push.Goals as goal
 
 pub returns-in_default-clause-moves : goal.returns-in_default-clause-moves
@@ -47,3 +48,21 @@ returns-in-Err-clause-moves g c =
     let payload : c.deref.result.now ≡ spelled (Push c.args.entry.now) = c.deref.ensures.value ∙ when_ok c.stage.result c.if-is_err.ensures.value c.stage.ensures.payload in
     rw (← c.self.view_is)
     (λ still. keeps_at disk s.journal f (calm disk s.journal f s.stopped c.if-self.false c.self.invariant) (Push c.args.entry.now) c.requires (omega (arith, c.in-Some.ensures.0, c.len.ensures)) (Err c.in-Err.fault) c.deref.result.now c.append.new.journal payload c.in-Err.ensures.moves)
+
+pub returns-in-Ok-clause-room : goal.returns-in-Ok-clause-room
+returns-in-Ok-clause-room g c =
+    let s = c.self.inside in
+    let disk = g.D.Disk.disk in
+    let f = fold_of s.folded in
+    let payload : c.deref.result.now ≡ spelled (Push c.args.entry.now) = c.deref.ensures.value ∙ when_ok c.stage.result c.if-is_err.ensures.value c.stage.ensures.payload in
+    rw (← c.self.view_is)
+    (room_at disk s.journal f (calm disk s.journal f s.stopped c.if-self.false c.self.invariant) (Push c.args.entry.now) c.deref.result.now c.append.new.journal payload c.in-Ok.ensures.room (Ok c.in-Ok.index) c.in-Ok.ensures.moves c.in-Ok.ensures.need)
+
+pub returns-in-Err-clause-room : goal.returns-in-Err-clause-room
+returns-in-Err-clause-room g c =
+    let s = c.self.inside in
+    let disk = g.D.Disk.disk in
+    let f = fold_of s.folded in
+    let payload : c.deref.result.now ≡ spelled (Push c.args.entry.now) = c.deref.ensures.value ∙ when_ok c.stage.result c.if-is_err.ensures.value c.stage.ensures.payload in
+    rw (← c.self.view_is)
+    (room_at disk s.journal f (calm disk s.journal f s.stopped c.if-self.false c.self.invariant) (Push c.args.entry.now) c.deref.result.now c.append.new.journal payload c.in-Err.ensures.room (Err c.in-Err.fault) c.in-Err.ensures.moves c.in-Err.ensures.need)
