@@ -1,5 +1,6 @@
 use super::*;
-use fix_base::{Bytes, Entry, OutOfMemory, SeqNum, Stored};
+use crate::entries::entry_of;
+use fix_base::{By, Bytes, Entry, OutOfMemory, SeqNum, Stored};
 use fix_disk::{Disk, MemoryDisk};
 use fix_journal::{Journal, OpenFault};
 use std::alloc::Global;
@@ -233,40 +234,153 @@ fn the_longest_body_is_a_record_and_a_longer_one_is_not(rt: HostRuntime) -> Resu
     Ok(())
 }
 
-// Reads the first entry of one store and keeps it in a new one.
-fn kept_again(alloc: Global, disk: MemoryDisk) -> Result<MemoryDisk, OutOfMemory> {
-    let mut from = opened(alloc, disk)?;
-    let mut to = opened(alloc, blank(alloc, &[], None)?)?;
+// What a row's payload is the record of. A body is the payload's rest.
+#[derive(Clone, Copy)]
+enum Kept {
+    App(u64, By),
+    Admin(u64, u8, u32),
+    Expect(u32),
+    Reset(u64),
+}
+
+// The entry that the record is of, if it is of one.
+fn entry_in(alloc: Global, record: Kept, body: &[u8]) -> Result<Option<Entry>, OutOfMemory> {
+    match record {
+        Kept::App(time, by) => {
+            let body = Bytes::copy(alloc, body)?;
+            Ok(Some(Entry::App { time, by, body }))
+        }
+        Kept::Admin(time, kind, about) => Ok(Some(Entry::Admin { time, kind, about })),
+        Kept::Expect(_) => Ok(None),
+        Kept::Reset(_) => Ok(None),
+    }
+}
+
+// What a store tells in which the record alone is kept.
+fn stored_with(record: Kept) -> Stored {
+    match record {
+        Kept::App(_, _) => ONE_ENTRY,
+        Kept::Admin(_, _, _) => ONE_ENTRY,
+        Kept::Expect(expected) => Stored {
+            last: 0,
+            expected,
+            since: None,
+        },
+        Kept::Reset(time) => Stored {
+            last: 0,
+            expected: 1,
+            since: Some(time),
+        },
+    }
+}
+
+// Pushes the entry that the payload spells. Whether it is this one, and could be pushed.
+fn push_alike(store: &mut Store<MemoryDisk>, payload: Vec<u8>, wanted: Option<Entry>) -> bool {
+    let entry = entry_of(payload);
+    let pushed = store.push(&entry);
+    Some(entry) == wanted && pushed.is_ok()
+}
+
+fn expect_within(store: &mut Store<MemoryDisk>, next: u32) -> bool {
+    if next < 1 {
+        return false;
+    }
+    if next > 1_000_000_000 {
+        return false;
+    }
+    store.expect(next).is_ok()
+}
+
+fn reset_within(store: &mut Store<MemoryDisk>, time: u64) -> bool {
+    if time > 4_102_444_799_999_999 {
+        return false;
+    }
+    store.reset(time).is_ok()
+}
+
+// A disk with a store in which the record alone is kept. The payload serves to make an entry.
+fn store_of(
+    alloc: Global,
+    record: Kept,
+    body: &[u8],
+    payload: Vec<u8>,
+) -> Result<MemoryDisk, OutOfMemory> {
+    let wanted = entry_in(alloc, record, body)?;
+    let mut store = opened(alloc, blank(alloc, &[], None)?)?;
+    let done = match record {
+        Kept::App(_, _) => push_alike(&mut store, payload, wanted),
+        Kept::Admin(_, _, _) => push_alike(&mut store, payload, wanted),
+        Kept::Expect(next) => expect_within(&mut store, next),
+        Kept::Reset(time) => reset_within(&mut store, time),
+    };
+    if done {
+        Ok(store.into_disk())
+    } else {
+        Err(OutOfMemory)
+    }
+}
+
+// The first entry, if there is one.
+fn first_entry(store: &mut Store<MemoryDisk>) -> Result<Option<Entry>, OutOfMemory> {
     let Some(first) = SeqNum::new(1) else {
         return Err(OutOfMemory);
     };
-    if from.stored().last < 1 {
-        return Err(OutOfMemory);
+    if store.stored().last < 1 {
+        return Ok(None);
     }
-    let Ok(entry) = from.entry(first) else {
-        return Err(OutOfMemory);
-    };
-    match to.push(&entry) {
-        Ok(_) => Ok(to.into_disk()),
+    match store.entry(first) {
+        Ok(entry) => Ok(Some(entry)),
         Err(_) => Err(OutOfMemory),
     }
 }
 
+const FIRST: [u8; 8] = [0; 8];
+
+const END: u64 = 4_102_444_799_999_999;
+
+const MAX: u32 = u32::MAX;
+
 #[test]
-fn each_kind_of_entry_is_read_and_kept_again(rt: HostRuntime) -> Result<(), Fail> {
+fn each_record_at_its_limits_is_kept_and_read_back(rt: HostRuntime) -> Result<(), Fail> {
     let alloc = rt.alloc();
-    let longest = body_of(alloc, 1_048_064)?;
-    let rows: [(u8, &[u8], &[u8]); 5] = [
-        (1, &LAST, b"35=D\x0111=A1\x01"),
-        (1, &[0; 8], &longest),
-        (2, &LAST, b"35=j\x0145=2\x01"),
-        (3, &[0; 8], b"N\0\0\0\0"),
-        (3, &LAST, b"3\xff\xff\xff\xff"),
+    let short = b"35=D\x01".as_slice();
+    let long = body_of(alloc, 1_048_064)?;
+    let rows: [(u8, &[u8], &[u8], Kept); 26] = [
+        (1, &FIRST, short, Kept::App(0, By::Caller)),
+        (1, &LAST, short, Kept::App(END, By::Caller)),
+        (1, &FIRST, &long, Kept::App(0, By::Caller)),
+        (1, &LAST, &long, Kept::App(END, By::Caller)),
+        (2, &FIRST, short, Kept::App(0, By::Engine)),
+        (2, &LAST, short, Kept::App(END, By::Engine)),
+        (2, &FIRST, &long, Kept::App(0, By::Engine)),
+        (2, &LAST, &long, Kept::App(END, By::Engine)),
+        (3, &FIRST, b"0\0\0\0\0", Kept::Admin(0, b'0', 0)),
+        (3, &LAST, b"0\xff\xff\xff\xff", Kept::Admin(END, b'0', MAX)),
+        (3, &FIRST, b"1\0\0\0\0", Kept::Admin(0, b'1', 0)),
+        (3, &LAST, b"1\xff\xff\xff\xff", Kept::Admin(END, b'1', MAX)),
+        (3, &FIRST, b"2\0\0\0\0", Kept::Admin(0, b'2', 0)),
+        (3, &LAST, b"2\xff\xff\xff\xff", Kept::Admin(END, b'2', MAX)),
+        (3, &FIRST, b"3\0\0\0\0", Kept::Admin(0, b'3', 0)),
+        (3, &LAST, b"3\xff\xff\xff\xff", Kept::Admin(END, b'3', MAX)),
+        (3, &FIRST, b"5\0\0\0\0", Kept::Admin(0, b'5', 0)),
+        (3, &LAST, b"5\xff\xff\xff\xff", Kept::Admin(END, b'5', MAX)),
+        (3, &FIRST, b"A\0\0\0\0", Kept::Admin(0, b'A', 0)),
+        (3, &LAST, b"A\xff\xff\xff\xff", Kept::Admin(END, b'A', MAX)),
+        (3, &FIRST, b"N\0\0\0\0", Kept::Admin(0, b'N', 0)),
+        (3, &LAST, b"N\xff\xff\xff\xff", Kept::Admin(END, b'N', MAX)),
+        (4, b"\0\0\0\x01", b"", Kept::Expect(1)),
+        (4, b"\x3b\x9a\xca\0", b"", Kept::Expect(1_000_000_000)),
+        (5, &FIRST, b"", Kept::Reset(0)),
+        (5, &LAST, b"", Kept::Reset(END)),
     ];
-    for (mark, time, rest) in rows {
-        let payload = payload_of(alloc, mark, time, rest)?;
-        let again = kept_again(alloc, with_payload(alloc, &payload)?)?;
-        assert_eq!(rt; again.bytes(), with_payload(alloc, &payload)?.bytes());
+    for (mark, first, rest, record) in rows {
+        let payload = payload_of(alloc, mark, first, rest)?;
+        let wanted = with_payload(alloc, &payload)?;
+        let disk = store_of(alloc, record, rest, payload)?;
+        assert_eq!(rt; disk.bytes(), wanted.bytes());
+        let mut again = opened(alloc, disk)?;
+        assert_eq!(rt; again.stored(), stored_with(record));
+        assert_eq!(rt; first_entry(&mut again)?, entry_in(alloc, record, rest)?);
     }
     Ok(())
 }
