@@ -343,3 +343,61 @@ fn memory_suffices_for_the_sample(rt: HostRuntime) -> Result<(), Fail> {
     assert_eq!(rt; served.status, Status(0));
     Ok(())
 }
+
+// Serves two connections over one store, of which this call of `keep` fails.
+fn serve_twice(
+    alloc: Global,
+    first: &[&[u8]],
+    second: &[&[u8]],
+    keep: u64,
+) -> Result<(Status, Stored, Status, Tested), Fail> {
+    let mut pieces = at_once(alloc, first)?;
+    pieces.push(Bytes::from_vec(bytes_of(alloc, second)?))?;
+    let fails = Fails {
+        keep,
+        link: 0,
+        sink: 0,
+    };
+    let (status, mut o) = served(alloc, WORDS.as_slice(), pieces, fails, u64::MAX)?;
+    let stored = o.stored();
+    let again = serve_stdio(alloc, WORDS.as_slice(), &mut o, u64::MAX);
+    Ok((status, stored, again, o))
+}
+
+#[test]
+fn a_process_starts_again_behind_a_store_fault(rt: HostRuntime) -> Result<(), Fail> {
+    let alloc = rt.alloc();
+    let (status, stored, again, o) = serve_twice(alloc, &[LOGON], &[LOGON, ORDER, LOGOUT], 1)?;
+    assert_eq!(rt; status, Status(5));
+    let nothing = Stored {
+        last: 0,
+        expected: 1,
+        since: None,
+    };
+    assert_eq!(rt; stored, nothing);
+    assert_eq!(rt; again, Status(0));
+    let written = bytes_of(alloc, &[LOGON_ANSWER, LOGOUT_ANSWER])?;
+    assert!(rt; o.link().written() == written.as_slice());
+    assert!(rt; o.app().sink().written() == LINE);
+    Ok(())
+}
+
+#[test]
+fn a_stop_behind_a_hand_over_leaves_the_number(rt: HostRuntime) -> Result<(), Fail> {
+    let alloc = rt.alloc();
+    // The entry of the Logon's answer is kept, and the number behind the order isn't.
+    let (status, stored, again, o) = serve_twice(alloc, &[LOGON, ORDER], &[LOGON], 2)?;
+    assert_eq!(rt; status, Status(5));
+    assert!(rt; o.app().sink().written() == LINE);
+    let want = Stored {
+        last: 1,
+        expected: 1,
+        since: None,
+    };
+    assert_eq!(rt; stored, want);
+    // The next process answers a Logon of number 1 under number 2.
+    assert_eq!(rt; again, Status(1));
+    assert_eq!(rt; o.stored().last, 2);
+    assert_eq!(rt; o.stored().expected, 2);
+    Ok(())
+}
