@@ -1,14 +1,13 @@
 -- A file has one end, or one first place at which it breaks.
-use Rattle.std.proofs.Common.{◌≡◌, inl, inr, ℕ, List, [], ◌∷◌, ◌++◌, length, sym, ◌∙◌, ap, subst}
+use Rattle.std.proofs.Common.{◌≡◌, inl, inr, ℕ, List, ◌∷◌, ◌++◌, length, sym, ◌∙◌, ap}
 use Rattle.std.specs.Prelude.{map}
 use Rattle.fix_base.specs.declared.entry.Record.{Record}
 use Rattle.fix_base.specs.End.{End, new_end, folded_all}
-use Rattle.fix_journal.specs.Format.{front, HasRecords}
-use Rattle.fix_journal.specs.Payloads.{payloads_in}
+use Rattle.fix_journal.specs.Format.{front}
 use Rattle.fix_journal.proofs.Meaning.{one_list_of_records, not_both, one_first_place}
 use Rattle.fix_journal.proofs.PayloadLemmas.{computed}
 use Rattle.fix_store.specs.Spelling.{spelled}
-use Rattle.fix_store.specs.Reading.{IsStoreOf, HasEnd, IsNoRecordAt, IsBrokenAt}
+use Rattle.fix_store.specs.Reading.{IsStoreOf, HasEnd, IsBrokenAt}
 use Rattle.fix_store.specs.Ends.{record_in, end_in}
 use Rattle.fix_store.proofs.RecordLists.{backs, one_list, never_bad, one_bad}
 

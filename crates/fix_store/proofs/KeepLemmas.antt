@@ -1,5 +1,5 @@
 -- A record that is kept: from the journal's records to the store's end.
-use Rattle.std.proofs.Common.{◌≡◌, ◌↔◌, inl, inr, ℕ, ◌+◌, ◌-◌, ◌<◌, ◌≤◌, suc, Bool, true, false, List, [], ◌∷◌, ◌++◌, length, get_or, Option, Some, None, Result, Ok, Err, refl, sym, ◌∙◌, ap, subst, arith, length-append, true≢false}
+use Rattle.std.proofs.Common.{◌≡◌, ◌↔◌, inl, inr, ℕ, ◌-◌, ◌≤◌, suc, Bool, false, List, [], ◌∷◌, ◌++◌, length, get_or, Some, None, Result, Ok, Err, refl, sym, ◌∙◌, ap, subst, arith, length-append, true≢false}
 use Rattle.std.specs.Prelude.{map, slice_get, IfSome, IsSome, is_some, is_err, OnOk}
 use Rattle.fix_base.specs.declared.entry.Entry.{Entry}
 use Rattle.fix_base.specs.declared.entry.Record.{Record}
@@ -7,7 +7,6 @@ use Rattle.fix_base.specs.declared.entry.Record.TheVariants.{Push, Expect, Reset
 use Rattle.fix_base.specs.End.{End, new_end, folded, folded_all, IsEntry}
 use Rattle.fix_base.specs.Payload.{HasPayload, IsKeepable}
 use Rattle.fix_disk.specs.Disk.{DiskSeen, IsLawful, LeavesAsIs}
-use Rattle.fix_disk.specs.Moments.{LeavesOnly}
 use Rattle.fix_journal.specs.Format.{IsJournal, HasRecords}
 use Rattle.fix_journal.specs.AtRest.{IsEither}
 use Rattle.fix_journal.specs.Journal.{JournalSeen, Holds, Lasts, JournalReads}

@@ -1,5 +1,5 @@
 -- The opening of a store: that of its journal, and the walk over the records.
-use Rattle.std.proofs.Common.{◌≡◌, inl, inr, ℕ, ◌+◌, ◌≤◌, Bool, List, [], ◌∷◌, ◌++◌, length, Option, Some, None, Result, Ok, Err, refl, sym, ◌∙◌, ap, subst, arith, length-append, true≢false}
+use Rattle.std.proofs.Common.{◌≡◌, inl, inr, ℕ, ◌≤◌, Bool, List, [], ◌∷◌, length, Option, Some, None, Ok, Err, refl, sym, ◌∙◌, ap, subst, arith, length-append, true≢false}
 use Rattle.std.specs.Prelude.{map, IfSome, IsSome, is_some, slice_index}
 use Rattle.fix_base.specs.declared.entry.Record.{Record}
 use Rattle.fix_base.specs.End.{End, new_end, folded_all}
@@ -18,7 +18,7 @@ use Rattle.fix_store.specs.Spelling.{spelled}
 use Rattle.fix_store.specs.Reading.{HasEnd}
 use Rattle.fix_store.specs.Store.{stored_of, HoldsEnd, LastsEnd}
 use Rattle.fix_store.specs.Opening.{IsCause}
-use Rattle.fix_store.specs.Folding.{fold_of, stored_in, IsFoldOf, IsWithin, IsKeptOf, IsSound, GoesOn, Reads, Folds}
+use Rattle.fix_store.specs.Folding.{fold_of, stored_in, IsWithin, IsKeptOf, IsSound, GoesOn, Reads, Folds}
 use Rattle.fix_journal.proofs.AsRead.{at_told}
 use Rattle.fix_store.proofs.RecordLists.{length-map}
 use Rattle.fix_store.proofs.KeepLemmas.{end_of, kept_read}

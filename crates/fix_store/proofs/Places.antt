@@ -1,5 +1,5 @@
 -- The places of entries among a journal's records.
-use Rattle.std.proofs.Common.{◌≡◌, ℕ, ◌+◌, ◌<◌, ◌≤◌, zero, suc, List, [], ◌∷◌, ◌++◌, length, get_or, Option, Some, None, refl, sym, ◌∙◌, ap, subst, arith, length-append}
+use Rattle.std.proofs.Common.{◌≡◌, ℕ, ◌<◌, ◌≤◌, zero, suc, List, [], ◌∷◌, ◌++◌, length, get_or, Some, refl, sym, ◌∙◌, ap, subst, arith, length-append}
 use Rattle.std.specs.Prelude.{slice_get, map, option_map, IfSome, All}
 use Rattle.std.proofs.lemmas.List.Elements.{All-nil, All-push}
 use Rattle.fix_base.specs.declared.entry.Entry.{Entry}
@@ -7,7 +7,7 @@ use Rattle.fix_base.specs.declared.entry.Record.{Record}
 use Rattle.fix_base.specs.declared.entry.Record.TheVariants.{Push, Expect, Reset}
 use Rattle.fix_base.specs.End.{End, new_end, folded, folded_all, IsEntry}
 use Rattle.fix_base.specs.Payload.{IsKeepable}
-use Rattle.fix_store.specs.Reading.{LAST_NUMBER, MayFollow, MayAllFollow}
+use Rattle.fix_store.specs.Reading.{LAST_NUMBER, MayFollow}
 use Rattle.fix_store.specs.Store.{stored_of, stored_with, HasNumber}
 use Rattle.fix_store.specs.Folding.{Fold, new_fold, fold_with, stored_in, ArePlaces, IsFoldOf, IsWithin}
 use Rattle.fix_store.proofs.RecordLists.{fold-push, follow-push}

@@ -1,8 +1,8 @@
 -- Lists of records, each of which may be kept behind those before it.
-use Rattle.std.proofs.Common.{◌≡◌, ℕ, ◌+◌, ◌<◌, ◌≤◌, zero, suc, List, [], ◌∷◌, ◌++◌, length, take, drop, get_or, Option, Some, None, refl, sym, ◌∙◌, ap, subst, arith, length-append}
+use Rattle.std.proofs.Common.{◌≡◌, ℕ, zero, suc, List, [], ◌∷◌, ◌++◌, length, drop, get_or, Some, refl, sym, ◌∙◌, ap, subst, arith}
 use Rattle.std.specs.Prelude.{map, slice_get, IfSome}
 use Rattle.fix_base.specs.declared.entry.Record.{Record}
-use Rattle.fix_base.specs.End.{End, new_end, folded, folded_all}
+use Rattle.fix_base.specs.End.{End, folded, folded_all}
 use Rattle.fix_base.specs.Payload.{IsKeepable}
 use Rattle.fix_store.specs.Spelling.{spelled}
 use Rattle.fix_store.specs.Reading.{MayFollow, MayAllFollow}

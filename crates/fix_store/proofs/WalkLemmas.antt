@@ -1,5 +1,5 @@
 -- The walk over a journal's records.
-use Rattle.std.proofs.Common.{◌≡◌, ℕ, ◌+◌, ◌<◌, ◌≤◌, zero, suc, false, List, [], ◌∷◌, ◌++◌, length, take, drop, Some, None, Result, Ok, Err, refl, sym, ◌∙◌, ap, subst, arith}
+use Rattle.std.proofs.Common.{◌≡◌, ℕ, ◌+◌, ◌<◌, ◌≤◌, zero, suc, false, List, [], ◌∷◌, ◌++◌, length, take, drop, Some, None, Ok, Err, refl, sym, ◌∙◌, ap, subst, arith}
 use Rattle.std.specs.Prelude.{map, slice_get, IfSome}
 use Rattle.std.proofs.lemmas.List.{length-take-le, take_all}
 use Rattle.std.proofs.lemmas.List.Elements.{All-nil}
@@ -15,7 +15,7 @@ use Rattle.fix_journal.proofs.RoomLemmas.{needs_then}
 use Rattle.fix_store.specs.declared.folding.Folded.{Folded}
 use Rattle.fix_store.specs.Spelling.{spelled}
 use Rattle.fix_store.specs.Store.{HasNumber}
-use Rattle.fix_store.specs.Folding.{Fold, new_fold, fold_of, IsFoldOf, IsWithin, GoesOn, Reads, Steps, IsNext, Takes, IsFirstBad, Folds}
+use Rattle.fix_store.specs.Folding.{Fold, new_fold, fold_of, IsFoldOf, IsWithin, GoesOn, Reads, Steps, Takes, Folds}
 use Rattle.fix_store.proofs.RecordLists.{map-push, length-map}
 use Rattle.fix_store.proofs.Places.{nothing_yet, may_follow, has_number, fold_step, within_step}
 

@@ -1,10 +1,10 @@
 -- What the opening of a store finds in its file, and does to it.
-use Rattle.std.specs.Prelude.{◌≡◌, ℕ, ◌≤◌, List, IfSome, false, Bool, ⊤}
+use Rattle.std.specs.Prelude.{◌≡◌, ℕ, List, IfSome, false, ⊤}
 use Rattle.fix_base.specs.End.{End}
 use Rattle.fix_disk.specs.Disk.{DiskSeen}
 use Rattle.fix_journal.specs.declared.fault.OpenFault.{OpenFault}
 use Rattle.fix_journal.specs.declared.fault.OpenFault.TheVariants.{DiskFault, Damaged, OutOfMemory}
-use Rattle.fix_store.specs.Reading.{LAST_NUMBER, HasEnd, IsBrokenAt}
+use Rattle.fix_store.specs.Reading.{HasEnd, IsBrokenAt}
 use Rattle.fix_store.specs.Store.{StoreSeen, stored_of, HoldsEnd, LastsEnd}
 
 -- a store that was opened has the end of the file as it was read at first, and a crash leaves it

@@ -7,7 +7,7 @@
 --   05  time in eight bytes                                              a store reset
 --
 -- Numbers have the most significant byte first.
-use Rattle.std.specs.Prelude.{ℕ, List, [], ◌∷◌, ◌++◌}
+use Rattle.std.specs.Prelude.{ℕ, List, ◌∷◌, ◌++◌}
 use Rattle.std.specs.Int.{w32, w64, to_be_bytes}
 use Rattle.fix_base.specs.declared.entry.By.{By}
 use Rattle.fix_base.specs.declared.entry.Entry.{Entry}

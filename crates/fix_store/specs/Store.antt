@@ -1,20 +1,19 @@
 -- What is seen of a store, and what its calls do.
-use Rattle.std.specs.Prelude.{◌≡◌, ◌⊎◌, ◌↔◌, ℕ, ◌+◌, ◌<◌, ◌≤◌, Bool, true, false, List, [], ◌∷◌, ◌++◌, length, slice_get, map, All, Option, Some, None, IsSome, IfSome, Result, Ok, Err, OnOk, IfOk, ⊤}
+use Rattle.std.specs.Prelude.{◌≡◌, ◌⊎◌, ◌↔◌, ℕ, ◌+◌, ◌<◌, ◌≤◌, Bool, true, false, List, length, Option, Some, None, IsSome, IfSome, Result, Ok, Err, IfOk, ⊤}
 use Rattle.fix_base.specs.declared.entry.Entry.{Entry}
 use Rattle.fix_base.specs.declared.entry.Record.{Record}
-use Rattle.fix_base.specs.declared.entry.Entry.TheVariants.{App, Admin}
+use Rattle.fix_base.specs.declared.entry.Entry.TheVariants.{Admin}
 use Rattle.fix_base.specs.declared.entry.Record.TheVariants.{Push, Expect, Reset}
-use Rattle.fix_base.specs.End.{End, new_end, folded, folded_all, IsEntry}
+use Rattle.fix_base.specs.End.{End, folded, IsEntry}
 use Rattle.fix_base.specs.Payload.{HasPayload, IsKeepable, LAST_TIME}
 use Rattle.fix_base.specs.Seen.{Rises}
 use Rattle.fix_base.specs.declared.entry.Stored.{Stored}
 use Rattle.fix_disk.specs.Disk.{DiskSeen, LeavesAsIs}
 use Rattle.fix_disk.specs.Moments.{LeavesOnly}
-use Rattle.fix_journal.specs.Journal.{JournalSeen, Holds}
 use Rattle.fix_store.specs.declared.fault.StoreFault.{StoreFault}
 use Rattle.fix_store.specs.declared.fault.StoreFault.TheVariants.{Stopped, NumbersSpent, OutOfMemory, DiskFault}
 use Rattle.fix_store.specs.Spelling.{spelled}
-use Rattle.fix_store.specs.Reading.{LAST_NUMBER, MayAllFollow, HasEnd}
+use Rattle.fix_store.specs.Reading.{LAST_NUMBER, HasEnd}
 
 -- over a disk of type D
 pub record StoreSeen (D : Type 0) : Type 0 where

@@ -1,5 +1,5 @@
-use Rattle.std.proofs.Common.{◌≡◌, ◌+◌, sym, ◌∙◌, subst, arith}
-use Rattle.fix_store.specs.Folding.{fold_of, IsWithin, Reads}
+use Rattle.std.proofs.Common.{◌≡◌, subst, arith}
+use Rattle.fix_store.specs.Folding.{fold_of, IsWithin}
 use Rattle.fix_store.proofs.WalkLemmas.{walk_begins, walks_on, walk_fails, walk_ends, reads_then}
 use Rattle.fix_store.proofs.walking.fold.Goals as goal
 

@@ -1,6 +1,5 @@
 use Rattle.std.proofs.Common.{false, refl, ◌∙◌, sym, ap}
 use Rattle.std.specs.Prelude.{IsSome, is_some}
-use Rattle.fix_store.specs.Folding.{fold_of}
 use Rattle.fix_store.proofs.OpenLemmas.{opens_whole, opens_refused, journal_cause, walk_cause, end_found, sound_opened}
 use Rattle.fix_store.proofs.RoomLemmas.{journal_refused, walk_done, walk_refused}
 use Rattle.fix_store.proofs.store.Store.open.Goals as goal

@@ -1,7 +1,7 @@
 use Rattle.std.proofs.Common.{◌≡◌, ◌++◌, ◌∷◌, [], refl, sym, ◌∙◌, ap, subst, Ok, Err, arith}
 use Rattle.fix_base.specs.declared.entry.Record.TheVariants.{Push}
 use Rattle.fix_store.specs.declared.fault.StoreFault.TheVariants.{NumbersSpent, OutOfMemory}
-use Rattle.fix_store.specs.Folding.{fold_of, fold_with, IsSound}
+use Rattle.fix_store.specs.Folding.{fold_of, IsSound}
 use Rattle.fix_store.specs.Spelling.{spelled}
 use Rattle.fix_store.proofs.KeepLemmas.{calm, keeps_at, sound_at, refused, when_ok}
 use Rattle.fix_store.proofs.RoomLemmas.{room_at}
