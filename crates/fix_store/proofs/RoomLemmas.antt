@@ -1,5 +1,5 @@
 -- The room of a store, behind each of its calls.
-use Rattle.std.proofs.Common.{◌≡◌, ◌↔◌, inr, ℕ, ◌+◌, ◌-◌, ◌<◌, ◌≤◌, suc, Bool, true, false, List, [], ◌∷◌, ◌++◌, length, Option, Some, None, Result, Ok, Err, refl, sym, ◌∙◌, ap, subst, arith, length-append, true≢false}
+use Rattle.std.proofs.Common.{◌≡◌, ◌↔◌, inr, ℕ, ◌+◌, ◌-◌, ◌<◌, ◌≤◌, Bool, true, false, List, [], ◌∷◌, ◌++◌, length, Option, Some, None, Result, Ok, Err, refl, sym, ◌∙◌, ap, subst, arith, length-append, true≢false}
 use Rattle.std.specs.Prelude.{map, IfSome, IsSome, is_some, nat_le, if◌then◌else◌}
 use Rattle.std.proofs.lemmas.Bool.{lt-leb}
 use Rattle.fix_base.specs.declared.entry.Record.{Record}
@@ -11,7 +11,7 @@ use Rattle.fix_disk.specs.Disk.{DiskSeen, MayFail}
 use Rattle.fix_disk.specs.Moments.{NeedsRoom}
 use Rattle.fix_journal.specs.declared.fault.OpenFault.{OpenFault}
 use Rattle.fix_journal.specs.declared.fault.OpenFault.TheVariants as open_fault
-use Rattle.fix_journal.specs.Format.{body_of, file_size, front, IsMade, HasRecords, IsDamagedAt}
+use Rattle.fix_journal.specs.Format.{body_of, file_size, IsMade, HasRecords, IsDamagedAt}
 use Rattle.fix_journal.specs.Journal.{JournalSeen, Holds, Lasts}
 use Rattle.fix_journal.specs.Opening as journal
 use Rattle.fix_journal.specs.Opening.{Opens, open_failures}

@@ -1,10 +1,10 @@
 -- What a store keeps in memory of its records, and how a walk over the records makes it.
-use Rattle.std.specs.Prelude.{◌≡◌, ◌↔◌, ℕ, ◌+◌, ◌<◌, ◌≤◌, Bool, false, List, [], ◌∷◌, ◌++◌, length, take, map, slice_get, All, Option, IfSome, Some, None, IsSome, Result, Ok, Err, ⊤}
+use Rattle.std.specs.Prelude.{◌≡◌, ◌↔◌, ℕ, ◌<◌, ◌≤◌, Bool, false, List, [], ◌∷◌, ◌++◌, length, take, map, slice_get, All, Option, IfSome, Some, None, IsSome, Result, Ok, Err, ⊤}
 use Rattle.fix_base.specs.declared.entry.Entry.{Entry}
 use Rattle.fix_base.specs.declared.entry.Record.{Record}
 use Rattle.fix_base.specs.declared.entry.Entry.TheVariants.{App, Admin}
 use Rattle.fix_base.specs.declared.entry.Record.TheVariants.{Push, Expect, Reset}
-use Rattle.fix_base.specs.End.{End, new_end, folded_all}
+use Rattle.fix_base.specs.End.{new_end, folded_all}
 use Rattle.fix_base.specs.Payload.{IsKeepable, LAST_TIME}
 use Rattle.fix_base.specs.Seen.{Rises}
 use Rattle.fix_base.specs.declared.entry.Stored.{Stored}

@@ -4,7 +4,7 @@ use Rattle.fix_base.specs.declared.entry.Entry.{Entry}
 use Rattle.fix_base.specs.declared.entry.Record.{Record}
 use Rattle.fix_base.specs.declared.entry.Entry.TheVariants.{Admin}
 use Rattle.fix_base.specs.declared.entry.Record.TheVariants.{Push, Expect, Reset}
-use Rattle.fix_base.specs.End.{End, new_end, folded, folded_all, IsEntry}
+use Rattle.fix_base.specs.End.{End, folded, IsEntry}
 use Rattle.fix_base.specs.Payload.{HasPayload, IsKeepable, LAST_TIME}
 use Rattle.fix_base.specs.Seen.{Rises}
 use Rattle.fix_base.specs.declared.entry.Stored.{Stored}
