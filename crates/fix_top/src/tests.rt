@@ -344,40 +344,36 @@ fn memory_suffices_for_the_sample(rt: HostRuntime) -> Result<(), Fail> {
     Ok(())
 }
 
-// Serves two connections over one store, of which this call of `keep` fails.
+// Serves two connections over one store, of whose disk this call fails.
 fn serve_twice(
     alloc: Global,
     first: &[&[u8]],
     second: &[&[u8]],
-    keep: u64,
+    disk: u64,
 ) -> Result<(Status, Stored, Status, Tested), Fail> {
     let mut pieces = at_once(alloc, first)?;
     pieces.push(Bytes::from_vec(bytes_of(alloc, second)?))?;
-    let fails = Fails {
-        keep,
-        link: 0,
-        sink: 0,
-    };
+    let fails = Fails { disk, ..NONE };
     let (status, mut o) = served(alloc, WORDS.as_slice(), pieces, fails, u64::MAX)?;
-    let stored = o.stored();
+    let kept = stored(&mut o)?;
     let again = serve_stdio(alloc, WORDS.as_slice(), &mut o, u64::MAX);
-    Ok((status, stored, again, o))
+    Ok((status, kept, again, o))
 }
 
 #[test]
 fn a_process_starts_again_behind_a_store_fault(rt: HostRuntime) -> Result<(), Fail> {
     let alloc = rt.alloc();
-    let (status, stored, again, o) = serve_twice(alloc, &[LOGON], &[LOGON, ORDER, LOGOUT], 1)?;
+    let (status, kept, again, o) = serve_twice(alloc, &[LOGON], &[LOGON, ORDER, LOGOUT], 9)?;
     assert_eq!(rt; status, Status(5));
     let nothing = Stored {
         last: 0,
         expected: 1,
         since: None,
     };
-    assert_eq!(rt; stored, nothing);
+    assert_eq!(rt; kept, nothing);
     assert_eq!(rt; again, Status(0));
-    let written = bytes_of(alloc, &[LOGON_ANSWER, LOGOUT_ANSWER])?;
-    assert!(rt; o.link().written() == written.as_slice());
+    let expected = bytes_of(alloc, &[LOGON_ANSWER, LOGOUT_ANSWER])?;
+    assert!(rt; written(&o) == expected.as_slice());
     assert!(rt; o.app().sink().written() == LINE);
     Ok(())
 }
@@ -386,7 +382,7 @@ fn a_process_starts_again_behind_a_store_fault(rt: HostRuntime) -> Result<(), Fa
 fn a_stop_behind_a_hand_over_leaves_the_number(rt: HostRuntime) -> Result<(), Fail> {
     let alloc = rt.alloc();
     // The entry of the Logon's answer is kept, and the number behind the order isn't.
-    let (status, stored, again, o) = serve_twice(alloc, &[LOGON, ORDER], &[LOGON], 2)?;
+    let (status, kept, again, mut o) = serve_twice(alloc, &[LOGON, ORDER], &[LOGON], 13)?;
     assert_eq!(rt; status, Status(5));
     assert!(rt; o.app().sink().written() == LINE);
     let want = Stored {
@@ -394,10 +390,11 @@ fn a_stop_behind_a_hand_over_leaves_the_number(rt: HostRuntime) -> Result<(), Fa
         expected: 1,
         since: None,
     };
-    assert_eq!(rt; stored, want);
+    assert_eq!(rt; kept, want);
     // The next process answers a Logon of number 1 under number 2.
     assert_eq!(rt; again, Status(1));
-    assert_eq!(rt; o.stored().last, 2);
-    assert_eq!(rt; o.stored().expected, 2);
+    let kept = stored(&mut o)?;
+    assert_eq!(rt; kept.last, 2);
+    assert_eq!(rt; kept.expected, 2);
     Ok(())
 }
