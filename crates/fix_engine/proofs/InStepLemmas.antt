@@ -49,7 +49,7 @@ use Rattle.fix_engine.proofs.RunActs.{of_run-append, of_run_one, Ran-plainly}
 -- ---- what is told
 
 -- the tape has the acts behind those that it had
-tape_moves : (t t' : Option (List Act)) (xs acts : List Act) → t' ≡ grown t acts → IfSome t (λ tape. tape ≡ xs) → IfSome t' (λ tape. tape ≡ xs ++ acts)
+pub tape_moves : (t t' : Option (List Act)) (xs acts : List Act) → t' ≡ grown t acts → IfSome t (λ tape. tape ≡ xs) → IfSome t' (λ tape. tape ≡ xs ++ acts)
 tape_moves None t' xs acts e h = subst (λ o. IfSome o (λ tape. tape ≡ xs ++ acts)) (sym e) tt
 tape_moves (Some old) t' xs acts e h = subst (λ o. IfSome o (λ tape. tape ≡ xs ++ acts)) (sym e) (ap (λ l. l ++ acts) h)
 
@@ -63,11 +63,11 @@ some_end : (a b : End) → Some a ≡ Some b → a ≡ b
 some_end a b e = cc
 
 -- a store that held the end holds the one behind the acts
-store_moves : (P Q : End → Type 0) (acts : List Act) (from to : End) → HoldsOn P Q acts → ((held : Option End) → Stores acts (Some from) held → held ≡ Some to) → ((e : End) → P e → e ≡ from) → (e : End) → Q e → e ≡ to
+pub store_moves : (P Q : End → Type 0) (acts : List Act) (from to : End) → HoldsOn P Q acts → ((held : Option End) → Stores acts (Some from) held → held ≡ Some to) → ((e : End) → P e → e ≡ from) → (e : End) → Q e → e ≡ to
 store_moves P Q acts from to moves follows h e q = some_end e to (told_holds P Q acts from (λ held. held ≡ Some to) moves follows h e q)
 
 -- the same over two lists of acts
-stored_on : (first between : End) (xs ys : List Act) (doubt : Option Record) (last : End) → ((held : Option End) → Stores xs (Some first) held → held ≡ Some between) → ((held : Option End) → Stores ys (Some between) held → MayHold doubt last held) → (held : Option End) → Stores (xs ++ ys) (Some first) held → MayHold doubt last held
+pub stored_on : (first between : End) (xs ys : List Act) (doubt : Option Record) (last : End) → ((held : Option End) → Stores xs (Some first) held → held ≡ Some between) → ((held : Option End) → Stores ys (Some between) held → MayHold doubt last held) → (held : Option End) → Stores (xs ++ ys) (Some first) held → MayHold doubt last held
 stored_on first between xs ys doubt last before behind held s =
     let parts = Stores-split xs ys (Some first) held s in
     behind held (subst (λ o. Stores ys o held) (before parts.0 parts.1) parts.2)
@@ -88,11 +88,11 @@ new_in_step id w before tape stored opens = record {
 
 -- ---- a run of turns
 
-beside_settled : (id : Identity) (l : Live) (e : EndState) → IsBeside id l e → IsCertain l.state e
+pub beside_settled : (id : Identity) (l : Live) (e : EndState) → IsBeside id l e → IsCertain l.state e
 beside_settled id l e (step.connected f) = f.on.settled
 beside_settled id l e (step.down p h) = h
 
-beside_fits : (id : Identity) (l : Live) (e : EndState) → l.state.phase ≢ Down → IsBeside id l e → Fits id l e
+pub beside_fits : (id : Identity) (l : Live) (e : EndState) → l.state.phase ≢ Down → IsBeside id l e → Fits id l e
 beside_fits id l e is_open (step.connected f) = f
 beside_fits id l e is_open (step.down p h) = absurd (is_open p)
 
@@ -107,11 +107,11 @@ after_beside id (Err ending.AppFault) to e none h = cc
 after_beside id (Err ending.StoreFault) to e none h = cc
 after_beside id (Err ending.OutOfMemory) to e none h = cc
 
-abbrev seated : Seat → Live → Option StopCause → Seat
+abbrev pub seated : Seat → Live → Option StopCause → Seat
 seated seat to stopped = record { identity = seat.identity; live = to; stopped = stopped }
 
 -- calls that lead an end to one that is in step
-moved : (start : EndState) (before : List Act) (old new : Seen) (seat : Seat) (to : Live) (stopped : Option StopCause) (notes : List Note) (P : EndState → Type 0) → Moves old new notes → new.open_at ≡ Some to.state.last → ((e : EndState) → P e → IsBeside seat.identity to e) → (h : IsInStep start before old seat) → Leads seat.identity h.to (acts_of notes) P → IsInStep start before new (seated seat to stopped)
+pub moved : (start : EndState) (before : List Act) (old new : Seen) (seat : Seat) (to : Live) (stopped : Option StopCause) (notes : List Note) (P : EndState → Type 0) → Moves old new notes → new.open_at ≡ Some to.state.last → ((e : EndState) → P e → IsBeside seat.identity to e) → (h : IsInStep start before old seat) → Leads seat.identity h.to (acts_of notes) P → IsInStep start before new (seated seat to stopped)
 moved start before old new seat to stopped notes P m opens beside h l =
     let b = beside l.to l.holds in
     record {
@@ -124,7 +124,7 @@ moved start before old new seat to stopped notes P m opens beside h l =
       opens = opens;
     }
 
-if_none : {A : Type 0} (o : Option A) (P : Type 0) → (o ≡ None → P) → IfNone o P
+pub if_none : {A : Type 0} (o : Option A) (P : Type 0) → (o ≡ None → P) → IfNone o P
 if_none None P h = h refl
 if_none (Some x) P h = tt
 
@@ -372,7 +372,7 @@ run_stands n seat r to old new is_open opens g h =
 
 -- ---- what is left of a session that stopped
 
-trail : (start : EndState) (before : List Act) (old new : Seen) (seat : Seat) (to : Live) (stopped : Option StopCause) (notes : List Note) (P : EndState → Type 0) → Moves old new notes → ((e : EndState) → P e → HasNumbers to.state e) → (h : IsInStep start before old seat) → Leads seat.identity h.to (acts_of notes) P → Trails start before new (seated seat to stopped)
+pub trail : (start : EndState) (before : List Act) (old new : Seen) (seat : Seat) (to : Live) (stopped : Option StopCause) (notes : List Note) (P : EndState → Type 0) → Moves old new notes → ((e : EndState) → P e → HasNumbers to.state e) → (h : IsInStep start before old seat) → Leads seat.identity h.to (acts_of notes) P → Trails start before new (seated seat to stopped)
 trail start before old new seat to stopped notes P m numbers h l = record {
   acts = h.acts ++ acts_of notes;
   to = l.to;

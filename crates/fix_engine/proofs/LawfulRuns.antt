@@ -174,6 +174,7 @@ left_after id ending.StoreFault to e t h = cc
 
 lost_down : (s : State) {lost : Record} → IsLost s lost → IsLost (with_phase s Down) lost
 lost_down s (lawful.entry say) = lawful.entry say
+lost_down s (lawful.draft d h) = lawful.draft d h
 lost_down s lawful.number = lawful.number
 
 not_cut_after : (id : Identity) (end : Ending) (to : Live) (e : EndState) → is_cut_of end ≡ false → BehindEnd end to.state e → After id (run_end (Err end)) (down to) e

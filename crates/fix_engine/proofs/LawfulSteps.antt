@@ -3,6 +3,7 @@ use Rattle.std.proofs.Common.{◌≡◌, inl, inr, ℕ, ◌+◌, ◌<◌, ◌≤
 use Rattle.std.specs.Prelude.{⊤}
 use Rattle.fix_base.specs.Lists.{Among}
 use Rattle.fix_base.specs.declared.identity.Identity.{Identity}
+use Rattle.fix_base.specs.declared.entry.Entry.{Entry}
 use Rattle.fix_base.specs.declared.entry.Record.TheVariants.{Push}
 use Rattle.fix_base.specs.declared.act.Act.TheVariants as act
 use Rattle.fix_base.specs.Fields.{Field}
@@ -90,6 +91,34 @@ certain_due id b n s e f = f.on.settled.doubt
 pub certain_given : (id : Identity) (b : Ahead) (n : ℕ) (body : List ℕ) → HasNoDoubt (AppGiven id b n body)
 certain_given id b n body s e f = f.on.settled.doubt
 
+-- ---- an entry is kept
+
+module _ (id : Identity) where
+  -- it is lost
+  pub push_lost : (s : State) (entry : Entry) (e : EndState) → IsLost s (Push entry) → IsCertain s e → Leads id e (act.KeepLost (Push entry) ∷ []) (IsInDoubt s)
+  push_lost s entry e lost h =
+      let left : EndState = record e { doubt = Some (Push entry); connection = None } in
+      leads_lost id e left (Push entry) (IsInDoubt s) (record { certain = h.doubt; row = steps.lost_push entry }) refl refl
+      (record { numbers = record { expected = h.numbers.expected; stored = h.numbers.stored; out = h.numbers.out }; record_lost = Push entry; doubt = refl; is = lost; closed = refl })
+
+  -- it is kept, and then more is done
+  pub push_kept : (entry : Entry) (e : EndState) (notes : List Note) (P : EndState → Type 0) → e.doubt ≡ None → Leads id (pushed e entry) (acts_of notes) P → Leads id e (act.Kept (Push entry) ∷ acts_of notes) P
+  push_kept entry e notes P certain l = leads_step id e (pushed e entry) (act.Kept (Push entry)) (acts_of notes) P (record { certain = certain; row = steps.kept_push entry }) (λ held h. h) l
+
+  -- it is kept, these bytes are written, and then more is done
+  pub push_wrote : (s : State) (a : Ahead) (c : Connection) (entry : Entry) (e : EndState) (w : List ℕ) (notes : List Note) (P : EndState → Type 0) → IsOn id (live s a) c e → Wrote id c.opened (pushed e entry).end (c.written ++ w) → Leads id (connected (pushed e entry) (writing c w)) (acts_of notes) P → Leads id e (act.Kept (Push entry) ∷ act.Wrote w ∷ acts_of notes) P
+  push_wrote s a c entry e w notes P h wrote l =
+      push_kept entry e (Did (act.Wrote w) ∷ notes) P h.settled.doubt
+      (leads_step id (pushed e entry) (connected (pushed e entry) (writing c w)) (act.Wrote w) (acts_of notes) P (record { certain = h.settled.doubt; row = steps.wrote w c h.is_open wrote }) (λ held k. k) l)
+
+  -- it is kept, and memory is refused
+  pub push_alone : (s : State) (entry : Entry) (e : EndState) → IsCertain s e → Leads id e (act.Kept (Push entry) ∷ []) (IsCertain (with_last s (s.last + 1)))
+  push_alone s entry e h =
+      push_kept entry e [] (IsCertain (with_last s (s.last + 1))) h.doubt (leads_nowhere id (pushed e entry) (IsCertain (with_last s (s.last + 1))) (settled_pushed s e entry h))
+
+  pub settled_sent : (s : State) (c : Connection) (entry : Entry) (e : EndState) (w : List ℕ) → IsCertain s e → IsCertain (with_last s (s.last + 1)) (connected (pushed e entry) (writing c w))
+  settled_sent s c entry e w h = settled_connected (with_last s (s.last + 1)) (pushed e entry) (writing c w) (settled_pushed s e entry h)
+
 -- ---- the steps
 
 module _ (id : Identity) (frame : List ℕ) (b : Ahead) where
@@ -165,42 +194,14 @@ module _ (id : Identity) (frame : List ℕ) (b : Ahead) where
       subst (λ (gs : List Field). Leads id e (act.HandLost n false (body_of gs) ∷ []) (IsCertain s)) (sym same) l
   hand_leads n fs has s notes r s' (answer.hand_memory k marked) e f = leads_nowhere id e (IsCertain s) f.on.settled
 
-  -- a record is lost
-  pub push_lost : (s : State) (say : Say) (e : EndState) → IsCertain s e → Leads id e (act.KeepLost (Push (entry_of s say)) ∷ []) (IsInDoubt s)
-  push_lost s say e h =
-      let entry = entry_of s say in
-      let left : EndState = record e { doubt = Some (Push entry); connection = None } in
-      leads_lost id e left (Push entry) (IsInDoubt s) (record { certain = h.doubt; row = steps.lost_push entry }) refl refl
-      (record { numbers = record { expected = h.numbers.expected; stored = h.numbers.stored; out = h.numbers.out }; record_lost = Push entry; doubt = refl; is = lawful.entry say; closed = refl })
-
-  -- an entry is kept, and then more is done
-  push_kept : (s : State) (a : Ahead) (c : Connection) (say : Say) (e : EndState) (notes : List Note) (P : EndState → Type 0) → IsOn id (live s a) c e → Leads id (pushed e (entry_of s say)) (acts_of notes) P → Leads id e (act.Kept (Push (entry_of s say)) ∷ acts_of notes) P
-  push_kept s a c say e notes P h l = leads_step id e (pushed e (entry_of s say)) (act.Kept (Push (entry_of s say))) (acts_of notes) P (record { certain = h.settled.doubt; row = steps.kept_push (entry_of s say) }) (λ held h. h) l
-
-  -- bytes are written, and then more is done
-  then_wrote : (s : State) (a : Ahead) (c : Connection) (say : Say) (e : EndState) (w : List ℕ) (P : EndState → Type 0) → IsOn id (live s a) c e → Wrote id c.opened (pushed e (entry_of s say)).end (c.written ++ w) → Leads id (connected (pushed e (entry_of s say)) (writing c w)) [] P → Leads id (pushed e (entry_of s say)) (act.Wrote w ∷ []) P
-  then_wrote s a c say e w P h wrote l = leads_step id (pushed e (entry_of s say)) (connected (pushed e (entry_of s say)) (writing c w)) (act.Wrote w) [] P (record { certain = h.settled.doubt; row = steps.wrote w c h.is_open wrote }) (λ held k. k) l
-
-  -- an entry is kept, and these bytes are written
-  push_wrote : (s : State) (a : Ahead) (c : Connection) (say : Say) (e : EndState) (w : List ℕ) (P : EndState → Type 0) → IsOn id (live s a) c e → Wrote id c.opened (pushed e (entry_of s say)).end (c.written ++ w) → Leads id (connected (pushed e (entry_of s say)) (writing c w)) [] P → Leads id e (act.Kept (Push (entry_of s say)) ∷ act.Wrote w ∷ []) P
-  push_wrote s a c say e w P h wrote l = push_kept s a c say e (Did (act.Wrote w) ∷ []) P h (then_wrote s a c say e w P h wrote l)
-
-  -- an entry is kept, and memory is refused
-  push_alone : (s : State) (a : Ahead) (c : Connection) (say : Say) (e : EndState) → IsOn id (live s a) c e → Leads id e (act.Kept (Push (entry_of s say)) ∷ []) (IsCertain (with_last s (s.last + 1)))
-  push_alone s a c say e h =
-      push_kept s a c say e [] (IsCertain (with_last s (s.last + 1))) h (leads_nowhere id (pushed e (entry_of s say)) (IsCertain (with_last s (s.last + 1))) (settled_pushed s e (entry_of s say) h.settled))
-
-  settled_sent : (s : State) (a : Ahead) (c : Connection) (say : Say) (e : EndState) (w : List ℕ) → IsOn id (live s a) c e → IsCertain (with_last s (s.last + 1)) (connected (pushed e (entry_of s say)) (writing c w))
-  settled_sent s a c say e w h = settled_connected (with_last s (s.last + 1)) (pushed e (entry_of s say)) (writing c w) (settled_pushed s e (entry_of s say) h.settled)
-
   -- a message is answered by another
   pub answer_leads : (say : Say) (n : ℕ) → Triple id itself (AdminDue id b n) (λ s. Performed id frame s (do_step.Send say (Some n))) (AdminDue id b n)
   answer_leads say n s notes r s' (answer.spent w m h) e f = leads_nowhere id e (IsCertain s) f.on.settled
   answer_leads say n s notes r s' (answer.keep_memory w m h) e f = leads_nowhere id e (IsCertain s) f.on.settled
-  answer_leads say n s notes r s' (answer.keep_lost w m h) e f = push_lost s say e f.on.settled
+  answer_leads say n s notes r s' (answer.keep_lost w m h) e f = push_lost id s (entry_of s say) e (lawful.entry say) f.on.settled
   answer_leads say n s notes r s' (answer.sent w m text small said) e f =
       let c = f.connection in
-      push_wrote s b c say e text (AdminDue id b n (with_last s (s.last + 1))) f.on (wrote_all id s b c e say text small said f.on)
+      push_wrote id s b c (entry_of s say) e text [] (AdminDue id b n (with_last s (s.last + 1))) f.on (wrote_all id s b c e say text small said f.on)
       (leads_nowhere id (connected (pushed e (entry_of s say)) (writing c text)) (AdminDue id b n (with_last s (s.last + 1))) (record {
         connection = writing c text;
         on = on_sent id s b c e say text small said f.on;
@@ -214,23 +215,23 @@ module _ (id : Identity) (frame : List ℕ) (b : Ahead) where
       let at : n ≡ e.expected = f.due ∙ sym f.on.settled.numbers.expected in
       let end = with_expected (with_last s (s.last + 1)) (n + 1) in
       let read : WasRead (writing c (take many text)) (message.Admin n) = record { messages = f.read.messages; shows = f.read.shows; among = f.read.among } in
-      push_wrote s b c say e (take many text) (IsCertain end) f.on (wrote_some id s b c e say text many small said f.on)
+      push_wrote id s b c (entry_of s say) e (take many text) [] (IsCertain end) f.on (wrote_some id s b c e say text many small said f.on)
       (leads_move id to (passed to) [] (IsCertain end) (steps.past_admin (writing c (take many text)) (message.Admin n) refl read at) refl
-      (leads_nowhere id (passed to) (IsCertain end) (settled_passed (with_last s (s.last + 1)) to n f.due (settled_sent s b c say e (take many text) f.on))))
-  answer_leads say n s notes r s' (answer.write_memory w m small) e f = push_alone s b f.connection say e f.on
+      (leads_nowhere id (passed to) (IsCertain end) (settled_passed (with_last s (s.last + 1)) to n f.due (settled_sent id s c (entry_of s say) e (take many text) f.on.settled))))
+  answer_leads say n s notes r s' (answer.write_memory w m small) e f = push_alone id s (entry_of s say) e f.on.settled
 
   -- a message is sent
   pub send_leads : (say : Say) → Triple id itself (In id b) (λ s. Performed id frame s (do_step.Send say None)) (In id b)
   send_leads say s notes r s' (answer.spent w m h) e f = leads_nowhere id e (IsCertain s) f.on.settled
   send_leads say s notes r s' (answer.keep_memory w m h) e f = leads_nowhere id e (IsCertain s) f.on.settled
-  send_leads say s notes r s' (answer.keep_lost w m h) e f = push_lost s say e f.on.settled
+  send_leads say s notes r s' (answer.keep_lost w m h) e f = push_lost id s (entry_of s say) e (lawful.entry say) f.on.settled
   send_leads say s notes r s' (answer.sent w m text small said) e f =
       let c = f.connection in
-      push_wrote s b c say e text (In id b (with_last s (s.last + 1))) f.on (wrote_all id s b c e say text small said f.on)
+      push_wrote id s b c (entry_of s say) e text [] (In id b (with_last s (s.last + 1))) f.on (wrote_all id s b c e say text small said f.on)
       (leads_nowhere id (connected (pushed e (entry_of s say)) (writing c text)) (In id b (with_last s (s.last + 1))) (record { connection = writing c text; on = on_sent id s b c e say text small said f.on; counted = f.counted }))
   send_leads say s notes r s' (answer.write_lost w m text many small said) e f =
       let c = f.connection in
       let to = connected (pushed e (entry_of s say)) (writing c (take many text)) in
-      push_wrote s b c say e (take many text) (IsCertain (with_last s (s.last + 1))) f.on (wrote_some id s b c e say text many small said f.on)
-      (leads_nowhere id to (IsCertain (with_last s (s.last + 1))) (settled_sent s b c say e (take many text) f.on))
-  send_leads say s notes r s' (answer.write_memory w m small) e f = push_alone s b f.connection say e f.on
+      push_wrote id s b c (entry_of s say) e (take many text) [] (IsCertain (with_last s (s.last + 1))) f.on (wrote_some id s b c e say text many small said f.on)
+      (leads_nowhere id to (IsCertain (with_last s (s.last + 1))) (settled_sent id s c (entry_of s say) e (take many text) f.on.settled))
+  send_leads say s notes r s' (answer.write_memory w m small) e f = push_alone id s (entry_of s say) e f.on.settled

@@ -28,6 +28,9 @@ pub mod Shown
 pub mod Recounting
 pub mod PeerEnds
 pub mod RestartLemmas
+pub mod SendLemmas
+pub mod DraftFrames
+pub mod DraftSteps
 pub mod StoreLemmas
 pub mod PlainLemmas
 pub mod KindLemmas

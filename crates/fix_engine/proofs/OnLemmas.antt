@@ -65,36 +65,59 @@ whole_pushed : (id : Identity) (l : Live) (c : Connection) (e : EndState) (entry
 whole_pushed id l c e entry h = whole_grown id c.opened e.end (pushed e entry).end h.last c.written (prefix_append e.end.out (entry ∷ [])) h.whole
 
 -- the original of the new entry may follow
-original_follows : (id : Identity) (s : State) (a : Ahead) (c : Connection) (e : EndState) (say : Say) (text : List ℕ) → s.last < 999999999 → IsSaid id (s.last + 1) s.reading say text → IsOn id (live s a) c e → WroteWhole id c.opened (pushed e (entry_of s say)).end (s.last + 1) (c.written ++ text)
-original_follows id s a c e say text small said h =
+original_follows : (id : Identity) (s : State) (a : Ahead) (c : Connection) (e : EndState) (entry : Entry) (text : List ℕ) → s.last < 999999999 → IsOriginal id (s.last + 1) entry text → IsOn id (live s a) c e → WroteWhole id c.opened (pushed e entry).end (s.last + 1) (c.written ++ text)
+original_follows id s a c e entry text small original h =
     let out = h.settled.numbers.out in
-    let entry : IsEntry (e.end.out ++ entry_of s say ∷ []) (s.last + 1) (entry_of s say) = record { before = e.end.out; after = []; is = refl; place = omega (arith, out) } in
-    whole_more id c.opened (pushed e (entry_of s say)).end h.last (s.last + 1) c.written text
-    (wrote.original (s.last + 1) (entry_of s say) (omega arith) (omega (arith, out, h.kept)) entry (said_original id (s.last + 1) s say text said) wrote.done)
-    (whole_pushed id (live s a) c e (entry_of s say) h)
+    let is : IsEntry (e.end.out ++ entry ∷ []) (s.last + 1) entry = record { before = e.end.out; after = []; is = refl; place = omega (arith, out) } in
+    whole_more id c.opened (pushed e entry).end h.last (s.last + 1) c.written text
+    (wrote.original (s.last + 1) entry (omega arith) (omega (arith, out, h.kept)) is original wrote.done)
+    (whole_pushed id (live s a) c e entry h)
 
 -- all of it is written
-pub wrote_all : (id : Identity) (s : State) (a : Ahead) (c : Connection) (e : EndState) (say : Say) (text : List ℕ) → s.last < 999999999 → IsSaid id (s.last + 1) s.reading say text → IsOn id (live s a) c e → Wrote id c.opened (pushed e (entry_of s say)).end (c.written ++ text)
-wrote_all id s a c e say text small said h = whole_wrote id c.opened (pushed e (entry_of s say)).end (s.last + 1) (c.written ++ text) (original_follows id s a c e say text small said h)
+pub original_all : (id : Identity) (s : State) (a : Ahead) (c : Connection) (e : EndState) (entry : Entry) (text : List ℕ) → s.last < 999999999 → IsOriginal id (s.last + 1) entry text → IsOn id (live s a) c e → Wrote id c.opened (pushed e entry).end (c.written ++ text)
+original_all id s a c e entry text small original h = whole_wrote id c.opened (pushed e entry).end (s.last + 1) (c.written ++ text) (original_follows id s a c e entry text small original h)
 
 -- some of it is written
-pub wrote_some : (id : Identity) (s : State) (a : Ahead) (c : Connection) (e : EndState) (say : Say) (text : List ℕ) (many : ℕ) → s.last < 999999999 → IsSaid id (s.last + 1) s.reading say text → IsOn id (live s a) c e → Wrote id c.opened (pushed e (entry_of s say)).end (c.written ++ take many text)
-wrote_some id s a c e say text many small said h =
+pub original_some : (id : Identity) (s : State) (a : Ahead) (c : Connection) (e : EndState) (entry : Entry) (text : List ℕ) (many : ℕ) → s.last < 999999999 → IsOriginal id (s.last + 1) entry text → IsOn id (live s a) c e → Wrote id c.opened (pushed e entry).end (c.written ++ take many text)
+original_some id s a c e entry text many small original h =
     let front : IsPrefixOf (take many text) text = record { rest = drop many text; is = sym (take-append-drop many text) } in
-    front_wrote id c.opened (pushed e (entry_of s say)).end (c.written ++ text) (c.written ++ take many text) (prefix_under c.written front) (wrote_all id s a c e say text small said h)
+    front_wrote id c.opened (pushed e entry).end (c.written ++ text) (c.written ++ take many text) (prefix_under c.written front) (original_all id s a c e entry text small original h)
 
 -- and the end is in step again
-pub on_sent : (id : Identity) (s : State) (a : Ahead) (c : Connection) (e : EndState) (say : Say) (text : List ℕ) → s.last < 999999999 → IsSaid id (s.last + 1) s.reading say text → IsOn id (live s a) c e → IsOn id (live (with_last s (s.last + 1)) a) (writing c text) (connected (pushed e (entry_of s say)) (writing c text))
-on_sent id s a c e say text small said h = record {
+pub on_original : (id : Identity) (s : State) (a : Ahead) (c : Connection) (e : EndState) (entry : Entry) (text : List ℕ) → s.last < 999999999 → IsOriginal id (s.last + 1) entry text → IsOn id (live s a) c e → IsOn id (live (with_last s (s.last + 1)) a) (writing c text) (connected (pushed e entry) (writing c text))
+on_original id s a c e entry text small original h = record {
   phase = h.phase;
-  settled = settled_connected (with_last s (s.last + 1)) (pushed e (entry_of s say)) (writing c text) (settled_pushed s e (entry_of s say) h.settled);
+  settled = settled_connected (with_last s (s.last + 1)) (pushed e entry) (writing c text) (settled_pushed s e entry h.settled);
   is_open = refl;
   read = h.read;
   last = s.last + 1;
-  kept = omega (arith, h.settled.numbers.out, length-append e.end.out (entry_of s say ∷ []));
-  whole = original_follows id s a c e say text small said h;
+  kept = omega (arith, h.settled.numbers.out, length-append e.end.out (entry ∷ []));
+  whole = original_follows id s a c e entry text small original h;
   base = h.base;
 }
+
+-- an entry is kept, and nothing is written
+pub on_pushed : (id : Identity) (s : State) (a : Ahead) (c : Connection) (e : EndState) (entry : Entry) → IsOn id (live s a) c e → IsOn id (live (with_last s (s.last + 1)) a) c (pushed e entry)
+on_pushed id s a c e entry h = record {
+  phase = h.phase;
+  settled = settled_pushed s e entry h.settled;
+  is_open = h.is_open;
+  read = h.read;
+  last = h.last;
+  kept = omega (arith, h.kept, length-append e.end.out (entry ∷ []));
+  whole = whole_pushed id (live s a) c e entry h;
+  base = h.base;
+}
+
+-- what is said is the original of its entry
+pub wrote_all : (id : Identity) (s : State) (a : Ahead) (c : Connection) (e : EndState) (say : Say) (text : List ℕ) → s.last < 999999999 → IsSaid id (s.last + 1) s.reading say text → IsOn id (live s a) c e → Wrote id c.opened (pushed e (entry_of s say)).end (c.written ++ text)
+wrote_all id s a c e say text small said h = original_all id s a c e (entry_of s say) text small (said_original id (s.last + 1) s say text said) h
+
+pub wrote_some : (id : Identity) (s : State) (a : Ahead) (c : Connection) (e : EndState) (say : Say) (text : List ℕ) (many : ℕ) → s.last < 999999999 → IsSaid id (s.last + 1) s.reading say text → IsOn id (live s a) c e → Wrote id c.opened (pushed e (entry_of s say)).end (c.written ++ take many text)
+wrote_some id s a c e say text many small said h = original_some id s a c e (entry_of s say) text many small (said_original id (s.last + 1) s say text said) h
+
+pub on_sent : (id : Identity) (s : State) (a : Ahead) (c : Connection) (e : EndState) (say : Say) (text : List ℕ) → s.last < 999999999 → IsSaid id (s.last + 1) s.reading say text → IsOn id (live s a) c e → IsOn id (live (with_last s (s.last + 1)) a) (writing c text) (connected (pushed e (entry_of s say)) (writing c text))
+on_sent id s a c e say text small said h = on_original id s a c e (entry_of s say) text small (said_original id (s.last + 1) s say text said) h
 
 -- ---- the state alone changes, or the expected number with it
 

@@ -32,7 +32,7 @@ message_is id n at say =
     append_assoc (field_text (field 35 (kind_of say ∷ []))) (fields_text (header_fields id n at)) (fields_text (fields_of say))
     ∙ ap (λ (t : List ℕ). field_text (field 35 (kind_of say ∷ [])) ++ t) (sym (fields_text-append (header_fields id n at) (fields_of say)))
 
-decimal_clear : (n : ℕ) → n < 2 ^ 64 → HasNoSoh (decimal n)
+pub decimal_clear : (n : ℕ) → n < 2 ^ 64 → HasNoSoh (decimal n)
 decimal_clear n small = digits_no_soh (decimal n) (digits_decimal numerals n small)
 
 one_clear : (b : ℕ) → b ≢ 1 → HasNoSoh (b ∷ [])
@@ -70,14 +70,14 @@ fraction_long : (digits : List ℕ) → length (fraction_text digits) ≤ suc (l
 fraction_long [] = lit≤ tt
 fraction_long (d ∷ ds) = omega arith
 
-time_short : (time : ℕ) (at : List ℕ) → IsTimeTextOf 3 time at → length at ≤ 64
+pub time_short : (time : ℕ) (at : List ℕ) → IsTimeTextOf 3 time at → length at ≤ 64
 time_short time at t =
     let m = t.moment in
     let day : List ℕ = four_digits m.year ++ two_digits m.month ++ two_digits m.day ++ 45 ∷ [] ++ two_digits m.hour ++ 58 ∷ [] ++ two_digits m.minute ++ 58 ∷ [] ++ two_digits m.second in
     let whole : length (moment_text m) ≡ length day + length (fraction_text m.fraction) = length-append day (fraction_text m.fraction) in
     omega (arith, ap length t.spelled, whole, fraction_long m.fraction, t.many)
 
-decimal_short : (n : ℕ) → n < 2 ^ 32 → length (decimal n) ≤ 64
+pub decimal_short : (n : ℕ) → n < 2 ^ 32 → length (decimal n) ≤ 64
 decimal_short n small = let l = length-decimal-le 10 n (lit< tt) (omega arith) (omega arith) in omega arith
 
 rest_short : (say : Say) → IsSayable say → AllByRecursion IsShortField (fields_of say)

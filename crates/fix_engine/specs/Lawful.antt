@@ -12,9 +12,11 @@ use Rattle.fix_base.specs.declared.act.Act.{Act}
 use Rattle.fix_base.specs.Wrote.{WroteWhole}
 use Rattle.fix_base.specs.EndStep.{Connection, EndState, EndRun}
 use Rattle.fix_base.specs.Seen.{Stores, Note, acts_of}
+use Rattle.fix_fields.specs.Drafted.{DraftText, IsDraft}
 use Rattle.fix_engine.specs.State.{State, Down, Say}
 use Rattle.fix_engine.specs.Answer.{entry_of}
 use Rattle.fix_engine.specs.Turn.{Live}
+use Rattle.fix_engine.specs.Drafted.{entry_of_draft}
 use Rattle.fix_engine.specs.declared.stop.RunEnd.{RunEnd}
 use Rattle.fix_engine.specs.declared.stop.RunEnd.TheVariants as run
 use Rattle.fix_engine.specs.declared.stop.BeginFault.{BeginFault}
@@ -63,9 +65,10 @@ pub record HasLeft (s : State) (e : EndState) : Type 0 where
   pub settled : IsCertain s e
   pub closed : e.connection ≡ None
 
--- the record that a session lost: an entry, or the expected number
+-- the record that a session lost: an entry of what it says or of a draft, or the expected number
 pub data IsLost (s : State) : Record → Type 0 where
   entry : (say : Say) → IsLost s (Push (entry_of s say))
+  draft : (d : DraftText) → IsDraft d → IsLost s (Push (entry_of_draft s d))
   number : IsLost s (Expect s.expected)
 
 -- the end is that of a session that lost a record: this one is in doubt, and else the numbers are the session's

@@ -12,9 +12,11 @@ pub mod Plain
 pub mod Plug
 pub mod Held
 pub mod Rim
+pub mod Drafted
 pub mod Lawful
 pub mod Turns
 pub mod Stated
 pub mod InStep
+pub mod LawfulSend
 pub mod Restart
 pub mod LookBack

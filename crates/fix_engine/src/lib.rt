@@ -2,6 +2,7 @@
 //! steps are done in order.
 #![tactic(auto)]
 
+mod drafting;
 mod handling;
 mod held;
 mod inbound;
@@ -33,4 +34,4 @@ pub use plain::Plain;
 pub use rim::Rim;
 pub use session::Session;
 pub use state::{Decision, Ending, Phase, Refusal, Say, State, Step, Why};
-pub use stop::{BeginFault, RunEnd, StopCause};
+pub use stop::{BeginFault, RunEnd, SendFault, StopCause};

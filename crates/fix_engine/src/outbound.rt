@@ -14,7 +14,7 @@ use fix_frame::{SealFault, seal};
 use fix_parts::WriteTurn;
 
 /// The greatest outbound MsgSeqNum (34).
-const LAST_NUMBER: u32 = 999_999_999;
+pub const LAST_NUMBER: u32 = 999_999_999;
 
 // MsgType (35) of what is said, as the kind of its entry.
 fn kind(say: Say) -> u8

@@ -11,14 +11,19 @@ ghost use Rattle.fix_engine.specs.Outside.{LoadAnswers};
 ghost use Rattle.fix_engine.specs.Lawful.{IsLawful, IsLawfulBegin};
 ghost use Rattle.fix_engine.specs.InStep.{IsInStep, StandsInStep, Trails, IsConnected, HasServed};
 ghost use Rattle.fix_engine.specs.Run.{state_of, stays_stopped, LoadHasCause, OpensTo, ReopensTo, run_end, RanTo, stop_cause, RunHasCause, IsDownUnlessSpent, Opens, BeginsTo};
+ghost use Rattle.fix_engine.specs.Drafted.{SendsTo, send_stop, SendHasCause};
+ghost use Rattle.fix_engine.specs.LawfulSend.{IsLawfulSend};
 ghost use Rattle.fix_engine.specs.Turns.{HasTurns, IsSettled, ShowsPeerEnd};
 ghost use Rattle.fix_engine.specs.Stated.{IsAsStated};
 ghost use Rattle.fix_engine.specs.LookBack.{StandsAt, LooksBack};
 
+use crate::drafting::send_and_cut;
+use crate::outbound::LAST_NUMBER;
 use crate::party::Party;
 use crate::turn::{ROOM, run_and_cut, take_reading};
-use crate::{BeginFault, Ending, LoadFault, Outside, Phase, RunEnd, State, StopCause};
-use fix_base::{Act, Identity, Stored};
+use crate::{BeginFault, Ending, LoadFault, Outside, Phase, RunEnd, SendFault, State, StopCause};
+use fix_base::{Act, Identity, SeqNum, Stored};
+use fix_fields::Draft;
 use fix_frame::Reader;
 use std::alloc::Global;
 use std::marker::Model;
@@ -92,6 +97,20 @@ fn stop_of(answer: RunEnd) -> Option<StopCause>
         RunEnd::AppFault => Some(StopCause::AppFault),
         RunEnd::OutOfMemory => Some(StopCause::OutOfMemory),
         RunEnd::Stopped(cause) => Some(cause),
+    }
+}
+
+// Why the session is stopped after this answer to `send`.
+fn stop_of_sent(sent: &Result<SeqNum, SendFault>) -> Option<StopCause>
+    ensures { result ≡ send_stop sent.now }
+{
+    match sent {
+        Ok(_) => None,
+        Err(SendFault::NumbersSpent) => None,
+        Err(SendFault::LinkFault { .. }) => None,
+        Err(SendFault::Stopped(cause)) => Some(*cause),
+        Err(SendFault::OutOfMemory) => Some(StopCause::OutOfMemory),
+        Err(SendFault::StoreFault) => Some(StopCause::StoreFault),
     }
 }
 
@@ -291,6 +310,47 @@ impl Session {
         let answer = answer_of(&ran);
         self.stopped = stop_of(answer);
         answer
+    }
+
+    /// Sends a draft of the application under the next MsgSeqNum (34), which it answers. It reads the
+    /// clock once, and keeps the message in the message store; in phase Up it then writes it. In
+    /// another phase nothing is written.
+    ///
+    /// Where every number is used, `NumbersSpent`, nothing is called and all stays. `LinkFault` is
+    /// answered where the message is kept and the connection failed: the session is Down then, and
+    /// not stopped. It is stopped where the store failed, and where memory was refused. A stopped
+    /// session answers `Stopped` and calls nothing. The outside must be in step with the session.
+    pub fn send<O: Outside>(&mut self, o: &mut O, draft: &Draft) -> Result<SeqNum, SendFault>
+        requires in_step { IfNone self.old.stopped (StandsInStep (O.seen o.old) self.old) }
+        // On a stopped session.
+        ensures stopped { IfSome self.old.stopped (λ cause. result ≡ Err (SendFault.Stopped cause)) }
+        ensures calls_none { IfSome self.old.stopped (λ cause. o.new ≡ o.old) }
+        ensures stays { IfSome self.old.stopped (λ cause. self.new ≡ self.old) }
+
+        // On a session that goes on: what it did, what it answers, and what it is then.
+        ensures sends { IfNone self.old.stopped (Goes (O.seen o.old) (O.seen o.new) (SendsTo self.old.identity draft.now self.old.live result self.new.live)) }
+        ensures identity { self.new.identity ≡ self.old.identity }
+        ensures stops { IfNone self.old.stopped (self.new.stopped ≡ send_stop result) }
+        ensures cause { IfNone self.old.stopped (SendHasCause result (O.seen o.old).faults (O.seen o.new).faults) }
+        ensures spent { IfNone self.old.stopped (999999999 ≤ self.old.live.state.last → o.new ≡ o.old) }
+
+        // It is a run of a lawful end, and a session that isn't stopped stays in step with what is outside
+        // of it, and connected where it answers a number.
+        ensures lawful { IfNone self.old.stopped (Goes (O.seen o.old) (O.seen o.new) (IsLawfulSend self.old.identity self.old.live result self.new.live)) }
+        ensures in_step { IfNone self.new.stopped ((start : EndState) (before : List Act) → IsInStep start before (O.seen o.old) self.old → IsInStep start before (O.seen o.new) self.new) }
+        ensures trails { IfNone self.old.stopped ((start : EndState) (before : List Act) → IsInStep start before (O.seen o.old) self.old → Trails start before (O.seen o.new) self.new) }
+        ensures stands { IfNone self.new.stopped (StandsInStep (O.seen o.new) self.new) }
+        ensures connected { OnOk result ((start : EndState) (before : List Act) → IsConnected start before (O.seen o.old) self.old → IsConnected start before (O.seen o.new) self.new) }
+    {
+        if let Some(cause) = self.stopped {
+            return Err(SendFault::Stopped(cause));
+        }
+        if self.state.last >= LAST_NUMBER {
+            return Err(SendFault::NumbersSpent);
+        }
+        let sent = send_and_cut(o, &self.party, &mut self.state, draft);
+        self.stopped = stop_of_sent(&sent);
+        sent
     }
 
     pub fn phase(&self) -> Phase

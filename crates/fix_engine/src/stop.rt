@@ -1,4 +1,5 @@
 use crate::Why;
+use fix_base::SeqNum;
 
 /// Why a session does nothing any more.
 #[derive(Clone, Copy, Debug, PartialEq, Eq)]
@@ -38,4 +39,19 @@ pub enum BeginFault {
     Stopped(StopCause),
     /// Memory was refused. The session is stopped.
     OutOfMemory,
+}
+
+/// Why a draft was not sent.
+#[derive(Clone, Copy, Debug, PartialEq, Eq)]
+pub enum SendFault {
+    /// The session was stopped before.
+    Stopped(StopCause),
+    /// Every outbound MsgSeqNum is used. Nothing was kept.
+    NumbersSpent,
+    /// Memory was refused. The session is stopped.
+    OutOfMemory,
+    /// The message store failed. The session is stopped.
+    StoreFault,
+    /// The connection failed: the draft is kept under this number, and goes out as a repeat.
+    LinkFault { number: SeqNum },
 }
