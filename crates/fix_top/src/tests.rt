@@ -1,12 +1,14 @@
-ghost use Rattle.std.specs.Prelude.{◌≡◌, IfOk};
+ghost use Rattle.std.specs.Prelude.{◌≡◌, IfOk, if◌then◌else◌, Some, None, false};
 ghost use Rattle.fix_base.specs.Says.{joined};
 ghost use Rattle.fix_top.specs.Sample.{SAMPLE};
 
 use super::*;
-use fix_base::{Bytes, OutOfMemory, Status, Stored};
+use crate::words::{identity_from, read_words};
+use fix_base::{Act, By, Bytes, Entry, OutOfMemory, Record, SeqNum, Status, Stored, Tag};
 use fix_disk::{Disk, MemoryDisk, MemorySink};
-use fix_engine::{Outside, Rim};
-use fix_parts::{KeptTape, LineApp, MemoryClock, MemoryLink};
+use fix_engine::{FetchFault, KeepFault, Kind, LoadFault, Outside, Rim, SendFault, Session};
+use fix_fields::{Draft, DraftFields};
+use fix_parts::{Handed, KeptTape, LineApp, MemoryClock, MemoryLink, ReadTurn, Said, WriteTurn};
 use std::alloc::Global;
 use std::process::Abort;
 use std::test::Fail;
@@ -344,57 +346,226 @@ fn memory_suffices_for_the_sample(rt: HostRuntime) -> Result<(), Fail> {
     Ok(())
 }
 
-// Serves two connections over one store, of whose disk this call fails.
-fn serve_twice(
-    alloc: Global,
-    first: &[&[u8]],
-    second: &[&[u8]],
-    disk: u64,
-) -> Result<(Status, Stored, Status, Tested), Fail> {
-    let mut pieces = at_once(alloc, first)?;
-    pieces.push(Bytes::from_vec(bytes_of(alloc, second)?))?;
-    let fails = Fails { disk, ..NONE };
-    let (status, mut o) = served(alloc, WORDS.as_slice(), pieces, fails, u64::MAX)?;
-    let kept = stored(&mut o)?;
-    let again = serve_stdio(alloc, WORDS.as_slice(), &mut o, u64::MAX);
-    Ok((status, kept, again, o))
-}
-
 #[test]
 fn a_process_starts_again_behind_a_store_fault(rt: HostRuntime) -> Result<(), Fail> {
     let alloc = rt.alloc();
-    let (status, kept, again, o) = serve_twice(alloc, &[LOGON], &[LOGON, ORDER, LOGOUT], 9)?;
+    // The first disk call of the record of the Logon's answer fails.
+    let fails = Fails { disk: 10, ..NONE };
+    let pieces = at_once(alloc, &[LOGON])?;
+    let (status, o) = served(alloc, WORDS.as_slice(), pieces, fails, u64::MAX)?;
     assert_eq!(rt; status, Status(5));
-    let nothing = Stored {
-        last: 0,
-        expected: 1,
-        since: None,
-    };
-    assert_eq!(rt; kept, nothing);
-    assert_eq!(rt; again, Status(0));
+    assert!(rt; written(&o).is_empty());
+    let (disk, ..) = o.into_parts();
+    let pieces = at_once(alloc, &[LOGON, ORDER, LOGOUT])?;
+    let (status, o) = served_on(alloc, disk, WORDS.as_slice(), pieces, NONE, u64::MAX)?;
+    assert_eq!(rt; status, Status(0));
     let expected = bytes_of(alloc, &[LOGON_ANSWER, LOGOUT_ANSWER])?;
     assert!(rt; written(&o) == expected.as_slice());
     assert!(rt; o.app().sink().written() == LINE);
     Ok(())
 }
 
-#[test]
-fn a_stop_behind_a_hand_over_leaves_the_number(rt: HostRuntime) -> Result<(), Fail> {
-    let alloc = rt.alloc();
-    // The entry of the Logon's answer is kept, and the number behind the order isn't.
-    let (status, kept, again, mut o) = serve_twice(alloc, &[LOGON, ORDER], &[LOGON], 13)?;
-    assert_eq!(rt; status, Status(5));
-    assert!(rt; o.app().sink().written() == LINE);
-    let want = Stored {
-        last: 1,
-        expected: 1,
-        since: None,
+// An order of the application, as it goes out under number 2.
+const ORDER_OUT: &[u8] =
+    b"8=FIX.4.2|9=56|35=D|34=2|49=SELL|52=20240102-10:00:00.000|56=BUY|11=A1|10=248|";
+
+// The order, whose ClOrdID (11) is A1.
+fn order(alloc: Global) -> Option<Draft> {
+    let mut fields = DraftFields::new(alloc);
+    fields.push(Tag::new(11)?, b"A1").ok()?;
+    Draft::new(alloc, b"D", &fields).ok()
+}
+
+// An outside whose connection gives these pieces.
+fn outside(alloc: Global, pieces: Vec<Bytes>, fails: Fails) -> Result<Tested, Fail> {
+    let mut readings = Vec::new(alloc);
+    readings.push(1_704_189_600_000_000)?;
+    let disk = MemoryDisk::new(alloc, 1000, 0, vec![in alloc; fails.disk]?, None)?;
+    let link = MemoryLink::new(alloc, pieces, 1000, vec![in alloc; fails.link]?)?;
+    let sink = MemorySink::new(alloc, 1000, Vec::new(alloc))?;
+    Ok(Rim::new(
+        alloc,
+        disk,
+        Some(link),
+        LineApp::new(alloc, sink),
+        MemoryClock::new(readings),
+        KeptTape::new(alloc),
+    ))
+}
+
+// Opens a session, and sends the order: on a connection behind a turn, or on none.
+fn send_on<O: Outside>(alloc: Global, o: &mut O) -> Result<Result<SeqNum, SendFault>, Fail> {
+    let Some(named) = read_words(WORDS.as_slice()) else {
+        return Err(OutOfMemory.into());
     };
-    assert_eq!(rt; kept, want);
-    // The next process answers a Logon of number 1 under number 2.
-    assert_eq!(rt; again, Status(1));
-    let kept = stored(&mut o)?;
-    assert_eq!(rt; kept.last, 2);
-    assert_eq!(rt; kept.expected, 2);
+    let identity = identity_from(alloc, &named)?;
+    let Some(draft) = order(alloc) else {
+        return Err(OutOfMemory.into());
+    };
+    let mut session = match Session::open(alloc, o, identity) {
+        Ok(session) => session,
+        Err(_) => return Err(OutOfMemory.into()),
+    };
+    match session.begin(o) {
+        Ok(()) => {}
+        Err(_) => return Err(OutOfMemory.into()),
+    }
+    let _turns = session.run_turns(o, 1);
+    Ok(session.send(o, &draft))
+}
+
+fn send_down<O: Outside>(alloc: Global, o: &mut O) -> Result<Result<SeqNum, SendFault>, Fail> {
+    let Some(named) = read_words(WORDS.as_slice()) else {
+        return Err(OutOfMemory.into());
+    };
+    let identity = identity_from(alloc, &named)?;
+    let Some(draft) = order(alloc) else {
+        return Err(OutOfMemory.into());
+    };
+    let mut session = match Session::open(alloc, o, identity) {
+        Ok(session) => session,
+        Err(_) => return Err(OutOfMemory.into()),
+    };
+    Ok(session.send(o, &draft))
+}
+
+// Whether the act keeps the order, as sent first at 2024-01-02 10:00:00.
+fn keeps_order(alloc: Global, act: &Act) -> Result<bool, Fail> {
+    let kept = Act::Kept(Record::Push(Entry::App {
+        time: 1_704_189_600_000_000,
+        by: By::Caller,
+        body: Bytes::from_vec(bytes_of(alloc, &[b"35=D|11=A1|"])?),
+    }));
+    Ok(*act == kept)
+}
+
+#[test]
+fn an_order_is_sent_on_the_connection(rt: HostRuntime) -> Result<(), Fail> {
+    let alloc = rt.alloc();
+    let mut o = outside(alloc, at_once(alloc, &[LOGON])?, NONE)?;
+    let sent = send_on(alloc, &mut o)?;
+    assert_eq!(rt; sent.map(|number| number.get()), Ok(2));
+    let expected = bytes_of(alloc, &[LOGON_ANSWER, ORDER_OUT])?;
+    assert!(rt; written(&o) == expected.as_slice());
+    match o.tape().acts() {
+        [.., kept, _] => assert!(rt; keeps_order(alloc, kept)?),
+        _ => assert!(rt; false),
+    }
+    assert_eq!(rt; stored(&mut o)?.last, 2);
+    Ok(())
+}
+
+#[test]
+fn an_order_is_kept_without_a_connection(rt: HostRuntime) -> Result<(), Fail> {
+    let alloc = rt.alloc();
+    let mut o = outside(alloc, at_once(alloc, &[])?, NONE)?;
+    let sent = send_down(alloc, &mut o)?;
+    assert_eq!(rt; sent.map(|number| number.get()), Ok(1));
+    assert!(rt; written(&o).is_empty());
+    match o.tape().acts() {
+        [.., kept] => assert!(rt; keeps_order(alloc, kept)?),
+        _ => assert!(rt; false),
+    }
+    assert_eq!(rt; stored(&mut o)?.last, 1);
+    Ok(())
+}
+
+#[test]
+fn an_order_that_the_connection_loses_is_kept(rt: HostRuntime) -> Result<(), Fail> {
+    let alloc = rt.alloc();
+    // The first write is the answer to the Logon.
+    let fails = Fails { link: 3, ..NONE };
+    let mut o = outside(alloc, at_once(alloc, &[LOGON])?, fails)?;
+    let sent = send_on(alloc, &mut o)?;
+    let Some(number) = SeqNum::new(2) else {
+        return Err(OutOfMemory.into());
+    };
+    let want = Err(SendFault::LinkFault { number });
+    assert_eq!(rt; sent.map(|number| number.get()), want);
+    assert!(rt; matches!(o.tape().acts().last(), Some(Act::Cut)));
+    assert_eq!(rt; stored(&mut o)?.last, 2);
+    Ok(())
+}
+
+// An outside whose store has used every number, and tells no end. It counts its calls; memory is
+// refused to all but the opening.
+#[derive(Drop)]
+struct Spent {
+    loaded: bool,
+    calls: u64,
+}
+
+impl Spent {
+    fn count(&mut self)
+        ensures { self.new.loaded ≡ self.old.loaded }
+    {
+        self.calls = self.calls.saturating_add(1);
+    }
+}
+
+impl Outside for Spent {
+    ghost seen = { λ s. record { tape = None; Holds = λ e. ⊥; open_at = if s.loaded then Some 999999999 else None; Tells = ⊥; Breaks = λ place. ⊥; faults = record { store = 0; link = 0; app = 0 }; parts = record { to_come = None; readings = None; written = None; link_room = None; lines = None; line_room = None; asked = None; to_ask = None; sure = false; store_room = None } } };
+
+    fn now(&mut self) -> Result<u64, OutOfMemory> {
+        self.count();
+        Err(OutOfMemory)
+    }
+
+    fn load(&mut self) -> Result<Stored, LoadFault> {
+        self.count();
+        self.loaded = true;
+        Ok(Stored {
+            last: 999_999_999,
+            expected: 1,
+            since: None,
+        })
+    }
+
+    fn mark(&mut self, _cut: bool) -> Result<(), OutOfMemory> {
+        self.count();
+        Err(OutOfMemory)
+    }
+
+    fn read(&mut self, _room: &mut [u8]) -> ReadTurn {
+        self.count();
+        ReadTurn::OutOfMemory
+    }
+
+    fn write(&mut self, _bytes: &[u8]) -> WriteTurn {
+        self.count();
+        WriteTurn::OutOfMemory
+    }
+
+    fn keep(&mut self, _kept: &Record) -> Result<(), KeepFault> {
+        self.count();
+        Err(KeepFault::OutOfMemory)
+    }
+
+    fn fetch(&mut self, _n: SeqNum, _into: &mut Vec<u8>) -> Result<Kind, FetchFault> {
+        self.count();
+        Err(FetchFault::OutOfMemory)
+    }
+
+    fn hand(&mut self, _h: &Handed<'_>) -> Said {
+        self.count();
+        Said::OutOfMemory
+    }
+
+    fn ask(&mut self) -> Option<Draft> {
+        self.count();
+        None
+    }
+}
+
+#[test]
+fn spent_numbers_call_nothing(rt: HostRuntime) -> Result<(), Fail> {
+    let alloc = rt.alloc();
+    let mut o = Spent {
+        loaded: false,
+        calls: 0,
+    };
+    let sent = send_down(alloc, &mut o)?;
+    assert!(rt; matches!(sent, Err(SendFault::NumbersSpent)));
+    assert_eq!(rt; o.calls, 1);
     Ok(())
 }
