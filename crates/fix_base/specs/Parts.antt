@@ -15,7 +15,6 @@ pub record PartsSeen : Type 0 where
   pub line_room : Option ℕ  -- an application that tells it fails only at a line of more bytes than this
   pub asked : Option (List (List ℕ))  -- the bodies of the drafts that the application gave
   pub to_ask : Option (List (Option (List ℕ)))  -- what it answers yet where it is asked for a draft: a body, or none
-  pub sure : Bool  -- the store fails at no call
   pub store_room : Option ℕ  -- a store that tells it fails only at a record that takes more bytes than this
 
 -- a list with these behind it, where it is told
@@ -74,25 +73,25 @@ LosesLine line old new = (part : List ℕ) × IsPrefixOf part line × (new ≡ e
 
 -- the same parts but for what is named
 abbrev pub with_to_come : PartsSeen → Option (List (List ℕ)) → PartsSeen
-with_to_come p to_come = record { to_come = to_come; readings = p.readings; written = p.written; link_room = p.link_room; lines = p.lines; line_room = p.line_room; asked = p.asked; to_ask = p.to_ask; sure = p.sure; store_room = p.store_room }
+with_to_come p to_come = record { to_come = to_come; readings = p.readings; written = p.written; link_room = p.link_room; lines = p.lines; line_room = p.line_room; asked = p.asked; to_ask = p.to_ask; store_room = p.store_room }
 
 abbrev pub with_readings : PartsSeen → Option (List ℕ) → PartsSeen
-with_readings p readings = record { to_come = p.to_come; readings = readings; written = p.written; link_room = p.link_room; lines = p.lines; line_room = p.line_room; asked = p.asked; to_ask = p.to_ask; sure = p.sure; store_room = p.store_room }
+with_readings p readings = record { to_come = p.to_come; readings = readings; written = p.written; link_room = p.link_room; lines = p.lines; line_room = p.line_room; asked = p.asked; to_ask = p.to_ask; store_room = p.store_room }
 
 abbrev pub with_written : PartsSeen → List ℕ → PartsSeen
-with_written p bytes = record { to_come = p.to_come; readings = p.readings; written = extended p.written bytes; link_room = less (length bytes) p.link_room; lines = p.lines; line_room = p.line_room; asked = p.asked; to_ask = p.to_ask; sure = p.sure; store_room = p.store_room }
+with_written p bytes = record { to_come = p.to_come; readings = p.readings; written = extended p.written bytes; link_room = less (length bytes) p.link_room; lines = p.lines; line_room = p.line_room; asked = p.asked; to_ask = p.to_ask; store_room = p.store_room }
 
 abbrev pub with_line : PartsSeen → List ℕ → PartsSeen
-with_line p line = record { to_come = p.to_come; readings = p.readings; written = p.written; link_room = p.link_room; lines = extended p.lines line; line_room = less (length line) p.line_room; asked = p.asked; to_ask = p.to_ask; sure = p.sure; store_room = p.store_room }
+with_line p line = record { to_come = p.to_come; readings = p.readings; written = p.written; link_room = p.link_room; lines = extended p.lines line; line_room = less (length line) p.line_room; asked = p.asked; to_ask = p.to_ask; store_room = p.store_room }
 
 abbrev pub with_lines : PartsSeen → Option (List ℕ) → PartsSeen
-with_lines p lines = record { to_come = p.to_come; readings = p.readings; written = p.written; link_room = p.link_room; lines = lines; line_room = p.line_room; asked = p.asked; to_ask = p.to_ask; sure = p.sure; store_room = p.store_room }
+with_lines p lines = record { to_come = p.to_come; readings = p.readings; written = p.written; link_room = p.link_room; lines = lines; line_room = p.line_room; asked = p.asked; to_ask = p.to_ask; store_room = p.store_room }
 
 abbrev pub with_asked : PartsSeen → Option (List (List ℕ)) → Option (List (Option (List ℕ))) → PartsSeen
-with_asked p asked to_ask = record { to_come = p.to_come; readings = p.readings; written = p.written; link_room = p.link_room; lines = p.lines; line_room = p.line_room; asked = asked; to_ask = to_ask; sure = p.sure; store_room = p.store_room }
+with_asked p asked to_ask = record { to_come = p.to_come; readings = p.readings; written = p.written; link_room = p.link_room; lines = p.lines; line_room = p.line_room; asked = asked; to_ask = to_ask; store_room = p.store_room }
 
 abbrev pub with_store_room : PartsSeen → Option ℕ → PartsSeen
-with_store_room p room = record { to_come = p.to_come; readings = p.readings; written = p.written; link_room = p.link_room; lines = p.lines; line_room = p.line_room; asked = p.asked; to_ask = p.to_ask; sure = p.sure; store_room = room }
+with_store_room p room = record { to_come = p.to_come; readings = p.readings; written = p.written; link_room = p.link_room; lines = p.lines; line_room = p.line_room; asked = p.asked; to_ask = p.to_ask; store_room = room }
 
 -- a draft that was given, if any, and its list
 abbrev pub given_draft : Option (List ℕ) → List (List ℕ)
@@ -129,7 +128,7 @@ ActMoves (Wrote b) old new = new ≡ with_written old b
 ActMoves (Handed number marked body) old new = new ≡ with_line old (line_text number marked body)
 ActMoves (HandLost number marked body) old new = HasNoRoom (length (line_text number marked body)) old.line_room × LosesLine (line_text number marked body) old.lines new.lines × (new ≡ with_lines old new.lines)
 ActMoves (Kept r) old new = TakesRoom r old.store_room new.store_room × (new ≡ with_store_room old new.store_room)
-ActMoves (KeepLost r) old new = (old.sure ≡ false) × HasNoRoom (record_size r) old.store_room × (new ≡ old)
+ActMoves (KeepLost r) old new = HasNoRoom (record_size r) old.store_room × (new ≡ old)
 ActMoves Opened old new = new ≡ old
 ActMoves Cut old new = new ≡ old
 ActMoves Stop old new = KeepsRoom old.store_room new.store_room × (new ≡ with_store_room old new.store_room)

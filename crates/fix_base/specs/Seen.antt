@@ -109,7 +109,7 @@ pub record NoneRose (old new : Faults) : Type 0 where
 abbrev pub NoteMoves : Note → PartsSeen → PartsSeen → Type 0
 NoteMoves (Did act) old new = ActMoves act old new
 -- what room a store has that failed isn't said
-NoteMoves (Failed StorePart) old new = (old.sure ≡ false) × (new ≡ with_store_room old new.store_room)
+NoteMoves (Failed StorePart) old new = new ≡ with_store_room old new.store_room
 NoteMoves (Failed (LinkPart unsent)) old new = HasNoRoom unsent old.link_room × (new ≡ old)
 NoteMoves (Failed AppPart) old new = new ≡ old
 NoteMoves (Asked draft) old new = AskMoves draft old new

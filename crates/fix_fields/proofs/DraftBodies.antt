@@ -152,7 +152,8 @@ entry_fields before (f ∷ fs) all = (engine_free f (accepted_of before f all.0)
 
 -- ---- the body of a draft
 
-kind_first : (kind rest : List ℕ) → body_with kind rest ≡ (decimal 35 ++ 61 ∷ kind ++ 1 ∷ []) ++ rest
+-- the body of a draft begins with MsgType (35)
+pub kind_first : (kind rest : List ℕ) → body_with kind rest ≡ (decimal 35 ++ 61 ∷ kind ++ 1 ∷ []) ++ rest
 kind_first kind rest = ap (λ (t : List ℕ). t ++ (kind ++ 1 ∷ rest)) (sym type_tag) ∙ simp append_assoc
 
 pub draft_payload : (d : DraftText) (time : ℕ) → IsDraft d → time ≤ LAST_TIME → IsAppPayload time (body_with d.kind d.rest)

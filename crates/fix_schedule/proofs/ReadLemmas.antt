@@ -1,15 +1,14 @@
 -- What lawful settings say of a session's hours.
-use Rattle.std.proofs.Common.{inl, inr, Bool, ◌+◌, ◌*◌, ◌==◌, ◌&&◌, nat_le, subst, sym, length, get_or, ◌≡◌, ℕ, ◌<◌, ◌≤◌, true, [], ◌∷◌, List, Option, Some, None, option_map, refl, ap, arith}
-use Rattle.std.specs.Prelude.{slice_index, find, is_some}
+use Rattle.std.proofs.Common.{subst, sym, length, get_or, ◌≡◌, ℕ, ◌<◌, ◌≤◌, true, [], ◌∷◌, List, Option, Some, None, option_map, refl, ap, arith}
+use Rattle.std.specs.Prelude.{is_some}
 use Rattle.std.specs.List.{AllByRecursion}
-use Rattle.std.proofs.lemmas.Bool.{cases_Bool, and_parts, leb-true}
 use Rattle.fix_base.specs.Lists.{here}
 use Rattle.fix_settings.specs.declared.key.Key.TheVariants as key
 use Rattle.fix_settings.specs.declared.session_settings.SessionSettings.{SessionSettings}
-use Rattle.fix_settings.specs.Forms.{Value, Clock, Day, is_digit, two_at, is_two_at, is_clock, clock_in, day_in, is_day}
+use Rattle.fix_settings.specs.Forms.{Value, Clock, Day, clock_in, day_in, is_day}
 use Rattle.fix_settings.specs.Table.{rule_of}
 use Rattle.fix_settings.specs.Lawful.{IsAllowed, IsLawful}
-use Rattle.fix_settings.proofs.SaysLemmas.{some_number}
+use Rattle.fix_settings.proofs.ValueLemmas.{clock_bound, found_among, all_at}
 
 clock_of : (o : Option ℕ) (n : ℕ) → option_map Clock o ≡ Some (Clock n) → o ≡ Some n
 clock_of None n e = absurd (cc)
@@ -19,31 +18,15 @@ day_of : (o : Option ℕ) (n : ℕ) → option_map Day o ≡ Some (Day n) → o 
 day_of None n e = absurd (cc)
 day_of (Some m) n e = cc
 
--- two digits up to a greatest number
-two_up_to : (last at : ℕ) (text : List ℕ) → is_two_at last at text ≡ true → two_at at text ≤ last
-two_up_to last at text e =
-    let second = and_parts (is_digit (slice_index text at)) (is_digit (slice_index text (at + 1)) && nat_le (two_at at text) last) e in
-    leb-true (two_at at text) last (and_parts (is_digit (slice_index text (at + 1))) (nat_le (two_at at text) last) second.1).1
-
--- a time of day is less than a day behind midnight
-clock_below : (text : List ℕ) (n : ℕ) → option_map Clock (clock_in text) ≡ Some (Clock n) → n < 86400
-clock_below text n e =
-    let said = some_number (is_clock text) (two_at 0 text * 3600 + two_at 3 text * 60 + two_at 6 text) n (clock_of (clock_in text) n e) in
-    let signs = and_parts (slice_index text 2 == 58) _ (and_parts (length text == 8) _ said.0).1 in
-    let numbers = and_parts (slice_index text 5 == 58) _ signs.1 in
-    let hours = and_parts (is_two_at 23 0 text) (is_two_at 59 3 text && is_two_at 59 6 text) numbers.1 in
-    let rest = and_parts (is_two_at 59 3 text) (is_two_at 59 6 text) hours.1 in
-    omega (arith, said.1, two_up_to 23 0 text hours.0, two_up_to 59 3 text rest.0, two_up_to 59 6 text rest.1)
-
 pub start_below : (s : SessionSettings) (n : ℕ) → IsLawful s → s.start_time ≡ Some n → n < 86400
 start_below s n lawful e =
     let v : IsAllowed (rule_of key.StartTime) (option_map Clock (Some n)) = rw e at (lawful.each key.StartTime) in
-    clock_below v.text n v.says
+    clock_bound v.text n (clock_of (clock_in v.text) n v.says)
 
 pub end_below : (s : SessionSettings) (n : ℕ) → IsLawful s → s.end_time ≡ Some n → n < 86400
 end_below s n lawful e =
     let v : IsAllowed (rule_of key.EndTime) (option_map Clock (Some n)) = rw e at (lawful.each key.EndTime) in
-    clock_below v.text n v.says
+    clock_bound v.text n (clock_of (clock_in v.text) n v.says)
 
 -- a day is one of seven
 abbrev pub IsOfWeek : ℕ → Type 0
@@ -52,16 +35,8 @@ IsOfWeek day = (1 ≤ day) × (day ≤ 7)
 week : AllByRecursion IsOfWeek (1 ∷ 2 ∷ 3 ∷ 4 ∷ 5 ∷ 6 ∷ 7 ∷ [])
 week = ((omega arith, omega arith), ((omega arith, omega arith), ((omega arith, omega arith), ((omega arith, omega arith), ((omega arith, omega arith), ((omega arith, omega arith), ((omega arith, omega arith), tt)))))))
 
--- what is found has what each of the list has
-found_has : (P : ℕ → Type 0) (test : ℕ → Bool) (xs : List ℕ) (n : ℕ) → AllByRecursion P xs → find test xs ≡ Some n → P n
-found_has P test [] n all e = absurd (cc)
-found_has P test (x ∷ xs) n all e = elim (cases_Bool (test x)) [
-  | inl t ↦ (let is : Some x ≡ Some n = rw t at e in let same : x ≡ n = cc in subst P same all.0)
-  | inr f ↦ found_has P test xs n all.1 (rw f at e)
-]
-
 day_among : (text : List ℕ) (n : ℕ) → option_map Day (day_in text) ≡ Some (Day n) → IsOfWeek n
-day_among text n e = found_has IsOfWeek (is_day text) (1 ∷ 2 ∷ 3 ∷ 4 ∷ 5 ∷ 6 ∷ 7 ∷ []) n week (day_of (day_in text) n e)
+day_among text n e = all_at IsOfWeek (found_among (is_day text) (1 ∷ 2 ∷ 3 ∷ 4 ∷ 5 ∷ 6 ∷ 7 ∷ []) n (day_of (day_in text) n e)) week
 
 pub start_of_week : (s : SessionSettings) (n : ℕ) → IsLawful s → s.start_day ≡ Some n → IsOfWeek n
 start_of_week s n lawful e =

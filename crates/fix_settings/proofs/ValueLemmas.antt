@@ -106,7 +106,8 @@ two_below last at t h =
     let q = and_parts (is_digit (slice_index t (at + 1))) (nat_le (two_at at t) last) p.1 in
     leb-true (two_at at t) last q.1
 
-clock_bound : (t : List ℕ) (s : ℕ) → clock_in t ≡ Some s → s < 86400
+-- a time of day is less than a day behind midnight
+pub clock_bound : (t : List ℕ) (s : ℕ) → clock_in t ≡ Some s → s < 86400
 clock_bound t s e =
     let o = some_number (is_clock t) (two_at 0 t * 3600 + two_at 3 t * 60 + two_at 6 t) s e in
     let a = and_parts (length t == 8) _ o.0 in
@@ -124,14 +125,14 @@ clock_said t s e = record { text = high_line (clock_text s) (clock_high s); says
 
 -- ---- days
 
-found_among : {A : Type 0} (p : A → Bool) (xs : List A) (a : A) → find p xs ≡ Some a → Among a xs
+pub found_among : {A : Type 0} (p : A → Bool) (xs : List A) (a : A) → find p xs ≡ Some a → Among a xs
 found_among p [] a e = cc
 found_among p (x ∷ xs) a e = elim (cases_Bool (p x)) [
   | inl t ↦ (let s : Some x ≡ Some a = rw t at e in let is : x ≡ a = cc in subst (λ y. Among y (x ∷ xs)) is here)
   | inr f ↦ there (found_among p xs a (rw f at e))
 ]
 
-all_at : {A : Type 0} (P : A → Type 0) {a : A} {xs : List A} → Among a xs → AllByRecursion P xs → P a
+pub all_at : {A : Type 0} (P : A → Type 0) {a : A} {xs : List A} → Among a xs → AllByRecursion P xs → P a
 all_at P here all = all.0
 all_at P (there m) all = all_at P m all.1
 
