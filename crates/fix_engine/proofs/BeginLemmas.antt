@@ -3,13 +3,13 @@ use Rattle.std.proofs.Common.{ℕ, List, Ok, Err}
 use Rattle.std.specs.Prelude.{None}
 use Rattle.fix_base.specs.declared.entry.Stored.{Stored}
 use Rattle.fix_base.specs.Seen.{Note, Seen, Moves}
-use Rattle.fix_engine.specs.declared.outside.LoadFault.{LoadFault}
-use Rattle.fix_engine.specs.declared.outside.LoadFault.TheVariants as load
-use Rattle.fix_engine.specs.Outside.{loads}
+use Rattle.fix_rim.specs.declared.outside.LoadFault.{LoadFault}
+use Rattle.fix_rim.specs.declared.outside.LoadFault.TheVariants as load
+use Rattle.fix_rim.specs.Outside.{loads}
 use Rattle.fix_engine.specs.declared.stop.BeginFault.{BeginFault}
 use Rattle.fix_engine.specs.Run.{Seat, Opens, opened, no_reading, not_opened, BeginsTo, opened_to, no_memory, no_memory_to_open, stopped_for_memory, begun, LoadHasCause}
 
-pub begins_ok : {T : Type 0} (old : Seat) (x : T) (t : ℕ) (notes : List Note) → Opens (Ok t) notes → BeginsTo old (Ok x) (record { identity = old.identity; live = begun old.live t; stopped = None }) notes
+pub begins_ok : {T : Type 0} (old : Seat) (x : T) (t : ℕ) (notes : List Note) → Opens (Ok t) notes → BeginsTo old (Ok x) (record { identity = old.identity; live = begun old.live t; hand = old.hand; stopped = None }) notes
 begins_ok old x t notes (opened u) = opened_to u
 
 pub begins_err : {T : Type 0} (old : Seat) (fault : BeginFault) (notes : List Note) → Opens (Err fault) notes → BeginsTo {T = T} old (Err fault) (stopped_for_memory old) notes

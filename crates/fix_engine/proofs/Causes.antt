@@ -8,8 +8,15 @@ use Rattle.fix_engine.specs.State.{State, Ending, Step}
 use Rattle.fix_engine.specs.declared.state.Ending.TheVariants as ending
 use Rattle.fix_engine.specs.Fold.{Each, none, ends, goes, AndThen, first_ends, both}
 use Rattle.fix_engine.specs.Answer.{Performed, nothing, count, go_up, close, give_up, taken, hand_lost, hand_memory, spent, keep_memory, keep_lost, sent, write_lost, write_memory}
-use Rattle.fix_engine.specs.Turn.{Live, Taken, no_more, ends as ends_at, goes as goes_on, Fed, fed_frames, fed_memory, Heard, bytes, idle, over, read_lost, read_memory, Clocked, now, now_memory, KeptExpected, same, kept, expect_lost, expect_memory, Turn, stops, keeps, keeps_not, Ran, all_turns, cut, cut_memory, no_cut}
+use Rattle.fix_fields.specs.Drafted.{DraftText}
+use Rattle.fix_engine.specs.declared.stop.SendFault.{SendFault}
+use Rattle.fix_engine.specs.Turn.{Live, Taken, no_more, ends as ends_at, goes as goes_on, Fed, fed_frames, fed_memory, Heard, bytes, idle, over, read_lost, read_memory, Clocked, now, now_memory, KeptExpected, same, kept, expect_lost, expect_memory}
+use Rattle.fix_engine.specs.Drafted as drafted
+use Rattle.fix_engine.specs.Drafted.{Drafting}
+use Rattle.fix_engine.specs.Desk as desk
+use Rattle.fix_engine.specs.Desk.{Desk, sent_ending, Sends, Holding, Offered, beside, Met, Turn, stops, keeps, keeps_not, Ran, all_turns, cut, cut_memory, no_cut}
 use Rattle.fix_engine.specs.Run.{run_end, RunHasCause}
+use Rattle.fix_engine.proofs.SendLemmas.{drafting_blames}
 
 -- a fault stands among what it came of
 abbrev pub Blames : Result ⊤ Ending → List Note → Type 0
@@ -83,9 +90,34 @@ Clocked-blames : (l : Live) (notes : List Note) (r : Result ⊤ Ending) (to : Li
 Clocked-blames l notes r to (now t) = tt
 Clocked-blames l notes r to now_memory = tt
 
-Met-blames : (id : Identity) {l to : Live} {notes : List Note} {r : Result ⊤ Ending} → AndThen (Heard id) Clocked l notes r to → Blames r notes
-Met-blames id (first_ends d) = Heard-blames id _ _ _ _ d
-Met-blames id (both d more) = Blames-behind _ _ _ (Clocked-blames _ _ _ _ more)
+Looked-blames : (id : Identity) {l to : Live} {notes : List Note} {r : Result ⊤ Ending} → AndThen (Heard id) Clocked l notes r to → Blames r notes
+Looked-blames id (first_ends d) = Heard-blames id _ _ _ _ d
+Looked-blames id (both d more) = Blames-behind _ _ _ (Clocked-blames _ _ _ _ more)
+
+Drafting-blames : (id : Identity) (draft : DraftText) (s s' : State) (notes : List Note) (r : Result ℕ SendFault) → Drafting id draft s notes r s' → Blames (sent_ending r) notes
+Drafting-blames id draft s s' notes r drafted.no_memory = tt
+Drafting-blames id draft s s' notes r (drafted.lost k) = drafting_blames id draft s s' notes r (drafted.lost k)
+Drafting-blames id draft s s' notes r (drafted.stored other k) = tt
+Drafting-blames id draft s s' notes r (drafted.sent text up said k) = tt
+Drafting-blames id draft s s' notes r (drafted.write_lost text many up said k) = drafting_blames id draft s s' notes r (drafted.write_lost text many up said k)
+Drafting-blames id draft s s' notes r (drafted.write_memory up k) = tt
+
+Sends-blames : (id : Identity) (draft : DraftText) {d to : Desk} {notes : List Note} {r : Result ⊤ Ending} → Sends id draft d notes r to → Blames r notes
+Sends-blames id draft (desk.spent full) = tt
+Sends-blames id draft (desk.sends small is k) = Drafting-blames id draft _ _ _ _ k
+
+Holding-blames : (id : Identity) {d to : Desk} {notes : List Note} {r : Result ⊤ Ending} → Holding id d notes r to → Blames r notes
+Holding-blames id (desk.empty held_none) = tt
+Holding-blames id (desk.holds draft some k) = Sends-blames id draft k
+
+Offered-blames : (id : Identity) {d to : Desk} {notes : List Note} {r : Result ⊤ Ending} → Offered id d notes r to → Blames r notes
+Offered-blames id (desk.not_up other) = tt
+Offered-blames id (desk.asked {notes = notes} {r = r} given up held_none k) = Blames-behind r (_ ∷ []) notes (Holding-blames id k)
+Offered-blames id (desk.was_in_hand draft up some k) = Sends-blames id draft k
+
+Met-blames : (id : Identity) {d to : Desk} {notes : List Note} {r : Result ⊤ Ending} → Met id d notes r to → Blames r notes
+Met-blames id (first_ends d) = Offered-blames id d
+Met-blames id (both d (beside more)) = Blames-behind _ _ _ (Looked-blames id more)
 
 KeptExpected-blames : (l : Live) (notes : List Note) (r : Result ⊤ Ending) (to : Live) → KeptExpected l notes r to → Blames r notes
 KeptExpected-blames l notes r to (same h) = tt
@@ -93,12 +125,12 @@ KeptExpected-blames l notes r to (kept h) = tt
 KeptExpected-blames l notes r to (expect_lost h) = omega arith
 KeptExpected-blames l notes r to (expect_memory h) = tt
 
-Turn-blames : (id : Identity) (l : Live) (u : ⊤) (notes : List Note) (r : Result ⊤ Ending) (to : Live) → Turn id l notes r to → Blames r notes
+Turn-blames : (id : Identity) (l : Desk) (u : ⊤) (notes : List Note) (r : Result ⊤ Ending) (to : Desk) → Turn id l notes r to → Blames r notes
 Turn-blames id l u notes r to (stops h d) = Met-blames id d
 Turn-blames id l u notes r to (keeps h d k) = Blames-before _ _ _ (Met-blames id d)
-Turn-blames id l u notes r to (keeps_not {first = a} {more = b} {e = e} h d k) = Blames-behind (Err e) a b (KeptExpected-blames _ _ _ _ k)
+Turn-blames id l u notes r to (keeps_not {first = a} {more = b} {e = e} h d (beside k)) = Blames-behind (Err e) a b (KeptExpected-blames _ _ _ _ k)
 
-pub Ran-blames : (id : Identity) (n : ℕ) (l : Live) (notes : List Note) (r : Result ⊤ Ending) (to : Live) → Ran id n l notes r to → Blames r notes
+pub Ran-blames : (id : Identity) (n : ℕ) (l : Desk) (notes : List Note) (r : Result ⊤ Ending) (to : Desk) → Ran id n l notes r to → Blames r notes
 Ran-blames id n l notes r to (all_turns d) = tt
 Ran-blames id n l notes r to (cut {notes = a} {e = e} h d) = Blames-before (Err e) a _ (Each-blames (Turn-blames id) d)
 Ran-blames id n l notes r to (cut_memory h d) = tt
@@ -115,5 +147,5 @@ caused (Err ending.LinkFault) old new notes counts h = omega arith
 caused (Err ending.AppFault) old new notes counts h = omega arith
 
 -- a run that answers a fault has its cause
-pub RanTo-has_cause : (id : Identity) (n : ℕ) (l : Live) (r : Result ⊤ Ending) (to : Live) (old new : Seen) → Goes old new (λ notes. Ran id n l notes r to) → RunHasCause (run_end r) old.faults new.faults
+pub RanTo-has_cause : (id : Identity) (n : ℕ) (l : Desk) (r : Result ⊤ Ending) (to : Desk) (old new : Seen) → Goes old new (λ notes. Ran id n l notes r to) → RunHasCause (run_end r) old.faults new.faults
 RanTo-has_cause id n l r to old new g = caused r old.faults new.faults g.0 g.1.faults (Ran-blames id n l g.0 r to g.2)

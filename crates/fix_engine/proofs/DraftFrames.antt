@@ -17,7 +17,7 @@ use Rattle.fix_base.proofs.TimeTexts.{time_text_no_soh}
 use Rattle.fix_fields.specs.Drafts.{body_with}
 use Rattle.fix_fields.specs.Drafted.{DraftText, IsDraft, draft_body}
 use Rattle.fix_fields.proofs.DraftLemmas.{fields_text-append}
-use Rattle.fix_fields.proofs.DraftBodies.{accepted_fields, entry_fields, draft_payload}
+use Rattle.fix_fields.proofs.DraftBodies.{accepted_fields, entry_fields, draft_payload, kind_first}
 use Rattle.fix_frame.specs.Sealable.{message_text, IsBehindType, IsSealable}
 use Rattle.fix_engine.specs.Written.{header_fields, IsHeaderText}
 use Rattle.fix_engine.specs.State.{State}
@@ -34,13 +34,9 @@ field_ahead f fs plain others = (
   subst (λ (due : Option (ℕ × ℕ)). FieldsAfter due (fields_text fs) fs) (sym (plain_announces_nothing f plain.no_length)) others,
 )
 
--- the body of a draft is MsgType (35) and its fields
-body_spelled : (kind rest : List ℕ) → body_with kind rest ≡ field_text (field 35 kind) ++ rest
-body_spelled kind rest = ap (λ (t : List ℕ). t ++ (kind ++ 1 ∷ rest)) (sym type_tag) ∙ simp append_assoc
-
 pub draft_is_body : (d : DraftText) (h : IsDraft d) → IsBodyOf (draft_body d) d.kind h.fields
 draft_is_body d h =
-    let body : draft_body d ≡ fields_text (field 35 d.kind ∷ h.fields) = body_spelled d.kind d.rest ∙ ap (λ (t : List ℕ). field_text (field 35 d.kind) ++ t) h.spelled in
+    let body : draft_body d ≡ fields_text (field 35 d.kind ∷ h.fields) = kind_first d.kind d.rest ∙ ap (λ (t : List ℕ). field_text (field 35 d.kind) ++ t) h.spelled in
     let fields : FieldsAfter None (fields_text (field 35 d.kind ∷ h.fields)) (field 35 d.kind ∷ h.fields) = field_ahead (field 35 d.kind) h.fields (record { first = lit≤ tt; last = lit≤ tt; no_soh = h.may.named.no_soh; no_length = refl }) (accepted_fields [] h.fields h.may.accepted h.tags) in
     record {
       spelled = body;

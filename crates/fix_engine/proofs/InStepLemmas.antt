@@ -27,16 +27,18 @@ use Rattle.fix_engine.specs.declared.stop.RunEnd.{RunEnd}
 use Rattle.fix_engine.specs.declared.stop.RunEnd.TheVariants as run
 use Rattle.fix_engine.specs.declared.stop.StopCause.{StopCause}
 use Rattle.fix_engine.specs.declared.stop.BeginFault.{BeginFault}
-use Rattle.fix_engine.specs.Turn.{Live, live, Ran}
+use Rattle.fix_engine.specs.Turn.{Live, live}
+use Rattle.fix_engine.specs.declared.hand.Hand.{Hand}
+use Rattle.fix_engine.specs.Desk.{desk, Ran, no_draft}
 use Rattle.fix_engine.specs.declared.stop.BeginFault.TheVariants as begins
-use Rattle.fix_engine.specs.Run.{Seat, seated_at, seated_again, no_bytes, run_end, stop_cause, stopped_for_memory, Opens, BeginsTo, opened_to, no_memory, no_memory_to_open, begun}
+use Rattle.fix_engine.specs.Run.{Seat, desk_of, seated_at, seated_again, no_bytes, run_end, stop_cause, stopped_for_memory, Opens, BeginsTo, opened_to, no_memory, no_memory_to_open, begun}
 use Rattle.fix_engine.specs.Lawful.{HasNumbers, IsCertain, MayHold, Fits, Leads, After, AfterBegin, IsLawfulBegin}
 use Rattle.fix_engine.specs.InStep as step
 use Rattle.fix_engine.specs.InStep.{IsBeside, IsTape, IsStored, IsInStep, StandsInStep, Trails, IsConnected, AreOfRun, HasServed, bytes_written}
-use Rattle.fix_engine.specs.declared.outside.LoadFault.{LoadFault}
-use Rattle.fix_engine.specs.declared.outside.LoadFault.TheVariants as load
+use Rattle.fix_rim.specs.declared.outside.LoadFault.{LoadFault}
+use Rattle.fix_rim.specs.declared.outside.LoadFault.TheVariants as load
 use Rattle.fix_engine.specs.declared.stop.StopCause.TheVariants as stops
-use Rattle.fix_engine.specs.Outside.{IsStoredOf, IsLoaded, loads}
+use Rattle.fix_rim.specs.Outside.{IsStoredOf, IsLoaded, loads}
 use Rattle.fix_engine.proofs.RestartLemmas.{restarts, held_starts}
 use Rattle.fix_engine.proofs.EachFrame.{decided, map_sure}
 use Rattle.fix_engine.proofs.BeginLemmas.{begins_ok, begins_err}
@@ -75,7 +77,7 @@ stored_on first between xs ys doubt last before behind held s =
 -- ---- a new session
 
 -- a session of which nothing is stored is in step with an outside that stores nothing
-pub new_in_step : (id : Identity) (w : Seen) (before : List Act) → IsTape w before → IsStored w new_end → w.open_at ≡ Some 0 → IsInStep new_state before w (record { identity = id; live = live first_state no_bytes; stopped = None })
+pub new_in_step : (id : Identity) (w : Seen) (before : List Act) → IsTape w before → IsStored w new_end → w.open_at ≡ Some 0 → IsInStep new_state before w (record { identity = id; live = live first_state no_bytes; hand = no_draft; stopped = None })
 new_in_step id w before tape stored opens = record {
   acts = [];
   to = new_state;
@@ -107,12 +109,12 @@ after_beside id (Err ending.AppFault) to e none h = cc
 after_beside id (Err ending.StoreFault) to e none h = cc
 after_beside id (Err ending.OutOfMemory) to e none h = cc
 
-abbrev pub seated : Seat → Live → Option StopCause → Seat
-seated seat to stopped = record { identity = seat.identity; live = to; stopped = stopped }
+abbrev pub seated : Seat → Live → Hand → Option StopCause → Seat
+seated seat to hand stopped = record { identity = seat.identity; live = to; hand = hand; stopped = stopped }
 
 -- calls that lead an end to one that is in step
-pub moved : (start : EndState) (before : List Act) (old new : Seen) (seat : Seat) (to : Live) (stopped : Option StopCause) (notes : List Note) (P : EndState → Type 0) → Moves old new notes → new.open_at ≡ Some to.state.last → ((e : EndState) → P e → IsBeside seat.identity to e) → (h : IsInStep start before old seat) → Leads seat.identity h.to (acts_of notes) P → IsInStep start before new (seated seat to stopped)
-moved start before old new seat to stopped notes P m opens beside h l =
+pub moved : (start : EndState) (before : List Act) (old new : Seen) (seat : Seat) (to : Live) (hand : Hand) (stopped : Option StopCause) (notes : List Note) (P : EndState → Type 0) → Moves old new notes → new.open_at ≡ Some to.state.last → ((e : EndState) → P e → IsBeside seat.identity to e) → (h : IsInStep start before old seat) → Leads seat.identity h.to (acts_of notes) P → IsInStep start before new (seated seat to hand stopped)
+moved start before old new seat to hand stopped notes P m opens beside h l =
     let b = beside l.to l.holds in
     record {
       acts = h.acts ++ acts_of notes;
@@ -140,11 +142,11 @@ open_unstopped (Err ending.StoreFault) s none = cc
 open_unstopped (Err ending.OutOfMemory) s none = refl
 
 -- a session that isn't stopped by a run stays in step
-pub run_in_step : (n : ℕ) (seat : Seat) (r : Result ⊤ Ending) (to : Live) (old new : Seen) → seat.live.state.phase ≢ Down → new.open_at ≡ open_behind r to.state → Goes old new (λ notes. Ran seat.identity n seat.live notes r to) → IfNone (stop_cause (run_end r)) ((start : EndState) (before : List Act) → IsInStep start before old seat → IsInStep start before new (seated seat to (stop_cause (run_end r))))
-run_in_step n seat r to old new is_open opens g =
-    if_none (stop_cause (run_end r)) ((start : EndState) (before : List Act) → IsInStep start before old seat → IsInStep start before new (seated seat to (stop_cause (run_end r))))
-    (λ none start before h. moved start before old new seat to (stop_cause (run_end r)) g.0 (After seat.identity (run_end r) to) g.1 (opens ∙ open_unstopped r to.state none) (λ e k. after_beside seat.identity r to e none k) h
-    (Ran-lawful seat.identity n seat.live g.0 r to g.2 h.to (beside_fits seat.identity seat.live h.to is_open h.beside)))
+pub run_in_step : (n : ℕ) (seat : Seat) (r : Result ⊤ Ending) (to : Live) (hand : Hand) (old new : Seen) → seat.live.state.phase ≢ Down → new.open_at ≡ open_behind r to.state → Goes old new (λ notes. Ran seat.identity n (desk_of seat) notes r (desk to hand)) → IfNone (stop_cause (run_end r)) ((start : EndState) (before : List Act) → IsInStep start before old seat → IsInStep start before new (seated seat to hand (stop_cause (run_end r))))
+run_in_step n seat r to hand old new is_open opens g =
+    if_none (stop_cause (run_end r)) ((start : EndState) (before : List Act) → IsInStep start before old seat → IsInStep start before new (seated seat to hand (stop_cause (run_end r))))
+    (λ none start before h. moved start before old new seat to hand (stop_cause (run_end r)) g.0 (After seat.identity (run_end r) to) g.1 (opens ∙ open_unstopped r to.state none) (λ e k. after_beside seat.identity r to e none k) h
+    (Ran-lawful seat.identity n (desk_of seat) g.0 r (desk to hand) g.2 h.to (beside_fits seat.identity seat.live h.to is_open h.beside)))
 
 -- only a run that made all its turns answers so
 spent_ok : (r : Result ⊤ Ending) → run_end r ≡ run.TurnsSpent → r ≡ Ok tt
@@ -158,16 +160,17 @@ spent_ok (Err ending.StoreFault) e = cc
 spent_ok (Err ending.OutOfMemory) e = cc
 
 -- where all turns were made, the connection goes on
-pub run_connected : (n : ℕ) (seat : Seat) (r : Result ⊤ Ending) (to : Live) (stopped : Option StopCause) (old new : Seen) → seat.live.state.reading ≤ LAST_TIME → new.open_at ≡ open_behind r to.state → Goes old new (λ notes. Ran seat.identity n seat.live notes r to) → run_end r ≡ run.TurnsSpent → (start : EndState) (before : List Act) → IsConnected start before old seat → IsConnected start before new (seated seat to stopped)
-run_connected n seat r to stopped old new small opens g spent start before h =
+pub run_connected : (n : ℕ) (seat : Seat) (r : Result ⊤ Ending) (to : Live) (hand : Hand) (stopped : Option StopCause) (old new : Seen) → seat.live.state.reading ≤ LAST_TIME → new.open_at ≡ open_behind r to.state → Goes old new (λ notes. Ran seat.identity n (desk_of seat) notes r (desk to hand)) → run_end r ≡ run.TurnsSpent → (start : EndState) (before : List Act) → IsConnected start before old seat → IsConnected start before new (seated seat to hand stopped)
+run_connected n seat r to hand stopped old new small opens g spent start before h =
     let acts = acts_of g.0 in
-    let ran : Ran seat.identity n seat.live g.0 (Ok tt) to = subst (λ (x : Result ⊤ Ending). Ran seat.identity n seat.live g.0 x to) (spent_ok r spent) g.2 in
-    let l = Ran-lawful seat.identity n seat.live g.0 (Ok tt) to ran h.to h.fits in
+    let d = desk_of seat in
+    let ran : Ran seat.identity n d g.0 (Ok tt) (desk to hand) = subst (λ (x : Result ⊤ Ending). Ran seat.identity n d g.0 x (desk to hand)) (spent_ok r spent) g.2 in
+    let l = Ran-lawful seat.identity n d g.0 (Ok tt) (desk to hand) ran h.to h.fits in
     record {
       opened = h.opened;
       opens = h.opens;
       acts = h.acts ++ acts;
-      ran = of_run-append h.acts acts h.ran (Ran-plainly seat.identity n seat.live g.0 (Ok tt) to ran small);
+      ran = of_run-append h.acts acts h.ran (Ran-plainly seat.identity n d g.0 (Ok tt) (desk to hand) ran small);
       to = l.to;
       run = EndRun-append h.run l.run;
       fits = l.holds;
@@ -178,13 +181,13 @@ run_connected n seat r to stopped old new small opens g spent start before h =
     }
 
 -- what it wrote is lawful, and the session keeps up with its counterparty
-pub run_serves : (n : ℕ) (seat : Seat) (r : Result ⊤ Ending) (to : Live) (old new : Seen) → seat.live.state.reading ≤ LAST_TIME → Goes old new (λ notes. Ran seat.identity n seat.live notes r to) → (start : EndState) (before : List Act) (h : IsConnected start before old seat) → Goes old new (λ notes. HasServed seat.identity (run_end r) to start h.opened (h.acts ++ acts_of notes))
-run_serves n seat r to old new small g start before h =
+pub run_serves : (n : ℕ) (seat : Seat) (r : Result ⊤ Ending) (to : Live) (hand : Hand) (old new : Seen) → seat.live.state.reading ≤ LAST_TIME → Goes old new (λ notes. Ran seat.identity n (desk_of seat) notes r (desk to hand)) → (start : EndState) (before : List Act) (h : IsConnected start before old seat) → Goes old new (λ notes. HasServed seat.identity (run_end r) to start h.opened (h.acts ++ acts_of notes))
+run_serves n seat r to hand old new small g start before h =
     let id = seat.identity in
     let acts = h.acts ++ acts_of g.0 in
-    let l = Ran-lawful id n seat.live g.0 r to g.2 h.to h.fits in
+    let l = Ran-lawful id n (desk_of seat) g.0 r (desk to hand) g.2 h.to h.fits in
     let run : EndRun id h.opened acts l.to = EndRun-append h.run l.run in
-    let ran : AreOfRun acts = of_run-append h.acts (acts_of g.0) h.ran (Ran-plainly id n seat.live g.0 r to g.2 small) in (
+    let ran : AreOfRun acts = of_run-append h.acts (acts_of g.0) h.ran (Ran-plainly id n (desk_of seat) g.0 r (desk to hand) g.2 small) in (
       g.0,
       g.1,
       record {
@@ -252,7 +255,7 @@ begin_lawful old new r a b g = (g.0, g.1, Begins-lawful old new r g.0 g.2)
 -- a session that isn't stopped is in step on the new connection
 Begins-in_step : {T : Type 0} (old new : Seat) (r : Result T BeginFault) (a b : Seen) (notes : List Note) → b.open_at ≡ a.open_at → Moves a b notes → BeginsTo old r new notes → IfNone new.stopped ((start : EndState) (before : List Act) → IsInStep start before a old → IsInStep start before b new)
 Begins-in_step old new r a b notes same m (opened_to {x = x} t) =
-    λ start before h. moved start before a b old (begun old.live t) None notes (Fits old.identity (begun old.live t)) m (same ∙ h.opens) (λ e f. step.connected f) h
+    λ start before h. moved start before a b old (begun old.live t) old.hand None notes (Fits old.identity (begun old.live t)) m (same ∙ h.opens) (λ e f. step.connected f) h
     (Begins-lawful old new (Ok x) notes (opened_to t) h.to (beside_settled old.identity old.live h.to h.beside))
 Begins-in_step old new r a b notes same m no_memory = tt
 Begins-in_step old new r a b notes same m (no_memory_to_open t) = tt
@@ -292,14 +295,14 @@ begin_connected old new r a b same g = Begins-connected old new r a b g.0 same g
 
 -- ---- the exits of `begin`
 
-pub opened_lawful : (old : Seat) (t : ℕ) (a b : Seen) → Goes a b (Opens (Ok t)) → Goes a b (IsLawfulBegin {T = ⊤} old (Ok tt) (seated old (begun old.live t) None))
-opened_lawful old t a b g = begin_lawful {T = ⊤} old (seated old (begun old.live t) None) (Ok tt) a b (g.0, g.1, begins_ok old tt t g.0 g.2)
+pub opened_lawful : (old : Seat) (t : ℕ) (a b : Seen) → Goes a b (Opens (Ok t)) → Goes a b (IsLawfulBegin {T = ⊤} old (Ok tt) (seated old (begun old.live t) old.hand None))
+opened_lawful old t a b g = begin_lawful {T = ⊤} old (seated old (begun old.live t) old.hand None) (Ok tt) a b (g.0, g.1, begins_ok old tt t g.0 g.2)
 
-pub opened_in_step : (old : Seat) (t : ℕ) (a b : Seen) → b.open_at ≡ a.open_at → Goes a b (Opens (Ok t)) → (start : EndState) (before : List Act) → IsInStep start before a old → IsInStep start before b (seated old (begun old.live t) None)
-opened_in_step old t a b same g = begin_in_step {T = ⊤} old (seated old (begun old.live t) None) (Ok tt) a b same (g.0, g.1, begins_ok old tt t g.0 g.2)
+pub opened_in_step : (old : Seat) (t : ℕ) (a b : Seen) → b.open_at ≡ a.open_at → Goes a b (Opens (Ok t)) → (start : EndState) (before : List Act) → IsInStep start before a old → IsInStep start before b (seated old (begun old.live t) old.hand None)
+opened_in_step old t a b same g = begin_in_step {T = ⊤} old (seated old (begun old.live t) old.hand None) (Ok tt) a b same (g.0, g.1, begins_ok old tt t g.0 g.2)
 
-pub opened_connected : (old : Seat) (t : ℕ) (a b : Seen) → b.open_at ≡ a.open_at → Goes a b (Opens (Ok t)) → (start : EndState) (before : List Act) (h : IsInStep start before a old) → (time : ℕ) × IsConnected h.to (before ++ h.acts ++ act.Now time ∷ []) b (seated old (begun old.live t) None)
-opened_connected old t a b same g = begin_connected {T = ⊤} old (seated old (begun old.live t) None) (Ok tt) a b same (g.0, g.1, begins_ok old tt t g.0 g.2)
+pub opened_connected : (old : Seat) (t : ℕ) (a b : Seen) → b.open_at ≡ a.open_at → Goes a b (Opens (Ok t)) → (start : EndState) (before : List Act) (h : IsInStep start before a old) → (time : ℕ) × IsConnected h.to (before ++ h.acts ++ act.Now time ∷ []) b (seated old (begun old.live t) old.hand None)
+opened_connected old t a b same g = begin_connected {T = ⊤} old (seated old (begun old.live t) old.hand None) (Ok tt) a b same (g.0, g.1, begins_ok old tt t g.0 g.2)
 
 pub not_opened_lawful : (old : Seat) (fault : BeginFault) (a b : Seen) → Goes a b (Opens (Err fault)) → Goes a b (IsLawfulBegin {T = ⊤} old (Err fault) (stopped_for_memory old))
 not_opened_lawful old fault a b g = begin_lawful {T = ⊤} old (stopped_for_memory old) (Err fault) a b (g.0, g.1, begins_err old fault g.0 g.2)
@@ -360,20 +363,20 @@ loaded_stands id stored a b loaded m opens = record { opens = opens; stands = ma
 pub stands_on : (a b : Seen) (old new : Seat) → b.open_at ≡ Some new.live.state.last → ((start : EndState) (before : List Act) → IsInStep start before a old → IsInStep start before b new) → StandsInStep a old → StandsInStep b new
 stands_on a b old new opens keeps h = record { opens = opens; stands = map_sure (λ x. (x.0, x.1, keeps x.0 x.1 x.2)) h.stands }
 
-pub opened_stands : (old : Seat) (t : ℕ) (a b : Seen) → b.open_at ≡ a.open_at → Goes a b (Opens (Ok t)) → StandsInStep a old → StandsInStep b (seated old (begun old.live t) None)
-opened_stands old t a b same g h = stands_on a b old (seated old (begun old.live t) None) (same ∙ h.opens) (opened_in_step old t a b same g) h
+pub opened_stands : (old : Seat) (t : ℕ) (a b : Seen) → b.open_at ≡ a.open_at → Goes a b (Opens (Ok t)) → StandsInStep a old → StandsInStep b (seated old (begun old.live t) old.hand None)
+opened_stands old t a b same g h = stands_on a b old (seated old (begun old.live t) old.hand None) (same ∙ h.opens) (opened_in_step old t a b same g) h
 
-pub run_stands : (n : ℕ) (seat : Seat) (r : Result ⊤ Ending) (to : Live) (old new : Seen) → seat.live.state.phase ≢ Down → new.open_at ≡ open_behind r to.state → Goes old new (λ notes. Ran seat.identity n seat.live notes r to) → StandsInStep old seat → IfNone (stop_cause (run_end r)) (StandsInStep new (seated seat to (stop_cause (run_end r))))
-run_stands n seat r to old new is_open opens g h =
-    if_none (stop_cause (run_end r)) (StandsInStep new (seated seat to (stop_cause (run_end r))))
-    (λ none. stands_on old new seat (seated seat to (stop_cause (run_end r))) (opens ∙ open_unstopped r to.state none)
-    (λ start before k. moved start before old new seat to (stop_cause (run_end r)) g.0 (After seat.identity (run_end r) to) g.1 (opens ∙ open_unstopped r to.state none) (λ e q. after_beside seat.identity r to e none q) k
-    (Ran-lawful seat.identity n seat.live g.0 r to g.2 k.to (beside_fits seat.identity seat.live k.to is_open k.beside))) h)
+pub run_stands : (n : ℕ) (seat : Seat) (r : Result ⊤ Ending) (to : Live) (hand : Hand) (old new : Seen) → seat.live.state.phase ≢ Down → new.open_at ≡ open_behind r to.state → Goes old new (λ notes. Ran seat.identity n (desk_of seat) notes r (desk to hand)) → StandsInStep old seat → IfNone (stop_cause (run_end r)) (StandsInStep new (seated seat to hand (stop_cause (run_end r))))
+run_stands n seat r to hand old new is_open opens g h =
+    if_none (stop_cause (run_end r)) (StandsInStep new (seated seat to hand (stop_cause (run_end r))))
+    (λ none. stands_on old new seat (seated seat to hand (stop_cause (run_end r))) (opens ∙ open_unstopped r to.state none)
+    (λ start before k. moved start before old new seat to hand (stop_cause (run_end r)) g.0 (After seat.identity (run_end r) to) g.1 (opens ∙ open_unstopped r to.state none) (λ e q. after_beside seat.identity r to e none q) k
+    (Ran-lawful seat.identity n (desk_of seat) g.0 r (desk to hand) g.2 k.to (beside_fits seat.identity seat.live k.to is_open k.beside))) h)
 
 -- ---- what is left of a session that stopped
 
-pub trail : (start : EndState) (before : List Act) (old new : Seen) (seat : Seat) (to : Live) (stopped : Option StopCause) (notes : List Note) (P : EndState → Type 0) → Moves old new notes → ((e : EndState) → P e → HasNumbers to.state e) → (h : IsInStep start before old seat) → Leads seat.identity h.to (acts_of notes) P → Trails start before new (seated seat to stopped)
-trail start before old new seat to stopped notes P m numbers h l = record {
+pub trail : (start : EndState) (before : List Act) (old new : Seen) (seat : Seat) (to : Live) (hand : Hand) (stopped : Option StopCause) (notes : List Note) (P : EndState → Type 0) → Moves old new notes → ((e : EndState) → P e → HasNumbers to.state e) → (h : IsInStep start before old seat) → Leads seat.identity h.to (acts_of notes) P → Trails start before new (seated seat to hand stopped)
+trail start before old new seat to hand stopped notes P m numbers h l = record {
   acts = h.acts ++ acts_of notes;
   to = l.to;
   run = EndRun-append h.run l.run;
@@ -392,22 +395,22 @@ after_numbers id (Err ending.NumbersSpent) to e h = h.settled.numbers
 after_numbers id (Err ending.StoreFault) to e h = h.numbers
 after_numbers id (Err ending.OutOfMemory) to e h = h.numbers
 
-pub run_trails : (n : ℕ) (seat : Seat) (r : Result ⊤ Ending) (to : Live) (stopped : Option StopCause) (old new : Seen) → seat.live.state.phase ≢ Down → Goes old new (λ notes. Ran seat.identity n seat.live notes r to) → (start : EndState) (before : List Act) → IsInStep start before old seat → Trails start before new (seated seat to stopped)
-run_trails n seat r to stopped old new is_open g start before h =
-    trail start before old new seat to stopped g.0 (After seat.identity (run_end r) to) g.1 (after_numbers seat.identity r to) h
-    (Ran-lawful seat.identity n seat.live g.0 r to g.2 h.to (beside_fits seat.identity seat.live h.to is_open h.beside))
+pub run_trails : (n : ℕ) (seat : Seat) (r : Result ⊤ Ending) (to : Live) (hand : Hand) (stopped : Option StopCause) (old new : Seen) → seat.live.state.phase ≢ Down → Goes old new (λ notes. Ran seat.identity n (desk_of seat) notes r (desk to hand)) → (start : EndState) (before : List Act) → IsInStep start before old seat → Trails start before new (seated seat to hand stopped)
+run_trails n seat r to hand stopped old new is_open g start before h =
+    trail start before old new seat to hand stopped g.0 (After seat.identity (run_end r) to) g.1 (after_numbers seat.identity r to) h
+    (Ran-lawful seat.identity n (desk_of seat) g.0 r (desk to hand) g.2 h.to (beside_fits seat.identity seat.live h.to is_open h.beside))
 
 begins_numbers : {T : Type 0} (id : Identity) (r : Result T BeginFault) (to : Live) (e : EndState) → AfterBegin id r to e → HasNumbers to.state e
 begins_numbers id (Ok x) to e h = h.on.settled.numbers
 begins_numbers id (Err begins.OutOfMemory) to e h = h.numbers
 begins_numbers id (Err (begins.Stopped why)) to e h = absurd h
 
-begin_trails : {T : Type 0} (old : Seat) (to : Live) (stopped : Option StopCause) (r : Result T BeginFault) (a b : Seen) → Goes a b (IsLawfulBegin old r (seated old to stopped)) → (start : EndState) (before : List Act) → IsInStep start before a old → Trails start before b (seated old to stopped)
+begin_trails : {T : Type 0} (old : Seat) (to : Live) (stopped : Option StopCause) (r : Result T BeginFault) (a b : Seen) → Goes a b (IsLawfulBegin old r (seated old to old.hand stopped)) → (start : EndState) (before : List Act) → IsInStep start before a old → Trails start before b (seated old to old.hand stopped)
 begin_trails old to stopped r a b g start before h =
-    trail start before a b old to stopped g.0 (AfterBegin old.identity r to) g.1 (begins_numbers old.identity r to) h
+    trail start before a b old to old.hand stopped g.0 (AfterBegin old.identity r to) g.1 (begins_numbers old.identity r to) h
     (g.2 h.to (beside_settled old.identity old.live h.to h.beside))
 
-pub opened_trails : (old : Seat) (t : ℕ) (a b : Seen) → Goes a b (Opens (Ok t)) → (start : EndState) (before : List Act) → IsInStep start before a old → Trails start before b (seated old (begun old.live t) None)
+pub opened_trails : (old : Seat) (t : ℕ) (a b : Seen) → Goes a b (Opens (Ok t)) → (start : EndState) (before : List Act) → IsInStep start before a old → Trails start before b (seated old (begun old.live t) old.hand None)
 opened_trails old t a b g = begin_trails {T = ⊤} old (begun old.live t) None (Ok tt) a b (opened_lawful old t a b g)
 
 pub not_opened_trails : (old : Seat) (fault : BeginFault) (a b : Seen) → Goes a b (Opens (Err fault)) → (start : EndState) (before : List Act) → IsInStep start before a old → Trails start before b (stopped_for_memory old)
@@ -455,7 +458,7 @@ again_stands old stored a b loaded m opens =
     }
 
 -- a refusal leaves what was left
-pub refused_trail : (old : Seat) (fault : LoadFault) (stopped : Option StopCause) (a b : Seen) → Moves a b (loads {T = Stored} (Err fault)) → (start : EndState) (before : List Act) → Trails start before a old → Trails start before b (seated old old.live stopped)
+pub refused_trail : (old : Seat) (fault : LoadFault) (stopped : Option StopCause) (a b : Seen) → Moves a b (loads {T = Stored} (Err fault)) → (start : EndState) (before : List Act) → Trails start before a old → Trails start before b (seated old old.live old.hand stopped)
 refused_trail old fault stopped a b m start before t = record {
   acts = t.acts;
   to = t.to;

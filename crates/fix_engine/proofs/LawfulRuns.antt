@@ -6,34 +6,30 @@ use Rattle.fix_base.specs.declared.entry.Record.{Record}
 use Rattle.fix_base.specs.declared.entry.Record.TheVariants.{Expect}
 use Rattle.fix_base.specs.declared.act.Act.TheVariants as act
 use Rattle.fix_base.specs.EndStep as steps
-use Rattle.fix_base.specs.EndStep.{Connection, EndState}
+use Rattle.fix_base.specs.EndStep.{EndState}
 use Rattle.fix_base.specs.Seen.{Note, Did, acts_of, Seen, Goes}
 use Rattle.fix_engine.specs.State.{State, Down, Ending, with_phase, with_kept, with_reading}
 use Rattle.fix_engine.specs.declared.state.Ending.TheVariants as ending
 use Rattle.fix_engine.specs.Fold.{Each, none, ends, goes, AndThen, first_ends, both}
 use Rattle.fix_engine.specs.Turn as turn
-use Rattle.fix_engine.specs.Turn.{Live, live, fed, Taken, Fed, Heard, Clocked, KeptExpected, settles_of, Turn, OneTurn, Turns, is_cut_of, down, Ran}
+use Rattle.fix_engine.specs.Turn.{Live, live, fed, Taken, Fed, Heard, Clocked, KeptExpected, settles_of, is_cut_of, down}
+use Rattle.fix_engine.specs.Desk as turns
+use Rattle.fix_engine.specs.Desk.{Desk, Offered, Beside, Met, Turn, OneTurn, Ran}
 use Rattle.fix_engine.specs.Run.{run_end}
 use Rattle.fix_engine.specs.Lawful as lawful
-use Rattle.fix_engine.specs.Lawful.{HasNumbers, IsCertain, IsOn, Fits, HasLeft, IsLost, IsInDoubt, Leads, After, IsLawful, AfterBegin, IsLawfulBegin}
-use Rattle.fix_engine.proofs.LeadsLemmas.{leads_nowhere, leads_step, leads_lost, leads_on, leads_weaker}
+use Rattle.fix_engine.specs.Lawful.{IsCertain, Fits, HasLeft, IsLost, IsInDoubt, Leads, After, IsLawful}
+use Rattle.fix_engine.proofs.LeadsLemmas.{certain_settled, settled_phase, lost_down, leads_nowhere, leads_step, leads_lost, leads_on, leads_weaker}
 use Rattle.fix_engine.proofs.ReadLemmas.{read_none}
 use Rattle.fix_engine.proofs.OnLemmas.{connected, settled_connected, on_state, reading, on_read, on_place, keeping, settled_kept, on_kept}
-use Rattle.fix_engine.proofs.LawfulSteps.{BehindEnd, Behind, Triple}
+use Rattle.fix_engine.proofs.LawfulSteps.{BehindEnd, Behind, Triple, HasNoDoubt}
 use Rattle.fix_engine.proofs.LawfulAnswers.{handled_leads}
+use Rattle.fix_engine.proofs.DraftLeads.{state_at, FitsAt, offered_leads}
 
 abbrev state_of : Live → State
 state_of l = l.state
 
 certain_fits : (id : Identity) (l : Live) (e : EndState) → Fits id l e → e.doubt ≡ None
 certain_fits id l e f = f.on.settled.doubt
-
-certain_settled : (s : State) (e : EndState) → IsCertain s e → e.doubt ≡ None
-certain_settled s e h = h.doubt
-
--- the phase makes no difference to the numbers
-settled_phase : (s : State) (e : EndState) → IsCertain s e → IsCertain (with_phase s Down) e
-settled_phase s e h = record { doubt = h.doubt; numbers = record { expected = h.numbers.expected; stored = h.numbers.stored; out = h.numbers.out } }
 
 -- ---- what is read
 
@@ -73,10 +69,20 @@ clocked_leads id l notes r to (turn.now t) e f =
     (leads_nowhere id e (Fits id next) (record { connection = f.connection; on = on_state id l.state (with_reading l.state t) l.ahead f.connection e f.on.phase refl refl refl f.on; counted = f.counted }))
 clocked_leads id l notes r to turn.now_memory e f = leads_nowhere id e (IsCertain l.state) f.on.settled
 
-met_leads : (id : Identity) → Triple id state_of (Fits id) (AndThen (Heard id) Clocked) (Fits id)
-met_leads id l notes r to (first_ends {e = end} d) e f = heard_leads id l notes (Err end) to d e f
-met_leads id l notes r to (both {mid = mid} {first = first} {more = more} d k) e f =
-    leads_on id e first more (Fits id mid) (Behind (Fits id to) r to.state) (certain_fits id mid) (heard_leads id l first (Ok tt) mid d e f) (λ m q. clocked_leads id mid more r to k m q)
+-- one part, and then the other
+then_leads : {S : Type 0} (id : Identity) (state : S → State) (P Q R : S → EndState → Type 0) (A B : S → List Note → Result ⊤ Ending → S → Type 0) → HasNoDoubt Q → Triple id state P A Q → Triple id state Q B R → Triple id state P (AndThen A B) R
+then_leads id state P Q R A B certain one other s notes r to (first_ends {e = end} d) e h = one s notes (Err end) to d e h
+then_leads id state P Q R A B certain one other s notes r to (both {mid = mid} {first = first} {more = more} d k) e h =
+    leads_on id e first more (Q mid) (Behind (R to) r (state to)) (certain mid) (one s first (Ok tt) mid d e h) (λ m q. other mid more r to k m q)
+
+-- what leaves the draft in hand as it is
+beside_leads : (id : Identity) (P Q : Live → EndState → Type 0) (R : Live → List Note → Result ⊤ Ending → Live → Type 0) → Triple id state_of P R Q → Triple id state_at (λ d. P d.live) (Beside R) (λ d. Q d.live)
+beside_leads id P Q R leads d notes r to (turns.beside {to = mid} k) e h = leads d.live notes r mid k e h
+
+met_leads : (id : Identity) → Triple id state_at (FitsAt id) (Met id) (FitsAt id)
+met_leads id =
+    then_leads id state_at (FitsAt id) (FitsAt id) (FitsAt id) (Offered id) (Beside (AndThen (Heard id) Clocked)) (λ d. certain_fits id d.live) (offered_leads id)
+    (beside_leads id (Fits id) (Fits id) (AndThen (Heard id) Clocked) (then_leads id state_of (Fits id) (Fits id) (Fits id) (Heard id) Clocked (certain_fits id) (heard_leads id) (clocked_leads id)))
 
 -- the expected number is lost
 expect_lost_leads : (id : Identity) (s : State) (e : EndState) → IsCertain s e → Leads id e (act.KeepLost (Expect s.expected) ∷ []) (IsInDoubt s)
@@ -132,26 +138,35 @@ met_settled : (id : Identity) (r : Result ⊤ Ending) (l : Live) (e : EndState) 
 met_settled id (Ok x) l e t h = h.on.settled
 met_settled id (Err end) l e t h = settles_settled end l.state e t h
 
-turn_leads : (id : Identity) → Triple id state_of (Fits id) (Turn id) (Fits id)
-turn_leads id l notes r to (turn.stops h d) e f = met_leads id l notes r to d e f
-turn_leads id l notes r to (turn.keeps {mid = mid} {met = Ok x} {first = first} {more = more} h d k) e f =
-    leads_on id e first more (Fits id mid) (Fits id to) (certain_fits id mid) (met_leads id l first (Ok x) mid d e f) (λ m q. kept_leads id mid more (Ok tt) to k m q)
-turn_leads id l notes r to (turn.keeps {mid = mid} {met = Err end} {first = first} {more = more} h d k) e f =
-    leads_on id e first more (Settled mid) (BehindEnd end to.state) (certain_settled mid.state)
-    (leads_weaker id e (acts_of first) (BehindEnd end mid.state) (Settled mid) (λ m q. settles_settled end mid.state m h q) (met_leads id l first (Err end) mid d e f))
-    (λ m q. leads_weaker id m (acts_of more) (Settled to) (BehindEnd end to.state) (λ n p. settled_settles end to.state n h p) (kept_behind id mid more (Ok tt) to k m q))
-turn_leads id l notes r to (turn.keeps_not {mid = mid} {met = met} {first = first} {more = more} {e = end} h d k) e f =
-    leads_on id e first more (Settled mid) (BehindEnd end to.state) (certain_settled mid.state)
-    (leads_weaker id e (acts_of first) (Behind (Fits id mid) met mid.state) (Settled mid) (λ m q. met_settled id met mid m h q) (met_leads id l first met mid d e f))
-    (λ m q. kept_behind id mid more (Err end) to k m q)
+kept_beside : (id : Identity) → Triple id state_at (FitsAt id) (Beside KeptExpected) (FitsAt id)
+kept_beside id = beside_leads id (Fits id) (Fits id) KeptExpected (kept_leads id)
+
+abbrev SettledAt : Desk → EndState → Type 0
+SettledAt d e = IsCertain d.live.state e
+
+settled_beside : (id : Identity) → Triple id state_at SettledAt (Beside KeptExpected) SettledAt
+settled_beside id = beside_leads id Settled Settled KeptExpected (kept_behind id)
+
+turn_leads : (id : Identity) → Triple id state_at (FitsAt id) (Turn id) (FitsAt id)
+turn_leads id d notes r to (turns.stops h k) e f = met_leads id d notes r to k e f
+turn_leads id d notes r to (turns.keeps {mid = mid} {met = Ok x} {first = first} {more = more} h k kept) e f =
+    leads_on id e first more (FitsAt id mid) (FitsAt id to) (certain_fits id mid.live) (met_leads id d first (Ok x) mid k e f) (λ m q. kept_beside id mid more (Ok tt) to kept m q)
+turn_leads id d notes r to (turns.keeps {mid = mid} {met = Err end} {first = first} {more = more} h k kept) e f =
+    leads_on id e first more (SettledAt mid) (BehindEnd end to.live.state) (certain_settled mid.live.state)
+    (leads_weaker id e (acts_of first) (BehindEnd end mid.live.state) (SettledAt mid) (λ m q. settles_settled end mid.live.state m h q) (met_leads id d first (Err end) mid k e f))
+    (λ m q. leads_weaker id m (acts_of more) (SettledAt to) (BehindEnd end to.live.state) (λ n p. settled_settles end to.live.state n h p) (settled_beside id mid more (Ok tt) to kept m q))
+turn_leads id d notes r to (turns.keeps_not {mid = mid} {met = met} {first = first} {more = more} {e = end} h k kept) e f =
+    leads_on id e first more (SettledAt mid) (BehindEnd end to.live.state) (certain_settled mid.live.state)
+    (leads_weaker id e (acts_of first) (Behind (FitsAt id mid) met mid.live.state) (SettledAt mid) (λ m q. met_settled id met mid.live m h q) (met_leads id d first met mid k e f))
+    (λ m q. settled_beside id mid more (Err end) to kept m q)
 
 -- ---- a run
 
-turns_leads : (id : Identity) (us : List ⊤) → Triple id state_of (Fits id) (λ l. Each (OneTurn id) l us) (Fits id)
-turns_leads id [] l notes r to none e f = leads_nowhere id e (Fits id l) f
-turns_leads id (u ∷ us) l notes r to (ends {e = end} d) e f = turn_leads id l notes (Err end) to d e f
-turns_leads id (u ∷ us) l notes r to (goes {mid = mid} {first = first} {more = more} d k) e f =
-    leads_on id e first more (Fits id mid) (Behind (Fits id to) r to.state) (certain_fits id mid) (turn_leads id l first (Ok tt) mid d e f) (λ m q. turns_leads id us mid more r to k m q)
+turns_leads : (id : Identity) (us : List ⊤) → Triple id state_at (FitsAt id) (λ d. Each (OneTurn id) d us) (FitsAt id)
+turns_leads id [] d notes r to none e f = leads_nowhere id e (FitsAt id d) f
+turns_leads id (u ∷ us) d notes r to (ends {e = end} k) e f = turn_leads id d notes (Err end) to k e f
+turns_leads id (u ∷ us) d notes r to (goes {mid = mid} {first = first} {more = more} k others) e f =
+    leads_on id e first more (FitsAt id mid) (Behind (FitsAt id to) r to.live.state) (certain_fits id mid.live) (turn_leads id d first (Ok tt) mid k e f) (λ m q. turns_leads id us mid more r to others m q)
 
 -- what is cut is certain
 cut_settled : (end : Ending) (s : State) (e : EndState) → is_cut_of end ≡ true → BehindEnd end s e → IsCertain s e
@@ -171,11 +186,6 @@ left_after id ending.AppFault to e t h = h
 left_after id ending.NumbersSpent to e t h = h
 left_after id ending.OutOfMemory to e t h = cc
 left_after id ending.StoreFault to e t h = cc
-
-lost_down : (s : State) {lost : Record} → IsLost s lost → IsLost (with_phase s Down) lost
-lost_down s (lawful.entry say) = lawful.entry say
-lost_down s (lawful.draft d h) = lawful.draft d h
-lost_down s lawful.number = lawful.number
 
 not_cut_after : (id : Identity) (end : Ending) (to : Live) (e : EndState) → is_cut_of end ≡ false → BehindEnd end to.state e → After id (run_end (Err end)) (down to) e
 not_cut_after id (ending.Closed why) to e t h = cc
@@ -200,16 +210,16 @@ cut_leads id end to e t h =
     leads_step id e left act.Cut [] (After id (run_end (Err end)) (down to)) (record { certain = h.doubt; row = steps.cut }) (λ held k. k) (leads_nowhere id left (After id (run_end (Err end)) (down to)) (left_after id end (down to) left t is_left))
 
 -- every run of the engine is a run of a lawful end
-pub Ran-lawful : (id : Identity) (n : ℕ) (l : Live) (notes : List Note) (r : Result ⊤ Ending) (to : Live) → Ran id n l notes r to → IsLawful id l (run_end r) to notes
-Ran-lawful id n l notes r to (turn.all_turns d) e f = turns_leads id (replicate n tt) l notes (Ok tt) to d e f
-Ran-lawful id n l notes r to (turn.cut {to = behind} {notes = first} {e = end} h d) e f =
-    leads_on id e first (Did act.Cut ∷ []) (Settled behind) (After id (run_end (Err end)) (down behind)) (certain_settled behind.state)
-    (leads_weaker id e (acts_of first) (BehindEnd end behind.state) (Settled behind) (λ m q. cut_settled end behind.state m h q) (turns_leads id (replicate n tt) l first (Err end) behind d e f))
-    (λ m q. cut_leads id end behind m h q)
-Ran-lawful id n l notes r to (turn.cut_memory {to = behind} {e = end} h d) e f =
-    leads_weaker id e (acts_of notes) (BehindEnd end behind.state) (IsCertain (down behind).state) (λ m q. settled_phase behind.state m (cut_settled end behind.state m h q)) (turns_leads id (replicate n tt) l notes (Err end) behind d e f)
-Ran-lawful id n l notes r to (turn.no_cut {to = behind} {e = end} h d) e f =
-    leads_weaker id e (acts_of notes) (BehindEnd end behind.state) (After id (run_end (Err end)) (down behind)) (λ m q. not_cut_after id end behind m h q) (turns_leads id (replicate n tt) l notes (Err end) behind d e f)
+pub Ran-lawful : (id : Identity) (n : ℕ) (d : Desk) (notes : List Note) (r : Result ⊤ Ending) (to : Desk) → Ran id n d notes r to → IsLawful id d.live (run_end r) to.live notes
+Ran-lawful id n d notes r to (turns.all_turns k) e f = turns_leads id (replicate n tt) d notes (Ok tt) to k e f
+Ran-lawful id n d notes r to (turns.cut {to = behind} {notes = first} {e = end} h k) e f =
+    leads_on id e first (Did act.Cut ∷ []) (SettledAt behind) (After id (run_end (Err end)) (down behind.live)) (certain_settled behind.live.state)
+    (leads_weaker id e (acts_of first) (BehindEnd end behind.live.state) (SettledAt behind) (λ m q. cut_settled end behind.live.state m h q) (turns_leads id (replicate n tt) d first (Err end) behind k e f))
+    (λ m q. cut_leads id end behind.live m h q)
+Ran-lawful id n d notes r to (turns.cut_memory {to = behind} {e = end} h k) e f =
+    leads_weaker id e (acts_of notes) (BehindEnd end behind.live.state) (IsCertain (down behind.live).state) (λ m q. settled_phase behind.live.state m (cut_settled end behind.live.state m h q)) (turns_leads id (replicate n tt) d notes (Err end) behind k e f)
+Ran-lawful id n d notes r to (turns.no_cut {to = behind} {e = end} h k) e f =
+    leads_weaker id e (acts_of notes) (BehindEnd end behind.live.state) (After id (run_end (Err end)) (down behind.live)) (λ m q. not_cut_after id end behind.live m h q) (turns_leads id (replicate n tt) d notes (Err end) behind k e f)
 
-pub run_lawful : (id : Identity) (n : ℕ) (l : Live) (r : Result ⊤ Ending) (to : Live) (old new : Seen) → Goes old new (λ notes. Ran id n l notes r to) → Goes old new (IsLawful id l (run_end r) to)
-run_lawful id n l r to old new g = (g.0, g.1, Ran-lawful id n l g.0 r to g.2)
+pub run_lawful : (id : Identity) (n : ℕ) (d : Desk) (r : Result ⊤ Ending) (to : Desk) (old new : Seen) → Goes old new (λ notes. Ran id n d notes r to) → Goes old new (IsLawful id d.live (run_end r) to.live)
+run_lawful id n d r to old new g = (g.0, g.1, Ran-lawful id n d g.0 r to g.2)

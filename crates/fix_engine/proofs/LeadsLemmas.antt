@@ -10,7 +10,22 @@ use Rattle.fix_base.specs.EndStep.{EndState, EndStep, Move, EndRun}
 use Rattle.fix_base.specs.Seen.{ActStores, Stores, Note, acts_of}
 use Rattle.fix_base.proofs.SeenLemmas.{acts_of-append}
 use Rattle.fix_base.proofs.RunLemmas.{EndRun-append}
-use Rattle.fix_engine.specs.Lawful.{MayHold, Leads}
+use Rattle.fix_engine.specs.State.{State, Down, with_phase}
+use Rattle.fix_engine.specs.Lawful as lawful
+use Rattle.fix_engine.specs.Lawful.{IsCertain, IsLost, MayHold, Leads}
+
+pub certain_settled : (s : State) (e : EndState) → IsCertain s e → e.doubt ≡ None
+certain_settled s e h = h.doubt
+
+-- the phase makes no difference to the numbers
+pub settled_phase : (s : State) (e : EndState) → IsCertain s e → IsCertain (with_phase s Down) e
+settled_phase s e h = record { doubt = h.doubt; numbers = record { expected = h.numbers.expected; stored = h.numbers.stored; out = h.numbers.out } }
+
+-- nor to what was lost
+pub lost_down : (s : State) {lost : Record} → IsLost s lost → IsLost (with_phase s Down) lost
+lost_down s (lawful.entry say) = lawful.entry say
+lost_down s (lawful.draft d h) = lawful.draft d h
+lost_down s lawful.number = lawful.number
 
 -- where no record is in doubt a store holds the end
 pub holds_end : (doubt : Option Record) (end : End) (held : Option End) → doubt ≡ None → MayHold doubt end held → held ≡ Some end

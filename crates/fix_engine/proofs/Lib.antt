@@ -13,6 +13,7 @@ pub mod ReadLemmas
 pub mod OnLemmas
 pub mod LawfulSteps
 pub mod LawfulAnswers
+pub mod DraftLeads
 pub mod LawfulRuns
 pub mod EachTime
 pub mod EachFrame
@@ -31,8 +32,6 @@ pub mod RestartLemmas
 pub mod SendLemmas
 pub mod DraftFrames
 pub mod DraftSteps
-pub mod StoreLemmas
-pub mod PlainLemmas
+pub mod HandLemmas
+pub mod Untried
 pub mod KindLemmas
-mod HeldLemmas
-mod RimLemmas

@@ -1,7 +1,7 @@
 -- The state and the place in the stream that are found by looking back.
-use Rattle.std.proofs.Common.{◌≡◌, ◌≢◌, ℕ, ◌+◌, List, [], ◌∷◌, ◌++◌, min, Bool, true, false, Option, Some, None, Ok, refl, sym, ap, ◌∙◌, append_assoc, length-append, arith}
+use Rattle.std.proofs.Common.{◌≡◌, ◌≢◌, ℕ, ◌+◌, List, [], ◌∷◌, ◌++◌, min, Bool, true, false, Option, Some, None, Result, Ok, Err, refl, sym, ap, subst, ◌∙◌, append_assoc, length-append, arith}
 use Rattle.std.proofs.lemmas.List.{append-nil}
-use Rattle.std.specs.Prelude.{if◌then◌else◌}
+use Rattle.std.specs.Prelude.{if◌then◌else◌, OnOk}
 use Rattle.fix_base.specs.declared.identity.Identity.{Identity}
 use Rattle.fix_base.specs.declared.act.Act.{Act}
 use Rattle.fix_base.specs.declared.act.Act.TheVariants as act
@@ -9,15 +9,19 @@ use Rattle.fix_base.specs.declared.entry.Record.TheVariants.{Push, Expect, Reset
 use Rattle.fix_base.specs.Payload.{LAST_TIME}
 use Rattle.fix_base.specs.Reader.{bytes_read}
 use Rattle.fix_base.specs.Stream.{Ahead, Item, Frame, frames}
-use Rattle.fix_base.specs.Seen.{Note, acts_of}
+use Rattle.fix_base.specs.Seen.{Note, Seen, Goes, acts_of}
 use Rattle.fix_base.proofs.Runs.{all_more, all_then, frames-append}
+use Rattle.fix_fields.specs.Drafted.{DraftText}
 use Rattle.fix_frame.specs.Given.{GivesFrame, GivesNone}
-use Rattle.fix_engine.specs.State.{State, Phase, Down, AwaitLogon, Up}
+use Rattle.fix_engine.specs.State.{State, Phase, Down, AwaitLogon, Up, with_reading}
+use Rattle.fix_engine.specs.declared.stop.SendFault.{SendFault}
 use Rattle.fix_engine.specs.Fold.{Each, none, goes}
 use Rattle.fix_engine.specs.Inbound.{Inbound}
 use Rattle.fix_engine.specs.Answer.{Performed, nothing, count, go_up, taken, sent, Handled, answer_in, logon_answer, logon_steps, logout_answer, app_answer, not_built, refused}
-use Rattle.fix_engine.specs.Turn.{fed}
-use Rattle.fix_engine.specs.LookBack.{last_sent, last_kept, last_reading, phase_behind, state_at, AreFramesTo}
+use Rattle.fix_engine.specs.Turn.{Live, live, fed}
+use Rattle.fix_engine.specs.Drafted as drafted
+use Rattle.fix_engine.specs.Drafted.{Drafting, SendsTo}
+use Rattle.fix_engine.specs.LookBack.{last_sent, last_kept, last_reading, phase_behind, state_at, AreFramesTo, AreAll, StandsAt}
 
 -- ---- acts behind others
 
@@ -141,3 +145,67 @@ no_frame stream answered a b f g = record {
 
 pub more_bytes : (stream b : List ℕ) (answered : List (List ℕ)) (a : Ahead) → AreFramesTo stream answered a → AreFramesTo (stream ++ b) answered (fed a b)
 more_bytes stream b answered a f = record { items = f.items; takes = all_more (record { may_mark = true; bytes = stream }) f.items a b f.takes; frames_are = f.frames_are }
+
+-- ---- the place behind acts that read nothing
+
+-- the state behind some acts more
+pub state_more : (start : State) (answered : List (List ℕ)) (acts more : List Act) (s : State) → s.phase ≡ (state_at start answered acts).phase → s.expected ≡ (state_at start answered acts).expected → s.kept ≡ last_kept (last_kept start.kept acts) more → s.last ≡ last_sent (last_sent start.last acts) more → s.reading ≡ last_reading (last_reading start.reading acts) more → s ≡ state_at start answered (acts ++ more)
+state_more start answered acts more s p e k l r =
+    same_state s (state_at start answered (acts ++ more)) p e (k ∙ sym (last_kept-append start.kept acts more)) (l ∙ sym (last_sent-append start.last acts more)) (r ∙ sym (last_reading-append start.reading acts more))
+
+-- the stream behind them
+pub stream_more : (answered : List (List ℕ)) (acts more : List Act) (place : Ahead) → bytes_read more ≡ [] → AreAll answered acts place → AreAll answered (acts ++ more) place
+stream_more answered acts more place unread all = record {
+  stands = subst (λ (w : List ℕ). AreFramesTo w answered place) (sym (bytes_read-append acts more ∙ ap (λ (w : List ℕ). bytes_read acts ++ w) unread ∙ append-nil (bytes_read acts))) all.stands;
+  end = all.end;
+}
+
+-- a look at the clock
+pub clock_stands : (start : State) (answered : List (List ℕ)) (acts : List Act) (l : Live) (t : ℕ) → StandsAt start answered acts l → StandsAt start answered (acts ++ act.Now t ∷ []) (live (with_reading l.state t) l.ahead)
+clock_stands start answered acts l t s = record {
+  state = ap (λ (z : State). with_reading z t) s.state ∙ state_more start answered acts (act.Now t ∷ []) (with_reading (state_at start answered acts) t) refl refl refl refl refl;
+  all = stream_more answered acts (act.Now t ∷ []) l.ahead refl s.all;
+}
+
+-- ---- a draft
+
+-- what a draft that is kept and written, or may not be written, changes
+record Sent (s : State) (notes : List Note) (s' : State) : Type 0 where
+  phase : s'.phase ≡ s.phase
+  expected : s'.expected ≡ s.expected
+  kept : s'.kept ≡ s.kept
+  last : s'.last ≡ last_sent s.last (acts_of notes)
+  reading : s'.reading ≡ s.reading
+  keeps : (n : ℕ) → last_kept n (acts_of notes) ≡ n
+  looks : (t : ℕ) → last_reading t (acts_of notes) ≡ t
+  reads : bytes_read (acts_of notes) ≡ []
+
+draft_sent : (id : Identity) (draft : DraftText) (s : State) (notes : List Note) (n : ℕ) (s' : State) → Drafting id draft s notes (Ok n) s' → Sent s notes s'
+draft_sent id draft s notes n s' (drafted.stored other (drafted.was_kept is)) =
+    record { phase = refl; expected = refl; kept = refl; last = refl; reading = refl; keeps = λ n. refl; looks = λ t. refl; reads = refl }
+draft_sent id draft s notes n s' (drafted.sent text up said (drafted.was_kept is)) =
+    record { phase = refl; expected = refl; kept = refl; last = refl; reading = refl; keeps = λ n. refl; looks = λ t. refl; reads = refl }
+
+-- the state behind it is found by looking back, and the place in the stream is the same
+pub draft_stands : (id : Identity) (start : State) (answered : List (List ℕ)) (acts : List Act) (draft : DraftText) (s : State) (a : Ahead) (notes : List Note) (n : ℕ) (s' : State) → StandsAt start answered acts (live s a) → Drafting id draft s notes (Ok n) s' → StandsAt start answered (acts ++ acts_of notes) (live s' a)
+draft_stands id start answered acts draft s a notes n s' h d =
+    let p = draft_sent id draft s notes n s' d in
+    record {
+      state = state_more start answered acts (acts_of notes) s'
+          (p.phase ∙ ap (λ (z : State). z.phase) h.state)
+          (p.expected ∙ ap (λ (z : State). z.expected) h.state)
+          (p.kept ∙ ap (λ (z : State). z.kept) h.state ∙ sym (p.keeps (last_kept start.kept acts)))
+          (p.last ∙ ap (λ (z : State). last_sent z.last (acts_of notes)) h.state)
+          (p.reading ∙ ap (λ (z : State). z.reading) h.state ∙ sym (p.looks (last_reading start.reading acts)));
+      all = stream_more answered acts (acts_of notes) a p.reads h.all;
+    }
+
+-- so it is behind a `send` that answers a number
+pub send_stands_at : (id : Identity) (draft : DraftText) (start : State) (answered : List (List ℕ)) (acts : List Act) (l to : Live) (n : ℕ) (notes : List Note) → StandsAt start answered acts l → SendsTo id draft l (Ok n) to notes → StandsAt start answered (acts ++ acts_of notes) to
+send_stands_at id draft start answered acts l to n notes h (drafted.sends {s = s} few (drafted.went (drafted.at_time {notes = more} t d))) =
+    subst (λ (w : List Act). StandsAt start answered w (live s l.ahead)) (append_assoc acts (act.Now t ∷ []) (acts_of more))
+    (draft_stands id start answered (acts ++ act.Now t ∷ []) draft (with_reading l.state t) l.ahead more n s (clock_stands start answered acts l t h) d)
+
+pub send_from_here : (id : Identity) (draft : DraftText) (l : Live) (r : Result ℕ SendFault) (to : Live) (old new : Seen) → Goes old new (SendsTo id draft l r to) → OnOk r ((start : State) (answered : List (List ℕ)) (acts : List Act) → StandsAt start answered acts l → Goes old new (λ notes. StandsAt start answered (acts ++ acts_of notes) to))
+send_from_here id draft l (Err why) to old new g = tt
+send_from_here id draft l (Ok n) to old new g = λ start answered acts h. (g.0, g.1, send_stands_at id draft start answered acts l to n g.0 h g.2)

@@ -7,16 +7,22 @@ use Rattle.fix_base.specs.declared.act.Act.TheVariants as act
 use Rattle.fix_base.specs.Lists.{Among, here, there}
 use Rattle.fix_base.specs.Seen.{Note, Did, Failed, LinkPart, Seen, Goes, acts_of}
 use Rattle.fix_base.proofs.SeenLemmas.{acts_of-append}
+use Rattle.fix_fields.specs.Drafted.{DraftText}
 use Rattle.fix_engine.specs.State.{Ending, PeerEnd}
 use Rattle.fix_engine.specs.declared.state.Ending.TheVariants as ending
 use Rattle.fix_engine.specs.declared.stop.RunEnd.TheVariants as run
+use Rattle.fix_engine.specs.declared.stop.SendFault.{SendFault}
+use Rattle.fix_engine.specs.declared.stop.SendFault.TheVariants as fault
+use Rattle.fix_engine.specs.declared.stop.StopCause.TheVariants as cause
 use Rattle.fix_engine.specs.Fold as fold
 use Rattle.fix_engine.specs.Fold.{Each, AndThen, first_ends, both}
 use Rattle.fix_engine.specs.Turn as turn
-use Rattle.fix_engine.specs.Turn.{Live, Taken, Fed, Heard, Clocked, KeptExpected, Turn, OneTurn, Ran}
+use Rattle.fix_engine.specs.Turn.{Live, Taken, Fed, Heard, Clocked, KeptExpected}
+use Rattle.fix_engine.specs.Desk as desk
+use Rattle.fix_engine.specs.Desk.{Desk, sent_ending, Sends, Holding, Offered, beside, Met, Turn, OneTurn, Ran}
 use Rattle.fix_engine.specs.Run.{run_end}
 use Rattle.fix_engine.specs.Turns.{reads_in, ShowsPeerEnd}
-use Rattle.fix_engine.proofs.Turns.{reads_in-append, Answers, Fed-answers, KeptExpected-answers}
+use Rattle.fix_engine.proofs.Turns.{reads_in-append, Answers, Offered-once, Fed-answers, KeptExpected-answers}
 use Rattle.fix_engine.proofs.Shown.{among_before, among_behind, frame_not_over}
 
 among_reads : (acts : List Act) → Among act.Ended acts → 0 < reads_in acts
@@ -24,8 +30,8 @@ among_reads acts here = omega arith
 among_reads acts (there {y = y} {xs = xs} a) = omega (arith, among_reads xs a, reads_in-append (y ∷ []) xs)
 
 -- notes without a read have no end of the connection
-no_end : (notes : List Note) → Answers notes → Among act.Ended (acts_of notes) → ⊥
-no_end notes t a = omega (arith, among_reads (acts_of notes) a, t.reads)
+no_end : (notes : List Note) → reads_in (acts_of notes) ≡ 0 → Among act.Ended (acts_of notes) → ⊥
+no_end notes reads a = omega (arith, among_reads (acts_of notes) a, reads)
 
 among_either : {A : Type 0} (x : A) (xs ys : List A) → Among x (xs ++ ys) → Among x xs ⊎ Among x ys
 among_either x [] ys a = inr a
@@ -42,7 +48,7 @@ Shows r notes = ShowsPeerEnd (run_end r) (acts_of notes)
 shows_too : (r : Result ⊤ Ending) (xs ys : List Note) → Shows r xs → Answers ys → Shows r (xs ++ ys)
 shows_too r xs ys s t = record {
   read = λ h. subst (Among act.Ended) (sym (acts_of-append xs ys)) (among_before act.Ended (acts_of xs) (acts_of ys) (s.read h));
-  only = λ a. elim (either_notes xs ys a) [ inl l ↦ s.only l | inr m ↦ absurd (no_end ys t m) ];
+  only = λ a. elim (either_notes xs ys a) [ inl l ↦ s.only l | inr m ↦ absurd (no_end ys t.reads m) ];
 }
 
 -- what went on has no end, and another part follows
@@ -66,7 +72,7 @@ Fed-not_over id b l notes r to (turn.fed_frames d) h = Taken-not_over id _ notes
 Fed-not_over id b l notes r to turn.fed_memory h = cc
 
 behind_read : (b : List ℕ) (notes : List Note) → Answers notes → Among act.Ended (act.Read b ∷ acts_of notes) → ⊥
-behind_read b notes t (there a) = no_end notes t a
+behind_read b notes t (there a) = no_end notes t.reads a
 
 none_of_one : (x : Act) → Among act.Ended (x ∷ []) → (x ≡ act.Ended → ⊥) → ⊥
 none_of_one x here other = other refl
@@ -86,30 +92,63 @@ Clocked-shows : (l : Live) (notes : List Note) (r : Result ⊤ Ending) (to : Liv
 Clocked-shows l notes r to (turn.now t) = shows_none (Ok tt) (Did (act.Now t) ∷ []) (λ h. cc) (λ a. none_of_one (act.Now t) a (λ e. cc))
 Clocked-shows l notes r to turn.now_memory = shows_none (Err ending.OutOfMemory) [] (λ h. cc) none_of_none
 
-Met-shows : (id : Identity) (l : Live) (notes : List Note) (r : Result ⊤ Ending) (to : Live) → AndThen (Heard id) Clocked l notes r to → Shows r notes
-Met-shows id l notes r to (first_ends {e = e} d) = Heard-shows id l notes (Err e) to d
-Met-shows id l notes r to (both {mid = mid} {first = first} {more = more} d k) = shows_then r first more (Heard-shows id l first (Ok tt) mid d) (Clocked-shows mid more r to k)
+Looked-shows : (id : Identity) (l : Live) (notes : List Note) (r : Result ⊤ Ending) (to : Live) → AndThen (Heard id) Clocked l notes r to → Shows r notes
+Looked-shows id l notes r to (first_ends {e = e} d) = Heard-shows id l notes (Err e) to d
+Looked-shows id l notes r to (both {mid = mid} {first = first} {more = more} d k) = shows_then r first more (Heard-shows id l first (Ok tt) mid d) (Clocked-shows mid more r to k)
+
+-- the sending of a draft ends no connection
+sent_not_over : (r : Result ℕ SendFault) → run_end (sent_ending r) ≡ run.Closed PeerEnd → ⊥
+sent_not_over (Ok n) h = cc
+sent_not_over (Err (fault.Stopped cause.StoreFault)) h = cc
+sent_not_over (Err (fault.Stopped cause.AppFault)) h = cc
+sent_not_over (Err (fault.Stopped cause.OutOfMemory)) h = cc
+sent_not_over (Err fault.NumbersSpent) h = cc
+sent_not_over (Err fault.OutOfMemory) h = cc
+sent_not_over (Err fault.StoreFault) h = cc
+sent_not_over (Err (fault.LinkFault n)) h = cc
+
+Sends-not_over : (id : Identity) (draft : DraftText) {d to : Desk} {notes : List Note} {r : Result ⊤ Ending} → Sends id draft d notes r to → run_end r ≡ run.Closed PeerEnd → ⊥
+Sends-not_over id draft (desk.spent full) h = cc
+Sends-not_over id draft (desk.sends {r = x} small is k) h = sent_not_over x h
+
+Holding-not_over : (id : Identity) {d to : Desk} {notes : List Note} {r : Result ⊤ Ending} → Holding id d notes r to → run_end r ≡ run.Closed PeerEnd → ⊥
+Holding-not_over id (desk.empty held_none) h = cc
+Holding-not_over id (desk.holds draft some k) h = Sends-not_over id draft k h
+
+Offered-not_over : (id : Identity) {d to : Desk} {notes : List Note} {r : Result ⊤ Ending} → Offered id d notes r to → run_end r ≡ run.Closed PeerEnd → ⊥
+Offered-not_over id (desk.not_up other) h = cc
+Offered-not_over id (desk.asked given up held_none k) h = Holding-not_over id k h
+Offered-not_over id (desk.was_in_hand draft up some k) h = Sends-not_over id draft k h
+
+Offered-shows : (id : Identity) (d : Desk) (notes : List Note) (r : Result ⊤ Ending) (to : Desk) → Offered id d notes r to → Shows r notes
+Offered-shows id d notes r to k =
+    let o = Offered-once id d notes r to k in
+    shows_none r notes (λ h. Offered-not_over id k h) (λ a. no_end notes o.tallies.reads a)
+
+Met-shows : (id : Identity) (d : Desk) (notes : List Note) (r : Result ⊤ Ending) (to : Desk) → Met id d notes r to → Shows r notes
+Met-shows id d notes r to (first_ends {e = e} k) = Offered-shows id d notes (Err e) to k
+Met-shows id d notes r to (both {mid = mid} {first = first} {more = more} k (beside {to = end} h)) = shows_then r first more (Offered-shows id d first (Ok tt) mid k) (Looked-shows id mid.live more r end h)
 
 unkept : (l to : Live) (notes all : List Note) (e : Ending) → KeptExpected l notes (Err e) to → Shows (Err e) all
 unkept l to notes all e (turn.expect_lost h) = record { read = λ h. absurd cc; only = λ a. tt }
 unkept l to notes all e (turn.expect_memory h) = record { read = λ h. absurd cc; only = λ a. tt }
 
-Turn-shows : (id : Identity) (l : Live) (notes : List Note) (r : Result ⊤ Ending) (to : Live) → Turn id l notes r to → Shows r notes
-Turn-shows id l notes r to (turn.stops h d) = Met-shows id l notes r to d
-Turn-shows id l notes r to (turn.keeps {mid = mid} {first = first} {more = more} h d k) = shows_too r first more (Met-shows id l first r mid d) (KeptExpected-answers mid more (Ok tt) to k)
-Turn-shows id l notes r to (turn.keeps_not {mid = mid} {first = first} {more = more} {e = e} h d k) = unkept mid to more (first ++ more) e k
+Turn-shows : (id : Identity) (d : Desk) (notes : List Note) (r : Result ⊤ Ending) (to : Desk) → Turn id d notes r to → Shows r notes
+Turn-shows id d notes r to (desk.stops h k) = Met-shows id d notes r to k
+Turn-shows id d notes r to (desk.keeps {mid = mid} {first = first} {more = more} h k (beside {to = end} e)) = shows_too r first more (Met-shows id d first r mid k) (KeptExpected-answers mid.live more (Ok tt) end e)
+Turn-shows id d notes r to (desk.keeps_not {mid = mid} {first = first} {more = more} {e = e} h k (beside {to = end} lost)) = unkept mid.live end more (first ++ more) e lost
 
-Turns-show : (id : Identity) (us : List ⊤) (l : Live) (notes : List Note) (r : Result ⊤ Ending) (to : Live) → Each (OneTurn id) l us notes r to → Shows r notes
-Turns-show id [] l notes r to fold.none = shows_none (Ok tt) [] (λ h. cc) none_of_none
-Turns-show id (u ∷ us) l notes r to (fold.ends {e = e} d) = Turn-shows id l notes (Err e) to d
-Turns-show id (u ∷ us) l notes r to (fold.goes {mid = mid} {first = first} {more = more} d k) = shows_then r first more (Turn-shows id l first (Ok tt) mid d) (Turns-show id us mid more r to k)
+Turns-show : (id : Identity) (us : List ⊤) (d : Desk) (notes : List Note) (r : Result ⊤ Ending) (to : Desk) → Each (OneTurn id) d us notes r to → Shows r notes
+Turns-show id [] d notes r to fold.none = shows_none (Ok tt) [] (λ h. cc) none_of_none
+Turns-show id (u ∷ us) d notes r to (fold.ends {e = e} k) = Turn-shows id d notes (Err e) to k
+Turns-show id (u ∷ us) d notes r to (fold.goes {mid = mid} {first = first} {more = more} k rest) = shows_then r first more (Turn-shows id d first (Ok tt) mid k) (Turns-show id us mid more r to rest)
 
-Ran-shows : (id : Identity) (n : ℕ) (l : Live) (notes : List Note) (r : Result ⊤ Ending) (to : Live) → Ran id n l notes r to → Shows r notes
-Ran-shows id n l notes r to (turn.all_turns d) = Turns-show id (replicate n tt) l notes (Ok tt) to d
-Ran-shows id n l notes r to (turn.cut {to = at} {notes = xs} {e = e} h d) = shows_too (Err e) xs (Did act.Cut ∷ []) (Turns-show id (replicate n tt) l xs (Err e) at d) (record { reads = refl; looks = refl })
-Ran-shows id n l notes r to (turn.cut_memory h d) = record { read = λ h. absurd cc; only = λ a. tt }
-Ran-shows id n l notes r to (turn.no_cut {to = at} {e = e} h d) = Turns-show id (replicate n tt) l notes (Err e) at d
+Ran-shows : (id : Identity) (n : ℕ) (d : Desk) (notes : List Note) (r : Result ⊤ Ending) (to : Desk) → Ran id n d notes r to → Shows r notes
+Ran-shows id n d notes r to (desk.all_turns k) = Turns-show id (replicate n tt) d notes (Ok tt) to k
+Ran-shows id n d notes r to (desk.cut {to = at} {notes = xs} {e = e} h k) = shows_too (Err e) xs (Did act.Cut ∷ []) (Turns-show id (replicate n tt) d xs (Err e) at k) (record { reads = refl; looks = refl; asks = refl })
+Ran-shows id n d notes r to (desk.cut_memory h k) = record { read = λ h. absurd cc; only = λ a. tt }
+Ran-shows id n d notes r to (desk.no_cut {to = at} {e = e} h k) = Turns-show id (replicate n tt) d notes (Err e) at k
 
 -- a run answers the other side's end just where it read it
-pub shows_peer_end : (id : Identity) (n : ℕ) (l : Live) (r : Result ⊤ Ending) (to : Live) (old new : Seen) → Goes old new (λ notes. Ran id n l notes r to) → Goes old new (λ notes. ShowsPeerEnd (run_end r) (acts_of notes))
-shows_peer_end id n l r to old new g = (g.0, g.1, Ran-shows id n l g.0 r to g.2)
+pub shows_peer_end : (id : Identity) (n : ℕ) (d : Desk) (r : Result ⊤ Ending) (to : Desk) (old new : Seen) → Goes old new (λ notes. Ran id n d notes r to) → Goes old new (λ notes. ShowsPeerEnd (run_end r) (acts_of notes))
+shows_peer_end id n d r to old new g = (g.0, g.1, Ran-shows id n d g.0 r to g.2)

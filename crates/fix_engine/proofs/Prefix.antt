@@ -1,6 +1,6 @@
 -- Where no part failed, a run is as stated, or memory was refused and it would have gone on.
 use Rattle.std.proofs.Common.{◌≡◌, ◌≢◌, inl, inr, ℕ, zero, suc, ◌+◌, ◌<◌, ◌≤◌, List, [], ◌∷◌, ◌++◌, length, Bool, true, false, Option, Some, None, Result, Ok, Err, refl, sym, ap, subst, append_assoc, arith, replicate}
-use Rattle.std.specs.Prelude.{⊤, IfSome, if◌then◌else◌, not, codes}
+use Rattle.std.specs.Prelude.{⊤, ◌==◌, IfSome, option_map, if◌then◌else◌, not, codes}
 use Rattle.std.specs.List.{AllByRecursion}
 use Rattle.std.proofs.lemmas.List.{append-nil}
 use Rattle.std.proofs.lemmas.Bool.{cases_lt}
@@ -15,22 +15,30 @@ use Rattle.fix_base.specs.Sealed.{sealed}
 use Rattle.fix_base.specs.declared.act.Act.TheVariants as act
 use Rattle.fix_base.specs.declared.entry.Record.TheVariants.{Push, Expect}
 use Rattle.fix_base.specs.Seen.{Note, Did, Failed, Asked, StorePart, LinkPart, AppPart, Seen, Faults, Counts, NoneRose, Goes}
+use Rattle.fix_fields.specs.Drafted.{DraftText, IsDraft, draft_body}
 use Rattle.fix_frame.specs.Sealable.{message_text}
 use Rattle.fix_frame.specs.Given.{GivesFrame}
 use Rattle.fix_engine.specs.State.{State, Phase, Down, AwaitLogon, Up, Ending, Say, Step, with_kept, with_last, counted}
 use Rattle.fix_engine.specs.declared.state.Ending.TheVariants as ending
 use Rattle.fix_engine.specs.declared.state.Step.TheVariants as step
+use Rattle.fix_engine.specs.declared.hand.Hand.{Hand}
+use Rattle.fix_engine.specs.declared.stop.SendFault.{SendFault}
 use Rattle.fix_engine.specs.Fold.{Each, none, ends, goes, AndThen, first_ends, both}
 use Rattle.fix_engine.specs.Inbound.{Inbound, IsInbound, IsLogon}
 use Rattle.fix_engine.specs.Written.{header_fields}
 use Rattle.fix_engine.specs.Answer as answer
-use Rattle.fix_engine.specs.Answer.{Performed, Carried, Handled, IsSaid, IsSayable, kind_of, fields_of, entry_of, answer_to, answer_in, logon_answer, logout_answer, app_answer, not_built, refused, is_in_order, is_app_type, names}
+use Rattle.fix_engine.specs.Answer.{Performed, Handled, IsSaid, IsSayable, kind_of, fields_of, entry_of, answer_to, answer_in, logon_answer, logout_answer, app_answer, not_built, refused, is_in_order, is_app_type, names}
 use Rattle.fix_engine.specs.Turn as turn
-use Rattle.fix_engine.specs.Turn.{Live, live, fed, down, Taken, Fed, Heard, Clocked, KeptExpected, Turn, OneTurn, Turns, Ran, settles_of, is_cut_of}
+use Rattle.fix_engine.specs.Turn.{Live, live, fed, Taken, Heard, Clocked, KeptExpected, settles_of, is_cut_of}
+use Rattle.fix_engine.specs.Drafted as drafted
+use Rattle.fix_engine.specs.Drafted.{IsOfDraft, Drafting, entry_of_draft}
+use Rattle.fix_engine.specs.Desk as turns
+use Rattle.fix_engine.specs.Desk.{Desk, desk, put_down, Sends, Offered, Beside, beside, Met, Turn, OneTurn, Turns, Ran, sent_ending, hand_behind, is_store_fault, no_draft, in_hand}
 use Rattle.fix_engine.specs.Run.{run_end}
 use Rattle.fix_engine.specs.Stated.{IsFaultless, GoesOn, CanNotFail, IsAsStated}
 use Rattle.fix_engine.proofs.EachTime.{each_time}
 use Rattle.fix_engine.proofs.EachFrame.{Next, frame_next, none_next, each_presents, each_next}
+use Rattle.fix_engine.proofs.DraftFrames.{draft_frame}
 use Rattle.fix_engine.proofs.FrameLemmas.{fields_in, frame_has}
 use Rattle.fix_engine.proofs.SaidLemmas.{said_frame}
 use Rattle.fix_engine.proofs.TakenLemmas.{frame_shortens}
@@ -72,6 +80,10 @@ Resumes {S} Good R = (s : S) (notes : List Note) (s' : S) → Good s → R s not
 abbrev Stays : {S : Type 0} → (S → Type 0) → (S → List Note → Result ⊤ Ending → S → Type 0) → Type 0
 Stays {S} Good R = (s : S) (notes : List Note) (r : Result ⊤ Ending) (s' : S) → Good s → R s notes r s' → Good s'
 
+-- the same, where the expected number is kept behind this end
+abbrev Settles : {S : Type 0} → (S → Type 0) → (S → List Note → Result ⊤ Ending → S → Type 0) → Type 0
+Settles {S} Good R = (s : S) (notes : List Note) (r : Result ⊤ Ending) (s' : S) → settles_of r ≡ true → Good s → R s notes r s' → Good s'
+
 abbrev failed : Ending → Result ⊤ Ending
 failed e = Err e
 
@@ -106,11 +118,11 @@ module _ {S X : Type 0} (Good : S → Type 0) (R : S → X → List Note → Res
   Each-total Fit one [] fit s ok = record { more = []; faultless = tt; r = Ok tt; to = s; good = ok; whole = none; no_want = Ok-no_want }
   Each-total Fit one (x ∷ xs) fit s ok = then_onward x xs s [] (Each-total Fit one xs fit.1) (one x fit.0 s ok)
 
-  Each-resumes : (Fit : X → Type 0) → ((x : X) → Fit x → Total Good (λ s. R s x)) → ((x : X) → Fit x → Resumes Good (λ s. R s x)) → ((x : X) → Stays Good (λ s. R s x)) → (xs : List X) → AllByRecursion Fit xs → Resumes Good (λ s. Each R s xs)
+  Each-resumes : (Fit : X → Type 0) → ((x : X) → Fit x → Total Good (λ s. R s x)) → ((x : X) → Fit x → Resumes Good (λ s. R s x)) → ((x : X) → Settles Good (λ s. R s x)) → (xs : List X) → AllByRecursion Fit xs → Resumes Good (λ s. Each R s xs)
   Each-resumes Fit one again stays [] fit s notes s' ok d = elim d [ ]
   Each-resumes Fit one again stays (x ∷ xs) fit s notes s' ok (ends d) = λ k. again x fit.0 s notes s' ok d (λ t. k (then_onward x xs s notes (Each-total Fit one xs fit.1) t))
   Each-resumes Fit one again stays (x ∷ xs) fit s notes s' ok (goes {mid = mid} {first = a} {more = b} d k) =
-      λ hold. Each-resumes Fit one again stays xs fit.1 mid b s' (stays x s a (Ok tt) mid ok d) k (λ t. hold (record {
+      λ hold. Each-resumes Fit one again stays xs fit.1 mid b s' (stays x s a (Ok tt) mid refl ok d) k (λ t. hold (record {
         more = t.more;
         faultless = t.faultless;
         r = t.r;
@@ -124,6 +136,45 @@ module _ {S X : Type 0} (Good : S → Type 0) (R : S → X → List Note → Res
   Each-stays stays [] s notes r s' ok none = ok
   Each-stays stays (x ∷ xs) s notes r s' ok (ends {e = e} d) = stays x s notes (Err e) s' ok d
   Each-stays stays (x ∷ xs) s notes r s' ok (goes {mid = mid} {first = a} {more = b} d k) = Each-stays stays xs mid b r s' (stays x s a (Ok tt) mid ok d) k
+
+-- ---- one and then another
+
+module _ {S : Type 0} (Good : S → Type 0) (A B : S → List Note → Result ⊤ Ending → S → Type 0) where
+  both_onward : Total Good B → (s : S) (notes : List Note) → Onward Good A s notes → Onward Good (AndThen A B) s notes
+  both_onward total s notes g = by-answer g.r g.to g.good g.whole g.no_want
+    where
+      by-answer : (r : Result ⊤ Ending) (to : S) → Good to → A s (notes ++ g.more) r to → r ≢ Err ending.OutOfMemory → Onward Good (AndThen A B) s notes
+      by-answer (Err e) to ok d n = record { more = g.more; faultless = g.faultless; r = Err e; to = to; good = ok; whole = first_ends d; no_want = n }
+      by-answer (Ok x) to ok d n =
+          let t = total to ok in
+          record {
+            more = g.more ++ t.more;
+            faultless = IsFaultless-append g.more t.more g.faultless t.faultless;
+            r = t.r;
+            to = t.to;
+            good = t.good;
+            whole = subst (λ w. AndThen A B s w t.r t.to) (append_assoc notes g.more t.more) (both d t.whole);
+            no_want = t.no_want;
+          }
+
+  both-total : Total Good A → Total Good B → Total Good (AndThen A B)
+  both-total first total s ok = both_onward total s [] (first s ok)
+
+  both-resumes : Total Good B → Resumes Good A → Resumes Good B → Settles Good A → Resumes Good (AndThen A B)
+  both-resumes total first more stays s notes s' ok (first_ends d) = λ hold. first s notes s' ok d (λ g. hold (both_onward total s notes g))
+  both-resumes total first more stays s notes s' ok (both {mid = mid} {first = a} {more = b} d k) = λ hold. more mid b s' (stays s a (Ok tt) mid refl ok d) k (λ t. hold (record {
+    more = t.more;
+    faultless = t.faultless;
+    r = t.r;
+    to = t.to;
+    good = t.good;
+    whole = subst (λ w. AndThen A B s w t.r t.to) (sym (append_assoc a b t.more)) (both d t.whole);
+    no_want = t.no_want;
+  }))
+
+  both-settles : Settles Good A → Settles Good B → Settles Good (AndThen A B)
+  both-settles first more s notes r s' h ok (first_ends {e = e} d) = first s notes (Err e) s' h ok d
+  both-settles first more s notes r s' h ok (both {mid = mid} {first = a} {more = b} d k) = more mid b r s' h (first s a (Ok tt) mid refl ok d) k
 
 -- ---- the steps of an answer
 
@@ -232,7 +283,7 @@ Handled-total id frame valid f s ok = λ hold. each_presents frame f (λ p.
 
 Handled-resumes : (id : Identity) (frame : List ℕ) → IsValidIdentity id → IsFrame frame → Resumes IsTimely (λ s. Handled id s frame)
 Handled-resumes id frame valid f s notes s' ok d = λ hold.
-    Each-resumes IsTimely (Performed id frame) IsFit (Performed-total id frame valid f) (Performed-resumes id frame valid f) (Performed-stays id frame) (answer_to id s d.inbound) (answers-fit frame s.phase id s d.inbound d.presents) s notes s' ok d.carried
+    Each-resumes IsTimely (Performed id frame) IsFit (Performed-total id frame valid f) (Performed-resumes id frame valid f) (λ x s notes r s' h. Performed-stays id frame x s notes r s') (answer_to id s d.inbound) (answers-fit frame s.phase id s d.inbound d.presents) s notes s' ok d.carried
     (λ t. hold (record { more = t.more; faultless = t.faultless; r = t.r; to = t.to; good = t.good; whole = record { inbound = d.inbound; presents = d.presents; carried = t.whole }; no_want = t.no_want }))
 
 Handled-stays : (id : Identity) (frame : List ℕ) → Stays IsTimely (λ s. Handled id s frame)
@@ -311,53 +362,196 @@ Heard-stays id l notes r to ok turn.over = ok
 Heard-stays id l notes r to ok turn.read_lost = ok
 Heard-stays id l notes r to ok turn.read_memory = ok
 
-Clocked-total : (l : Live) → Onward IsOnTime Clocked l []
-Clocked-total l = record { more = Did (act.Now 0) ∷ []; faultless = tt; r = Ok tt; to = _; good = omega arith; whole = turn.now 0; no_want = Ok-no_want }
+Heard-settles : (id : Identity) → Settles IsOnTime (Heard id)
+Heard-settles id l notes r to h ok d = Heard-stays id l notes r to ok d
 
-Clocked-resumes : (l : Live) (notes : List Note) (to : Live) → Clocked l notes (Err ending.OutOfMemory) to → Onward IsOnTime Clocked l notes
-Clocked-resumes l notes to turn.now_memory = Clocked-total l
+Clocked-total : Total IsOnTime Clocked
+Clocked-total l ok = record { more = Did (act.Now 0) ∷ []; faultless = tt; r = Ok tt; to = _; good = omega arith; whole = turn.now 0; no_want = Ok-no_want }
 
-Clocked-stays : Stays IsOnTime Clocked
-Clocked-stays l notes r to ok (turn.now t) = omega arith
-Clocked-stays l notes r to ok turn.now_memory = ok
+Clocked-resumes : Resumes IsOnTime Clocked
+Clocked-resumes l notes to ok turn.now_memory = λ hold. hold (Clocked-total l ok)
 
-met_onward : (id : Identity) (l : Live) (notes : List Note) → Onward IsOnTime (Heard id) l notes → Onward IsOnTime (AndThen (Heard id) Clocked) l notes
-met_onward id l notes g = by-answer g.r g.to g.good g.whole g.no_want
+Clocked-settles : Settles IsOnTime Clocked
+Clocked-settles l notes r to h ok (turn.now t) = omega arith
+Clocked-settles l notes r to h ok turn.now_memory = ok
+
+abbrev Read : Identity → Live → List Note → Result ⊤ Ending → Live → Type 0
+Read id = AndThen (Heard id) Clocked
+
+Read-total : (id : Identity) → Total IsOnTime (Read id)
+Read-total id = both-total IsOnTime (Heard id) Clocked (Heard-total id) Clocked-total
+
+Read-resumes : (id : Identity) → IsValidIdentity id → Resumes IsOnTime (Read id)
+Read-resumes id valid = both-resumes IsOnTime (Heard id) Clocked Clocked-total (Heard-resumes id valid) Clocked-resumes (Heard-settles id)
+
+Read-settles : (id : Identity) → Settles IsOnTime (Read id)
+Read-settles id = both-settles IsOnTime (Heard id) Clocked (Heard-settles id) Clocked-settles
+
+-- ---- a draft
+
+-- what is in hand is a draft, if there is one
+abbrev IsOfDrafts : Hand → Type 0
+IsOfDrafts h = IfSome h.draft IsDraft
+
+-- and the state's reading has a text
+record IsReady (d : Desk) : Type 0 where
+  on_time : IsOnTime d.live
+  drafts : IsOfDrafts d.hand
+
+-- the frame of a draft
+abbrev Framed : Identity → State → DraftText → Type 0
+Framed id s draft = (text : List ℕ) × IsOfDraft id (s.last + 1) s.reading draft text
+
+framed : (id : Identity) (s : State) (draft : DraftText) → IsValidIdentity id → s.last < 999999999 → IsTimely s → IsDraft draft → Framed id s draft
+framed id s draft valid few timely is =
+    let at = each_time s.reading timely in
+    let header : List ℕ = fields_text (header_fields id (s.last + 1) at.0) in
+    (sealed id.begin (message_text draft.kind header draft.rest), draft_frame id (s.last + 1) s.reading draft header draft.rest _ valid (omega arith) is (record { at = at.0; sent_at = at.1; spelled = refl }) refl refl)
+
+behind_drafts : {T : Type 0} (draft : DraftText) (before last : ℕ) (r : Result T SendFault) → IsDraft draft → IsOfDrafts (hand_behind draft before last r)
+behind_drafts draft before last r is = by-test IsOfDrafts (last == before) (record { draft = Some draft; tried = is_store_fault r }) no_draft is tt
+
+-- the draft is kept and written, of which this is noted so far
+abbrev draft_notes : State → DraftText → List ℕ → List Note
+draft_notes s draft text = Did (act.Kept (Push (entry_of_draft s draft))) ∷ Did (act.Wrote text) ∷ []
+
+draft_onward : (id : Identity) (draft : DraftText) (d : Desk) (notes more : List Note) (text : List ℕ) → IsOnTime d.live → d.live.state.last < 999999999 → IsDraft draft → d.live.state.phase ≡ Up → IsOfDraft id (d.live.state.last + 1) d.live.state.reading draft text → IsFaultless more → notes ++ more ≡ draft_notes d.live.state draft text → Onward IsReady (Sends id draft) d notes
+draft_onward id draft d notes more text ok few is up framed calm same =
+    let s = d.live.state in
+    let sent : Result ℕ SendFault = Ok (s.last + 1) in
+    let to = desk (live (with_last s (s.last + 1)) d.live.ahead) (hand_behind draft s.last (s.last + 1) sent) in
+    record {
+      more = more;
+      faultless = calm;
+      r = Ok tt;
+      to = to;
+      good = record { on_time = ok; drafts = behind_drafts draft s.last (s.last + 1) sent is };
+      whole = subst (λ w. Sends id draft d w (Ok tt) to) (sym same) (turns.sends few is (drafted.sent text up framed (drafted.was_kept is)));
+      no_want = Ok-no_want;
+    }
+
+Sends-total : (id : Identity) → IsValidIdentity id → (draft : DraftText) (d : Desk) → IsOnTime d.live → IsDraft draft → d.live.state.phase ≡ Up → Onward IsReady (Sends id draft) d []
+Sends-total id valid draft d ok is up =
+    elim (cases_lt d.live.state.last 999999999) [
+      | inr h ↦ record { more = []; faultless = tt; r = Err ending.NumbersSpent; to = desk d.live (in_hand draft); good = record { on_time = ok; drafts = is }; whole = turns.spent h; no_want = λ h. cc }
+      | inl h ↦ (let t = framed id d.live.state draft valid h ok is in draft_onward id draft d [] (draft_notes d.live.state draft t.0) t.0 ok h is up t.1 tt refl)
+    ]
+
+draft_resumes : (id : Identity) → IsValidIdentity id → (draft : DraftText) (d : Desk) (notes : List Note) (r : Result ℕ SendFault) (s' : State) → IsOnTime d.live → d.live.state.last < 999999999 → IsDraft draft → d.live.state.phase ≡ Up → sent_ending r ≡ Err ending.OutOfMemory → Drafting id draft d.live.state notes r s' → Onward IsReady (Sends id draft) d notes
+draft_resumes id valid draft d notes r s' ok few is up want drafted.no_memory =
+    let t = framed id d.live.state draft valid few ok is in
+    draft_onward id draft d [] (draft_notes d.live.state draft t.0) t.0 ok few is up t.1 tt refl
+draft_resumes id valid draft d notes r s' ok few is up want (drafted.write_memory up' (drafted.was_kept is')) =
+    let t = framed id d.live.state draft valid few ok is in
+    draft_onward id draft d notes (Did (act.Wrote t.0) ∷ []) t.0 ok few is up t.1 tt refl
+draft_resumes id valid draft d notes r s' ok few is up want (drafted.lost k) = absurd cc
+draft_resumes id valid draft d notes r s' ok few is up want (drafted.stored other k) = absurd cc
+draft_resumes id valid draft d notes r s' ok few is up want (drafted.sent text up' said k) = absurd cc
+draft_resumes id valid draft d notes r s' ok few is up want (drafted.write_lost text n up' said k) = absurd cc
+
+Sends-resumes : (id : Identity) → IsValidIdentity id → (draft : DraftText) (d : Desk) (notes : List Note) (r : Result ⊤ Ending) (to : Desk) → IsOnTime d.live → d.live.state.phase ≡ Up → r ≡ Err ending.OutOfMemory → Sends id draft d notes r to → Onward IsReady (Sends id draft) d notes
+Sends-resumes id valid draft d notes r to ok up want (turns.spent few) = absurd cc
+Sends-resumes id valid draft d notes r to ok up want (turns.sends {r = sent} {s = s} few is k) = draft_resumes id valid draft d notes sent s ok few is up want k
+
+-- a draft changes no reading
+draft_timely : (id : Identity) (draft : DraftText) (s : State) (notes : List Note) (r : Result ℕ SendFault) (s' : State) → IsTimely s → Drafting id draft s notes r s' → IsTimely s'
+draft_timely id draft s notes r s' ok drafted.no_memory = ok
+draft_timely id draft s notes r s' ok (drafted.lost (drafted.kept_lost is)) = ok
+draft_timely id draft s notes r s' ok (drafted.stored other (drafted.was_kept is)) = ok
+draft_timely id draft s notes r s' ok (drafted.sent text up said (drafted.was_kept is)) = ok
+draft_timely id draft s notes r s' ok (drafted.write_lost text n up said (drafted.was_kept is)) = ok
+draft_timely id draft s notes r s' ok (drafted.write_memory up (drafted.was_kept is)) = ok
+
+Sends-settles : (id : Identity) (draft : DraftText) (d : Desk) (notes : List Note) (r : Result ⊤ Ending) (to : Desk) → settles_of r ≡ true → IsOnTime d.live → Sends id draft d notes r to → IsReady to
+Sends-settles id draft d notes r to h ok (turns.spent few) = absurd cc
+Sends-settles id draft d notes r to h ok (turns.sends {r = sent} {s = s} few is k) = record { on_time = draft_timely id draft d.live.state notes sent s ok k; drafts = behind_drafts draft d.live.state.last s.last sent is }
+
+in_hand_is : (h : Hand) (draft : DraftText) → IsOfDrafts h → h.draft ≡ Some draft → IsDraft draft
+in_hand_is h draft ok some = subst (λ (x : Option DraftText). IfSome x IsDraft) some ok
+
+-- the application was asked, and has none
+asked_none : (id : Identity) (d : Desk) → IsReady d → d.live.state.phase ≡ Up → d.hand.draft ≡ None → Onward IsReady (Offered id) d []
+asked_none id d ok up free = record {
+  more = Asked None ∷ [];
+  faultless = tt;
+  r = Ok tt;
+  to = desk d.live (record { draft = None; tried = d.hand.tried });
+  good = record { on_time = ok.on_time; drafts = tt };
+  whole = turns.asked None up free (turns.empty refl);
+  no_want = Ok-no_want;
+}
+
+hand_onward : (id : Identity) (d : Desk) (draft : DraftText) (notes : List Note) → d.live.state.phase ≡ Up → d.hand.draft ≡ Some draft → Onward IsReady (Sends id draft) d notes → Onward IsReady (Offered id) d notes
+hand_onward id d draft notes up some t = record { more = t.more; faultless = t.faultless; r = t.r; to = t.to; good = t.good; whole = turns.was_in_hand draft up some t.whole; no_want = t.no_want }
+
+Offered-up : (id : Identity) → IsValidIdentity id → (d : Desk) → IsReady d → d.live.state.phase ≡ Up → Onward IsReady (Offered id) d []
+Offered-up id valid d ok up = by-hand d.hand.draft refl
   where
-    by-answer : (r : Result ⊤ Ending) (to : Live) → IsOnTime to → Heard id l (notes ++ g.more) r to → r ≢ Err ending.OutOfMemory → Onward IsOnTime (AndThen (Heard id) Clocked) l notes
-    by-answer (Err e) to ok d n = record { more = g.more; faultless = g.faultless; r = Err e; to = to; good = ok; whole = first_ends d; no_want = n }
-    by-answer (Ok x) to ok d n =
-        let t = Clocked-total to in
-        record {
-          more = g.more ++ t.more;
-          faultless = IsFaultless-append g.more t.more g.faultless t.faultless;
-          r = t.r;
-          to = t.to;
-          good = t.good;
-          whole = subst (λ w. AndThen (Heard id) Clocked l w t.r t.to) (append_assoc notes g.more t.more) (both d t.whole);
-          no_want = t.no_want;
-        }
+    by-hand : (x : Option DraftText) → d.hand.draft ≡ x → Onward IsReady (Offered id) d []
+    by-hand None free = asked_none id d ok up free
+    by-hand (Some draft) some = hand_onward id d draft [] up some (Sends-total id valid draft d ok.on_time (in_hand_is d.hand draft ok.drafts some) up)
 
-Met-total : (id : Identity) → Total IsOnTime (AndThen (Heard id) Clocked)
-Met-total id l ok = met_onward id l [] (Heard-total id l ok)
+Offered-total : (id : Identity) → IsValidIdentity id → Total IsReady (Offered id)
+Offered-total id valid d ok = by-phase d.live.state.phase refl
+  where
+    not_up : d.live.state.phase ≢ Up → Onward IsReady (Offered id) d []
+    not_up other = record { more = []; faultless = tt; r = Ok tt; to = d; good = ok; whole = turns.not_up other; no_want = Ok-no_want }
 
-Met-resumes : (id : Identity) → IsValidIdentity id → Resumes IsOnTime (AndThen (Heard id) Clocked)
-Met-resumes id valid l notes to ok (first_ends d) = λ hold. Heard-resumes id valid l notes to ok d (λ g. hold (met_onward id l notes g))
-Met-resumes id valid l notes to ok (both {mid = mid} {first = first} {more = more} d k) =
-    let t = Clocked-resumes mid more to k in
-    λ hold. hold (record {
-      more = t.more;
-      faultless = t.faultless;
-      r = t.r;
-      to = t.to;
-      good = t.good;
-      whole = subst (λ w. AndThen (Heard id) Clocked l w t.r t.to) (sym (append_assoc first more t.more)) (both d t.whole);
-      no_want = t.no_want;
-    })
+    by-phase : (p : Phase) → d.live.state.phase ≡ p → Onward IsReady (Offered id) d []
+    by-phase Down is = not_up (λ h. cc)
+    by-phase AwaitLogon is = not_up (λ h. cc)
+    by-phase Up is = Offered-up id valid d ok is
 
-Met-stays : (id : Identity) → Stays IsOnTime (AndThen (Heard id) Clocked)
-Met-stays id l notes r to ok (first_ends {e = e} d) = Heard-stays id l notes (Err e) to ok d
-Met-stays id l notes r to ok (both {mid = mid} {first = first} {more = more} d k) = Clocked-stays mid more r to (Heard-stays id l first (Ok tt) mid ok d) k
+-- the desk where the application gave this
+abbrev given_to : Desk → Option DraftText → Desk
+given_to d given = desk d.live (record { draft = given; tried = d.hand.tried })
+
+asked_onward : (id : Identity) (d : Desk) (given : Option DraftText) (draft : DraftText) (notes : List Note) → d.live.state.phase ≡ Up → d.hand.draft ≡ None → given ≡ Some draft → Onward IsReady (Sends id draft) (given_to d given) notes → Onward IsReady (Offered id) d (Asked (option_map draft_body given) ∷ notes)
+asked_onward id d given draft notes up free some t = record { more = t.more; faultless = t.faultless; r = t.r; to = t.to; good = t.good; whole = turns.asked given up free (turns.holds draft some t.whole); no_want = t.no_want }
+
+Offered-resumes : (id : Identity) → IsValidIdentity id → Resumes IsReady (Offered id)
+Offered-resumes id valid d notes to ok (turns.asked given up free (turns.holds {notes = more} draft some k)) = λ hold. hold (asked_onward id d given draft more up free some (Sends-resumes id valid draft (given_to d given) more (Err ending.OutOfMemory) to ok.on_time up refl k))
+Offered-resumes id valid d notes to ok (turns.was_in_hand draft up some k) = λ hold. hold (hand_onward id d draft notes up some (Sends-resumes id valid draft d notes (Err ending.OutOfMemory) to ok.on_time up refl k))
+
+Offered-settles : (id : Identity) → Settles IsReady (Offered id)
+Offered-settles id d notes r to h ok (turns.not_up other) = ok
+Offered-settles id d notes r to h ok (turns.asked given up free (turns.empty nothing)) = record { on_time = ok.on_time; drafts = subst (λ (x : Option DraftText). IfSome x IsDraft) (sym nothing) tt }
+Offered-settles id d notes r to h ok (turns.asked given up free (turns.holds {notes = more} draft some k)) = Sends-settles id draft (given_to d given) more r to h ok.on_time k
+Offered-settles id d notes r to h ok (turns.was_in_hand draft up some k) = Sends-settles id draft d notes r to h ok.on_time k
+
+-- ---- what leaves the draft in hand as it is
+
+module _ (R : Live → List Note → Result ⊤ Ending → Live → Type 0) where
+  beside_onward : (d : Desk) (notes : List Note) → IsReady d → Onward IsOnTime R d.live notes → Onward IsReady (Beside R) d notes
+  beside_onward d notes ok t = record {
+    more = t.more;
+    faultless = t.faultless;
+    r = t.r;
+    to = desk t.to d.hand;
+    good = record { on_time = t.good; drafts = ok.drafts };
+    whole = beside t.whole;
+    no_want = t.no_want;
+  }
+
+  Beside-total : Total IsOnTime R → Total IsReady (Beside R)
+  Beside-total total d ok = beside_onward d [] ok (total d.live ok.on_time)
+
+  Beside-resumes : Resumes IsOnTime R → Resumes IsReady (Beside R)
+  Beside-resumes again d notes to ok (beside {to = at} k) = λ hold. again d.live notes at ok.on_time k (λ t. hold (beside_onward d notes ok t))
+
+  Beside-settles : Settles IsOnTime R → Settles IsReady (Beside R)
+  Beside-settles stays d notes r to h ok (beside {to = at} k) = record { on_time = stays d.live notes r at h ok.on_time k; drafts = ok.drafts }
+
+-- ---- a turn
+
+Met-total : (id : Identity) → IsValidIdentity id → Total IsReady (Met id)
+Met-total id valid = both-total IsReady (Offered id) (Beside (Read id)) (Offered-total id valid) (Beside-total (Read id) (Read-total id))
+
+Met-resumes : (id : Identity) → IsValidIdentity id → Resumes IsReady (Met id)
+Met-resumes id valid = both-resumes IsReady (Offered id) (Beside (Read id)) (Beside-total (Read id) (Read-total id)) (Offered-resumes id valid) (Beside-resumes (Read id) (Read-resumes id valid)) (Offered-settles id)
+
+Met-settles : (id : Identity) → Settles IsReady (Met id)
+Met-settles id = both-settles IsReady (Offered id) (Beside (Read id)) (Offered-settles id) (Beside-settles (Read id) (Read-settles id))
 
 -- the expected number can be kept
 record Keeps (l : Live) : Type 0 where
@@ -374,105 +568,108 @@ keeps-total l =
       | inr h ↦ record { more = Did (act.Kept (Expect l.state.expected)) ∷ []; faultless = tt; to = live (with_kept l.state) l.ahead; good = λ ok. ok; whole = turn.kept h.1 }
     ]
 
-turn_onward : (id : Identity) (l : Live) (notes : List Note) → Onward IsOnTime (AndThen (Heard id) Clocked) l notes → Onward IsOnTime (Turn id) l notes
-turn_onward id l notes g = by-answer (settles_of g.r) refl
+turn_onward : (id : Identity) (d : Desk) (notes : List Note) → Onward IsReady (Met id) d notes → Onward IsReady (Turn id) d notes
+turn_onward id d notes g = by-answer (settles_of g.r) refl
   where
-    by-answer : (t : Bool) → settles_of g.r ≡ t → Onward IsOnTime (Turn id) l notes
-    by-answer false h = record { more = g.more; faultless = g.faultless; r = g.r; to = g.to; good = g.good; whole = turn.stops h g.whole; no_want = g.no_want }
+    by-answer : (t : Bool) → settles_of g.r ≡ t → Onward IsReady (Turn id) d notes
+    by-answer false h = record { more = g.more; faultless = g.faultless; r = g.r; to = g.to; good = g.good; whole = turns.stops h g.whole; no_want = g.no_want }
     by-answer true h =
-        let k = keeps-total g.to in
+        let k = keeps-total g.to.live in
+        let to = desk k.to g.to.hand in
         record {
           more = g.more ++ k.more;
           faultless = IsFaultless-append g.more k.more g.faultless k.faultless;
           r = g.r;
-          to = k.to;
-          good = k.good g.good;
-          whole = subst (λ w. Turn id l w g.r k.to) (append_assoc notes g.more k.more) (turn.keeps h g.whole k.whole);
+          to = to;
+          good = record { on_time = k.good g.good.on_time; drafts = g.good.drafts };
+          whole = subst (λ w. Turn id d w g.r to) (append_assoc notes g.more k.more) (turns.keeps h g.whole (beside k.whole));
           no_want = g.no_want;
         }
 
-Turn-total : (id : Identity) → Total IsOnTime (Turn id)
-Turn-total id l ok = turn_onward id l [] (Met-total id l ok)
+Turn-total : (id : Identity) → IsValidIdentity id → Total IsReady (Turn id)
+Turn-total id valid d ok = turn_onward id d [] (Met-total id valid d ok)
 
-KeptExpected-stays : Stays IsOnTime KeptExpected
-KeptExpected-stays l notes r to ok (turn.same h) = ok
-KeptExpected-stays l notes r to ok (turn.kept h) = ok
-KeptExpected-stays l notes r to ok (turn.expect_lost h) = ok
-KeptExpected-stays l notes r to ok (turn.expect_memory h) = ok
+KeptExpected-settles : Settles IsOnTime KeptExpected
+KeptExpected-settles l notes r to h ok (turn.same same) = ok
+KeptExpected-settles l notes r to h ok (turn.kept other) = ok
+KeptExpected-settles l notes r to h ok (turn.expect_lost other) = ok
+KeptExpected-settles l notes r to h ok (turn.expect_memory other) = ok
 
-Turn-stays : (id : Identity) → Stays IsOnTime (Turn id)
-Turn-stays id l notes r to ok (turn.stops h d) = Met-stays id l notes r to ok d
-Turn-stays id l notes r to ok (turn.keeps {mid = mid} {met = met} {first = first} {more = more} h d k) = KeptExpected-stays mid more (Ok tt) to (Met-stays id l first met mid ok d) k
-Turn-stays id l notes r to ok (turn.keeps_not {mid = mid} {met = met} {first = first} {more = more} {e = e} h d k) = KeptExpected-stays mid more (Err e) to (Met-stays id l first met mid ok d) k
+Turn-settles : (id : Identity) → Settles IsReady (Turn id)
+Turn-settles id d notes r to h ok (turns.stops other m) = absurd cc
+Turn-settles id d notes r to h ok (turns.keeps {mid = mid} {met = met} {first = first} {more = more} same m k) = Beside-settles KeptExpected KeptExpected-settles mid more (Ok tt) to refl (Met-settles id d first met mid same ok m) k
+Turn-settles id d notes r to h ok (turns.keeps_not {mid = mid} {met = met} {first = first} {more = more} {e = e} same m k) = Beside-settles KeptExpected KeptExpected-settles mid more (Err e) to h (Met-settles id d first met mid same ok m) k
 
-Turn-resumes : (id : Identity) → IsValidIdentity id → Resumes IsOnTime (Turn id)
-Turn-resumes id valid l notes to ok (turn.stops h d) = λ hold. Met-resumes id valid l notes to ok d (λ g. hold (turn_onward id l notes g))
-Turn-resumes id valid l notes to ok (turn.keeps h d k) = absurd cc
-Turn-resumes id valid l notes to ok (turn.keeps_not {mid = mid} {met = met} {first = first} h d (turn.expect_memory n)) =
+Turn-resumes : (id : Identity) → IsValidIdentity id → Resumes IsReady (Turn id)
+Turn-resumes id valid d notes to ok (turns.stops h m) = λ hold. Met-resumes id valid d notes to ok m (λ g. hold (turn_onward id d notes g))
+Turn-resumes id valid d notes to ok (turns.keeps h m k) = absurd cc
+Turn-resumes id valid d notes to ok (turns.keeps_not {mid = mid} {met = met} {first = first} h m (beside (turn.expect_memory n))) =
+    let good = Met-settles id d first met mid h ok m in
+    let kept = desk (live (with_kept mid.live.state) mid.live.ahead) mid.hand in
     λ hold. hold (record {
-      more = Did (act.Kept (Expect mid.state.expected)) ∷ [];
+      more = Did (act.Kept (Expect mid.live.state.expected)) ∷ [];
       faultless = tt;
       r = met;
-      to = live (with_kept mid.state) mid.ahead;
-      good = Met-stays id l first met mid ok d;
-      whole = subst (λ w. Turn id l w met (live (with_kept mid.state) mid.ahead)) (ap (λ w. w ++ Did (act.Kept (Expect mid.state.expected)) ∷ []) (sym (append-nil first))) (turn.keeps h d (turn.kept n));
+      to = kept;
+      good = record { on_time = good.on_time; drafts = good.drafts };
+      whole = subst (λ w. Turn id d w met kept) (ap (λ w. w ++ Did (act.Kept (Expect mid.live.state.expected)) ∷ []) (sym (append-nil first))) (turns.keeps h m (beside (turn.kept n)));
       no_want = λ e. (let t : settles_of (Err ending.OutOfMemory) ≡ true = subst (λ r. settles_of r ≡ true) e h in cc);
     })
 
 -- ---- a run
 
-Turns-resume : (id : Identity) → IsValidIdentity id → (n : ℕ) → Resumes IsOnTime (Turns id n)
-Turns-resume id valid n l notes to ok d = Each-resumes IsOnTime (OneTurn id) (λ u. ⊤) (λ u fit. Turn-total id) (λ u fit. Turn-resumes id valid) (λ u. Turn-stays id) (replicate n tt) (all_fit (replicate n tt)) l notes to ok d
+Turns-resume : (id : Identity) → IsValidIdentity id → (n : ℕ) → Resumes IsReady (Turns id n)
+Turns-resume id valid n d notes to ok t = Each-resumes IsReady (OneTurn id) (λ u. ⊤) (λ u fit. Turn-total id valid) (λ u fit. Turn-resumes id valid) (λ u. Turn-settles id) (replicate n tt) (all_fit (replicate n tt)) d notes to ok t
   where
     all_fit : (us : List ⊤) → AllByRecursion (λ u. ⊤) us
     all_fit [] = tt
     all_fit (u ∷ us) = (tt, all_fit us)
 
-run_onward : (id : Identity) (n : ℕ) (l : Live) (notes : List Note) → Onward IsOnTime (Turns id n) l notes → GoesOn (Ran id n) l notes
-run_onward id n l notes g = by-answer g.r g.to g.whole g.no_want
+run_onward : (id : Identity) (n : ℕ) (d : Desk) (notes : List Note) → Onward IsReady (Turns id n) d notes → GoesOn (Ran id n) d notes
+run_onward id n d notes g = by-answer g.r g.to g.whole g.no_want
   where
-    by-cut : (e : Ending) (to : Live) → Turns id n l (notes ++ g.more) (Err e) to → failed e ≢ Err ending.OutOfMemory → (t : Bool) → is_cut_of e ≡ t → GoesOn (Ran id n) l notes
-    by-cut e to d h false t = record { more = g.more; faultless = g.faultless; r = Err e; to = down to; whole = turn.no_cut t d; no_want = h }
-    by-cut e to d h true t =
+    by-cut : (e : Ending) (to : Desk) → Turns id n d (notes ++ g.more) (Err e) to → failed e ≢ Err ending.OutOfMemory → (t : Bool) → is_cut_of e ≡ t → GoesOn (Ran id n) d notes
+    by-cut e to k h false t = record { more = g.more; faultless = g.faultless; r = Err e; to = put_down to; whole = turns.no_cut t k; no_want = h }
+    by-cut e to k h true t =
         record {
           more = g.more ++ Did act.Cut ∷ [];
           faultless = IsFaultless-append g.more (Did act.Cut ∷ []) g.faultless tt;
           r = Err e;
-          to = down to;
-          whole = subst (λ w. Ran id n l w (Err e) (down to)) (append_assoc notes g.more (Did act.Cut ∷ [])) (turn.cut t d);
+          to = put_down to;
+          whole = subst (λ w. Ran id n d w (Err e) (put_down to)) (append_assoc notes g.more (Did act.Cut ∷ [])) (turns.cut t k);
           no_want = h;
         }
 
-    by-answer : (r : Result ⊤ Ending) (to : Live) → Turns id n l (notes ++ g.more) r to → r ≢ Err ending.OutOfMemory → GoesOn (Ran id n) l notes
-    by-answer (Ok x) to d h = record { more = g.more; faultless = g.faultless; r = Ok tt; to = to; whole = turn.all_turns d; no_want = Ok-no_want }
-    by-answer (Err e) to d h = by-cut e to d h (is_cut_of e) refl
+    by-answer : (r : Result ⊤ Ending) (to : Desk) → Turns id n d (notes ++ g.more) r to → r ≢ Err ending.OutOfMemory → GoesOn (Ran id n) d notes
+    by-answer (Ok x) to k h = record { more = g.more; faultless = g.faultless; r = Ok tt; to = to; whole = turns.all_turns k; no_want = Ok-no_want }
+    by-answer (Err e) to k h = by-cut e to k h (is_cut_of e) refl
 
 err_same : (e : Ending) → failed e ≡ Err ending.OutOfMemory → e ≡ ending.OutOfMemory
 err_same e k = cc
 
-Ran-resumes : (id : Identity) → IsValidIdentity id → (n : ℕ) (l : Live) (notes : List Note) (to : Live) → IsOnTime l → Ran id n l notes (Err ending.OutOfMemory) to → CanNotFail (GoesOn (Ran id n) l notes)
-Ran-resumes id valid n l notes to ok (turn.cut h d) = absurd cc
-Ran-resumes id valid n l notes to ok (turn.cut_memory {to = at} {e = e} h d) =
+Ran-resumes : (id : Identity) → IsValidIdentity id → (n : ℕ) (d : Desk) (notes : List Note) (to : Desk) → IsReady d → Ran id n d notes (Err ending.OutOfMemory) to → CanNotFail (GoesOn (Ran id n) d notes)
+Ran-resumes id valid n d notes to ok (turns.cut h k) = absurd cc
+Ran-resumes id valid n d notes to ok (turns.cut_memory {to = at} {e = e} h k) =
     λ hold. hold (record {
       more = Did act.Cut ∷ [];
       faultless = tt;
       r = Err e;
-      to = down at;
-      whole = turn.cut h d;
+      to = put_down at;
+      whole = turns.cut h k;
       no_want = λ k. (let t : is_cut_of ending.OutOfMemory ≡ true = subst (λ e. is_cut_of e ≡ true) (err_same e k) h in cc);
     })
-Ran-resumes id valid n l notes to ok (turn.no_cut {to = at} h d) = λ hold. Turns-resume id valid n l notes at ok d (λ g. hold (run_onward id n l notes g))
+Ran-resumes id valid n d notes to ok (turns.no_cut {to = at} h k) = λ hold. Turns-resume id valid n d notes at ok k (λ g. hold (run_onward id n d notes g))
 
-stated : (id : Identity) → IsValidIdentity id → (n : ℕ) (l : Live) (notes : List Note) (r : Result ⊤ Ending) (to : Live) → IsOnTime l → IsFaultless notes → Ran id n l notes r to → IsAsStated id n l (run_end r) to notes
-stated id valid n l notes (Ok x) to ok f d = (f, inl ((λ h. cc), record { r = Ok x; answered = refl; ran = d }))
-stated id valid n l notes (Err (ending.Closed why)) to ok f d = (f, inl ((λ h. cc), record { r = Err (ending.Closed why); answered = refl; ran = d }))
-stated id valid n l notes (Err (ending.NotBuilt number)) to ok f d = (f, inl ((λ h. cc), record { r = Err (ending.NotBuilt number); answered = refl; ran = d }))
-stated id valid n l notes (Err ending.StoreFault) to ok f d = (f, inl ((λ h. cc), record { r = Err ending.StoreFault; answered = refl; ran = d }))
-stated id valid n l notes (Err ending.LinkFault) to ok f d = (f, inl ((λ h. cc), record { r = Err ending.LinkFault; answered = refl; ran = d }))
-stated id valid n l notes (Err ending.AppFault) to ok f d = (f, inl ((λ h. cc), record { r = Err ending.AppFault; answered = refl; ran = d }))
-stated id valid n l notes (Err ending.NumbersSpent) to ok f d = (f, inl ((λ h. cc), record { r = Err ending.NumbersSpent; answered = refl; ran = d }))
-stated id valid n l notes (Err ending.OutOfMemory) to ok f d = (f, inr (refl, Ran-resumes id valid n l notes to ok d))
+stated : (id : Identity) → IsValidIdentity id → (n : ℕ) (d : Desk) (notes : List Note) (r : Result ⊤ Ending) (to : Desk) → IsReady d → IsFaultless notes → Ran id n d notes r to → IsAsStated id n d (run_end r) to notes
+stated id valid n d notes (Ok x) to ok f k = (f, inl ((λ h. cc), record { r = Ok x; answered = refl; ran = k }))
+stated id valid n d notes (Err (ending.Closed why)) to ok f k = (f, inl ((λ h. cc), record { r = Err (ending.Closed why); answered = refl; ran = k }))
+stated id valid n d notes (Err (ending.NotBuilt number)) to ok f k = (f, inl ((λ h. cc), record { r = Err (ending.NotBuilt number); answered = refl; ran = k }))
+stated id valid n d notes (Err ending.StoreFault) to ok f k = (f, inl ((λ h. cc), record { r = Err ending.StoreFault; answered = refl; ran = k }))
+stated id valid n d notes (Err ending.LinkFault) to ok f k = (f, inl ((λ h. cc), record { r = Err ending.LinkFault; answered = refl; ran = k }))
+stated id valid n d notes (Err ending.AppFault) to ok f k = (f, inl ((λ h. cc), record { r = Err ending.AppFault; answered = refl; ran = k }))
+stated id valid n d notes (Err ending.NumbersSpent) to ok f k = (f, inl ((λ h. cc), record { r = Err ending.NumbersSpent; answered = refl; ran = k }))
+stated id valid n d notes (Err ending.OutOfMemory) to ok f k = (f, inr (refl, Ran-resumes id valid n d notes to ok k))
 
 -- where no count rose a run is as stated
-pub as_stated : (id : Identity) → IsValidIdentity id → (n : ℕ) (l : Live) (r : Result ⊤ Ending) (to : Live) (old new : Seen) → l.state.reading ≤ LAST_TIME → Goes old new (λ notes. Ran id n l notes r to) → NoneRose old.faults new.faults → Goes old new (IsAsStated id n l (run_end r) to)
-as_stated id valid n l r to old new ok g h = (g.0, g.1, stated id valid n l g.0 r to ok (faultless old.faults new.faults g.0 g.1.faults h) g.2)
+pub as_stated : (id : Identity) → IsValidIdentity id → (n : ℕ) (d : Desk) (r : Result ⊤ Ending) (to : Desk) (old new : Seen) → d.live.state.reading ≤ LAST_TIME → IfSome d.hand.draft IsDraft → Goes old new (λ notes. Ran id n d notes r to) → NoneRose old.faults new.faults → Goes old new (IsAsStated id n d (run_end r) to)
+as_stated id valid n d r to old new ok drafts g h = (g.0, g.1, stated id valid n d g.0 r to (record { on_time = ok; drafts = drafts }) (faultless old.faults new.faults g.0 g.1.faults h) g.2)

@@ -1,6 +1,6 @@
 -- A run is found again by looking back.
-use Rattle.std.proofs.Common.{◌≡◌, ℕ, ◌+◌, List, [], ◌∷◌, ◌++◌, length, Result, Ok, Err, refl, sym, ap, subst, ◌∙◌, append_assoc, replicate}
-use Rattle.std.specs.Prelude.{⊤}
+use Rattle.std.proofs.Common.{◌≡◌, ◌≢◌, ℕ, ◌+◌, List, [], ◌∷◌, ◌++◌, length, Option, Result, Ok, Err, refl, sym, ap, subst, ◌∙◌, append_assoc, replicate}
+use Rattle.std.specs.Prelude.{⊤, option_map}
 use Rattle.std.proofs.lemmas.List.{append-nil}
 use Rattle.fix_base.specs.declared.identity.Identity.{Identity}
 use Rattle.fix_base.specs.declared.act.Act.{Act}
@@ -9,33 +9,38 @@ use Rattle.fix_base.specs.declared.entry.Record.TheVariants.{Expect}
 use Rattle.fix_base.specs.Lists.{here}
 use Rattle.fix_base.specs.Reader.{bytes_read}
 use Rattle.fix_base.specs.Stream.{Ahead}
-use Rattle.fix_base.specs.Seen.{Note, Did, Failed, StorePart, LinkPart, Seen, Goes, acts_of}
+use Rattle.fix_base.specs.Seen.{Note, Did, Failed, Asked, StorePart, LinkPart, Seen, Goes, acts_of}
 use Rattle.fix_base.proofs.SeenLemmas.{acts_of-append}
+use Rattle.fix_fields.specs.Drafted.{DraftText, draft_body}
 use Rattle.fix_frame.specs.Given.{GivesFrame}
 use Rattle.fix_engine.specs.State.{State, Ending, with_kept, with_reading}
 use Rattle.fix_engine.specs.declared.state.Ending.TheVariants as ending
+use Rattle.fix_engine.specs.declared.stop.SendFault.{SendFault}
+use Rattle.fix_engine.specs.declared.stop.SendFault.TheVariants as fault
+use Rattle.fix_engine.specs.declared.stop.StopCause.TheVariants as cause
 use Rattle.fix_engine.specs.Fold as fold
 use Rattle.fix_engine.specs.Fold.{Each, AndThen, first_ends, both}
 use Rattle.fix_engine.specs.Answer.{Handled}
 use Rattle.fix_engine.specs.Turn as turn
-use Rattle.fix_engine.specs.Turn.{Live, live, fed, down, Taken, Fed, Heard, Clocked, KeptExpected, Turn, OneTurn, Ran, settles_of, is_cut_of}
+use Rattle.fix_engine.specs.Turn.{Live, live, fed, Taken, Heard, Clocked, KeptExpected}
+use Rattle.fix_engine.specs.Drafted.{Drafting}
+use Rattle.fix_engine.specs.Desk as turns
+use Rattle.fix_engine.specs.Desk.{Desk, Sends, Holding, Offered, beside, Met, Turn, OneTurn, Ran, desk, sent_ending}
 use Rattle.fix_engine.specs.Run.{run_end}
-use Rattle.fix_engine.specs.LookBack.{last_sent, last_kept, last_reading, state_at, AreFramesTo, AreAll, StandsAt, Calls, reads, idles, is_over, looks, keeps, loses, cuts, fails, Closes, nothing_more, keeps_it, loses_it, cuts_off, Recounts, done, calls, answers, ends, IsShown, LooksBack}
-use Rattle.fix_engine.proofs.LookBackLemmas.{last_sent-append, last_kept-append, last_reading-append, bytes_read-append, same_state, behind_frame, next_frame, no_frame, more_bytes}
+use Rattle.fix_engine.specs.LookBack.{state_at, AreFramesTo, StandsAt, Calls, reads, idles, is_over, looks, keeps, loses, cuts, fails, asks, Closes, nothing_more, keeps_it, loses_it, cuts_off, Recounts, done, calls, answers, sends, sends_not, ends, IsShown, LooksBack}
+use Rattle.fix_engine.proofs.LookBackLemmas.{bytes_read-append, behind_frame, next_frame, no_frame, more_bytes, state_more, stream_more, clock_stands, draft_stands}
 use Rattle.fix_engine.proofs.Shown.{shown_behind, shown_before, frame_shown}
 use Rattle.fix_engine.proofs.Turns.{never_spent}
 
--- the state behind one act more
-state_more : (start : State) (answered : List (List ℕ)) (acts more : List Act) (s : State) → s.phase ≡ (state_at start answered acts).phase → s.expected ≡ (state_at start answered acts).expected → s.kept ≡ last_kept (last_kept start.kept acts) more → s.last ≡ last_sent (last_sent start.last acts) more → s.reading ≡ last_reading (last_reading start.reading acts) more → s ≡ state_at start answered (acts ++ more)
-state_more start answered acts more s p e k l r =
-    same_state s (state_at start answered (acts ++ more)) p e (k ∙ sym (last_kept-append start.kept acts more)) (l ∙ sym (last_sent-append start.last acts more)) (r ∙ sym (last_reading-append start.reading acts more))
-
--- the stream behind acts that read nothing
-stream_more : (answered : List (List ℕ)) (acts more : List Act) (place : Ahead) → bytes_read more ≡ [] → AreAll answered acts place → AreAll answered (acts ++ more) place
-stream_more answered acts more place none all = record {
-  stands = subst (λ (w : List ℕ). AreFramesTo w answered place) (sym (bytes_read-append acts more ∙ ap (λ (w : List ℕ). bytes_read acts ++ w) none ∙ append-nil (bytes_read acts))) all.stands;
-  end = all.end;
-}
+-- no fault of a draft lets a turn go on
+never_ok : (why : SendFault) → sent_ending {T = ℕ} (Err why) ≢ Ok tt
+never_ok (fault.Stopped cause.StoreFault) h = cc
+never_ok (fault.Stopped cause.AppFault) h = cc
+never_ok (fault.Stopped cause.OutOfMemory) h = cc
+never_ok fault.NumbersSpent h = cc
+never_ok fault.OutOfMemory h = cc
+never_ok fault.StoreFault h = cc
+never_ok (fault.LinkFault n) h = cc
 
 module _ (id : Identity) (start : State) where
   -- the notes of what went on, from where these frames were answered and these acts done
@@ -188,29 +193,112 @@ module _ (id : Identity) (start : State) where
 
   Clocked-went : (answered : List (List ℕ)) (acts : List Act) (l : Live) (notes : List Note) (to : Live) → StandsAt start answered acts l → Clocked l notes (Ok tt) to → Went answered acts notes to
   Clocked-went answered acts l notes to s (turn.now t) =
-      one_call answered acts (Did (act.Now t)) (live (with_reading l.state t) l.ahead) (looks t l.ahead s.all) (record {
-        state = ap (λ (z : State). with_reading z t) s.state ∙ state_more start answered acts (act.Now t ∷ []) (with_reading (state_at start answered acts) t) refl refl refl refl refl;
-        all = stream_more answered acts (act.Now t ∷ []) l.ahead refl s.all;
-      })
+      one_call answered acts (Did (act.Now t)) (live (with_reading l.state t) l.ahead) (looks t l.ahead s.all) (clock_stands start answered acts l t s)
 
   Clocked-why : (answered : List (List ℕ)) (acts : List Act) (l : Live) (notes : List Note) (e : Ending) (to : Live) → StandsAt start answered acts l → Clocked l notes (Err e) to → Why answered acts notes e to
   Clocked-why answered acts l notes e to s turn.now_memory = record { ended = ends_here answered acts l (expected_is answered acts l s.state); shown = tt }
 
-  Met-went : (answered : List (List ℕ)) (acts : List Act) (l : Live) (notes : List Note) (to : Live) → StandsAt start answered acts l → AndThen (Heard id) Clocked l notes (Ok tt) to → Went answered acts notes to
-  Met-went answered acts l notes to s (both {mid = mid} {first = first} {more = more} d k) =
+  Read-went : (answered : List (List ℕ)) (acts : List Act) (l : Live) (notes : List Note) (to : Live) → StandsAt start answered acts l → AndThen (Heard id) Clocked l notes (Ok tt) to → Went answered acts notes to
+  Read-went answered acts l notes to s (both {mid = mid} {first = first} {more = more} d k) =
       let w = Heard-went answered acts l first mid s d in
       then_went answered acts first more mid to w (Clocked-went w.now w.behind mid more to w.stands k)
 
-  Met-why : (answered : List (List ℕ)) (acts : List Act) (l : Live) (notes : List Note) (e : Ending) (to : Live) → StandsAt start answered acts l → AndThen (Heard id) Clocked l notes (Err e) to → Why answered acts notes e to
-  Met-why answered acts l notes e to s (first_ends d) = Heard-why answered acts l notes e to s d
-  Met-why answered acts l notes e to s (both {mid = mid} {first = first} {more = more} d k) =
+  Read-why : (answered : List (List ℕ)) (acts : List Act) (l : Live) (notes : List Note) (e : Ending) (to : Live) → StandsAt start answered acts l → AndThen (Heard id) Clocked l notes (Err e) to → Why answered acts notes e to
+  Read-why answered acts l notes e to s (first_ends d) = Heard-why answered acts l notes e to s d
+  Read-why answered acts l notes e to s (both {mid = mid} {first = first} {more = more} d k) =
       let w = Heard-went answered acts l first mid s d in
       then_why answered acts first more e mid to w (Clocked-why w.now w.behind mid more e to w.stands k)
 
+  -- ---- a draft
+
+  -- it is sent as the state is by looking back
+  draft_went : (answered : List (List ℕ)) (acts : List Act) (l : Live) (draft : DraftText) (notes : List Note) (n : ℕ) (s' : State) → StandsAt start answered acts l → Drafting id draft l.state notes (Ok n) s' → Went answered acts notes (live s' l.ahead)
+  draft_went answered acts l draft notes n s' h d =
+      let known : Drafting id draft (state_at start answered acts) notes (Ok n) s' = subst (λ s. Drafting id draft s notes (Ok n) s') h.state d in
+      let stands = draft_stands id start answered acts draft l.state l.ahead notes n s' h d in
+      record {
+        now = answered;
+        behind = acts ++ acts_of notes;
+        are = refl;
+        stands = stands;
+        goes_on = λ more last r. sends draft (subst (λ m. Drafting id draft (state_at start answered acts) notes (Ok n) m) stands.state known) r;
+      }
+
+  -- no draft makes a connection close
+  fault_shown : (why : SendFault) (answered : List (List ℕ)) (acts : List Act) (e : Ending) → sent_ending {T = ℕ} (Err why) ≡ Err e → IsShown (run_end (Err e)) answered acts
+  fault_shown why answered acts e h = subst (λ r. IsShown (run_end r) answered acts) h (shown why)
+    where
+      shown : (why : SendFault) → IsShown (run_end (sent_ending {T = ℕ} (Err why))) answered acts
+      shown (fault.Stopped cause.StoreFault) = tt
+      shown (fault.Stopped cause.AppFault) = tt
+      shown (fault.Stopped cause.OutOfMemory) = tt
+      shown fault.NumbersSpent = tt
+      shown fault.OutOfMemory = tt
+      shown fault.StoreFault = tt
+      shown (fault.LinkFault n) = tt
+
+  draft_why : (answered : List (List ℕ)) (acts : List Act) (l : Live) (draft : DraftText) (notes : List Note) (why : SendFault) (s' : State) (e : Ending) → StandsAt start answered acts l → sent_ending {T = ℕ} (Err why) ≡ Err e → Drafting id draft l.state notes (Err why) s' → Why answered acts notes e (live s' l.ahead)
+  draft_why answered acts l draft notes why s' e h same d =
+      let known : Drafting id draft (state_at start answered acts) notes (Err why) s' = subst (λ s. Drafting id draft s notes (Err why) s') h.state d in
+      record { ended = record { now = answered; closes = λ more c. sends_not draft known c }; shown = fault_shown why answered (acts_of notes) e same }
+
+  Sends-went : (answered : List (List ℕ)) (acts : List Act) (d : Desk) (draft : DraftText) (notes : List Note) (r : Result ⊤ Ending) (to : Desk) → StandsAt start answered acts d.live → r ≡ Ok tt → Sends id draft d notes r to → Went answered acts notes to.live
+  Sends-went answered acts d draft notes r to h ok (turns.spent few) = absurd cc
+  Sends-went answered acts d draft notes r to h ok (turns.sends {r = sent} {s = s} few is k) = by-answer sent ok k
+    where
+      by-answer : (sent : Result ℕ SendFault) → sent_ending sent ≡ Ok tt → Drafting id draft d.live.state notes sent s → Went answered acts notes (live s d.live.ahead)
+      by-answer (Ok n) same k = draft_went answered acts d.live draft notes n s h k
+      by-answer (Err why) same k = absurd (never_ok why same)
+
+  Sends-why : (answered : List (List ℕ)) (acts : List Act) (d : Desk) (draft : DraftText) (notes : List Note) (r : Result ⊤ Ending) (e : Ending) (to : Desk) → StandsAt start answered acts d.live → r ≡ Err e → Sends id draft d notes r to → Why answered acts notes e to.live
+  Sends-why answered acts d draft notes r e to h same (turns.spent few) = record { ended = ends_here answered acts d.live (expected_is answered acts d.live h.state); shown = fault_shown fault.NumbersSpent _ [] e same }
+  Sends-why answered acts d draft notes r e to h same (turns.sends {r = sent} {s = s} few is k) = by-answer sent same k
+    where
+      by-answer : (sent : Result ℕ SendFault) → sent_ending sent ≡ Err e → Drafting id draft d.live.state notes sent s → Why answered acts notes e (live s d.live.ahead)
+      by-answer (Ok n) same k = absurd cc
+      by-answer (Err why) same k = draft_why answered acts d.live draft notes why s e h same k
+
+  Holding-went : (answered : List (List ℕ)) (acts : List Act) (d : Desk) (notes : List Note) (to : Desk) → StandsAt start answered acts d.live → Holding id d notes (Ok tt) to → Went answered acts notes to.live
+  Holding-went answered acts d notes to h (turns.empty none) = went_nowhere answered acts d.live h
+  Holding-went answered acts d notes to h (turns.holds draft some k) = Sends-went answered acts d draft notes (Ok tt) to h refl k
+
+  Holding-why : (answered : List (List ℕ)) (acts : List Act) (d : Desk) (notes : List Note) (e : Ending) (to : Desk) → StandsAt start answered acts d.live → Holding id d notes (Err e) to → Why answered acts notes e to.live
+  Holding-why answered acts d notes e to h (turns.holds draft some k) = Sends-why answered acts d draft notes (Err e) e to h refl k
+
+  -- the application was asked
+  asked_went : (answered : List (List ℕ)) (acts : List Act) (l : Live) (given : Option (List ℕ)) → StandsAt start answered acts l → Went answered acts (Asked given ∷ []) l
+  asked_went answered acts l given h = one_call answered acts (Asked given) l (asks given) (subst (λ (z : List Act). StandsAt start answered z l) (sym (append-nil acts)) h)
+
+  Offered-went : (answered : List (List ℕ)) (acts : List Act) (d : Desk) (notes : List Note) (to : Desk) → StandsAt start answered acts d.live → Offered id d notes (Ok tt) to → Went answered acts notes to.live
+  Offered-went answered acts d notes to h (turns.not_up other) = went_nowhere answered acts d.live h
+  Offered-went answered acts d notes to h (turns.asked {notes = more} given up none k) =
+      let w = asked_went answered acts d.live (option_map draft_body given) h in
+      then_went answered acts (Asked (option_map draft_body given) ∷ []) more d.live to.live w (Holding-went w.now w.behind (desk d.live (record { draft = given; tried = d.hand.tried })) more to w.stands k)
+  Offered-went answered acts d notes to h (turns.was_in_hand draft up some k) = Sends-went answered acts d draft notes (Ok tt) to h refl k
+
+  Offered-why : (answered : List (List ℕ)) (acts : List Act) (d : Desk) (notes : List Note) (e : Ending) (to : Desk) → StandsAt start answered acts d.live → Offered id d notes (Err e) to → Why answered acts notes e to.live
+  Offered-why answered acts d notes e to h (turns.asked {notes = more} given up none k) =
+      let w = asked_went answered acts d.live (option_map draft_body given) h in
+      then_why answered acts (Asked (option_map draft_body given) ∷ []) more e d.live to.live w (Holding-why w.now w.behind (desk d.live (record { draft = given; tried = d.hand.tried })) more e to w.stands k)
+  Offered-why answered acts d notes e to h (turns.was_in_hand draft up some k) = Sends-why answered acts d draft notes (Err e) e to h refl k
+
+  -- ---- a draft, a read, and a look at the clock
+
+  Met-went : (answered : List (List ℕ)) (acts : List Act) (d : Desk) (notes : List Note) (to : Desk) → StandsAt start answered acts d.live → Met id d notes (Ok tt) to → Went answered acts notes to.live
+  Met-went answered acts d notes to s (both {mid = mid} {first = first} {more = more} o (beside {to = at} k)) =
+      let w = Offered-went answered acts d first mid s o in
+      then_went answered acts first more mid.live at w (Read-went w.now w.behind mid.live more at w.stands k)
+
+  Met-why : (answered : List (List ℕ)) (acts : List Act) (d : Desk) (notes : List Note) (e : Ending) (to : Desk) → StandsAt start answered acts d.live → Met id d notes (Err e) to → Why answered acts notes e to.live
+  Met-why answered acts d notes e to s (first_ends o) = Offered-why answered acts d notes e to s o
+  Met-why answered acts d notes e to s (both {mid = mid} {first = first} {more = more} o (beside {to = at} k)) =
+      let w = Offered-went answered acts d first mid s o in
+      then_why answered acts first more e mid.live at w (Read-why w.now w.behind mid.live more e at w.stands k)
+
   -- however it ended
-  Met-ended : (answered : List (List ℕ)) (acts : List Act) (l : Live) (notes : List Note) (met : Result ⊤ Ending) (to : Live) → StandsAt start answered acts l → AndThen (Heard id) Clocked l notes met to → Ended answered acts notes to
-  Met-ended answered acts l notes (Ok x) to s d = may_end answered acts notes to (Met-went answered acts l notes to s d)
-  Met-ended answered acts l notes (Err e) to s d = (Met-why answered acts l notes e to s d).ended
+  Met-ended : (answered : List (List ℕ)) (acts : List Act) (d : Desk) (notes : List Note) (met : Result ⊤ Ending) (to : Desk) → StandsAt start answered acts d.live → Met id d notes met to → Ended answered acts notes to.live
+  Met-ended answered acts d notes (Ok x) to s m = may_end answered acts notes to.live (Met-went answered acts d notes to s m)
+  Met-ended answered acts d notes (Err e) to s m = (Met-why answered acts d notes e to s m).ended
 
   -- ---- the expected number
 
@@ -241,39 +329,39 @@ module _ (id : Identity) (start : State) where
 
   -- ---- a turn
 
-  Turn-went : (answered : List (List ℕ)) (acts : List Act) (l : Live) (notes : List Note) (to : Live) → StandsAt start answered acts l → Turn id l notes (Ok tt) to → Went answered acts notes to
-  Turn-went answered acts l notes to s (turn.stops h d) = absurd cc
-  Turn-went answered acts l notes to s (turn.keeps {mid = mid} {first = first} {more = more} h d k) =
-      let w = Met-went answered acts l first mid s d in
-      then_went answered acts first more mid to w (KeptExpected-went w.now w.behind mid more to w.stands k)
+  Turn-went : (answered : List (List ℕ)) (acts : List Act) (d : Desk) (notes : List Note) (to : Desk) → StandsAt start answered acts d.live → Turn id d notes (Ok tt) to → Went answered acts notes to.live
+  Turn-went answered acts d notes to s (turns.stops h m) = absurd cc
+  Turn-went answered acts d notes to s (turns.keeps {mid = mid} {first = first} {more = more} h m (beside {to = at} k)) =
+      let w = Met-went answered acts d first mid s m in
+      then_went answered acts first more mid.live at w (KeptExpected-went w.now w.behind mid.live more at w.stands k)
 
-  Turn-why : (answered : List (List ℕ)) (acts : List Act) (l : Live) (notes : List Note) (e : Ending) (to : Live) → StandsAt start answered acts l → Turn id l notes (Err e) to → Why answered acts notes e to
-  Turn-why answered acts l notes e to s (turn.stops h d) = Met-why answered acts l notes e to s d
-  Turn-why answered acts l notes e to s (turn.keeps {mid = mid} {first = first} {more = more} h d k) =
-      let w = Met-why answered acts l first e mid s d in
+  Turn-why : (answered : List (List ℕ)) (acts : List Act) (d : Desk) (notes : List Note) (e : Ending) (to : Desk) → StandsAt start answered acts d.live → Turn id d notes (Err e) to → Why answered acts notes e to.live
+  Turn-why answered acts d notes e to s (turns.stops h m) = Met-why answered acts d notes e to s m
+  Turn-why answered acts d notes e to s (turns.keeps {mid = mid} {first = first} {more = more} h m (beside {to = at} k)) =
+      let w = Met-why answered acts d first e mid s m in
       record {
-        ended = ended_more answered acts first more mid to w.ended (λ x c. kept_closes mid to more x k c);
+        ended = ended_more answered acts first more mid.live at w.ended (λ x c. kept_closes mid.live at more x k c);
         shown = shown_before (run_end (Err e)) w.ended.now first more w.shown;
       }
-  Turn-why answered acts l notes e to s (turn.keeps_not {mid = mid} {met = met} {first = first} {more = more} h d k) =
-      let w = Met-ended answered acts l first met mid s d in
+  Turn-why answered acts d notes e to s (turns.keeps_not {mid = mid} {met = met} {first = first} {more = more} h m (beside {to = at} k)) =
+      let w = Met-ended answered acts d first met mid s m in
       record {
-        ended = ended_more answered acts first more mid to w (λ x c. lost_closes mid to more x e k c);
-        shown = lost_shown mid to more e w.now (acts_of (first ++ more)) k;
+        ended = ended_more answered acts first more mid.live at w (λ x c. lost_closes mid.live at more x e k c);
+        shown = lost_shown mid.live at more e w.now (acts_of (first ++ more)) k;
       }
 
-  Turns-went : (us : List ⊤) (answered : List (List ℕ)) (acts : List Act) (l : Live) (notes : List Note) (to : Live) → StandsAt start answered acts l → Each (OneTurn id) l us notes (Ok tt) to → Went answered acts notes to
-  Turns-went [] answered acts l notes to s fold.none = went_nowhere answered acts l s
-  Turns-went (u ∷ us) answered acts l notes to s (fold.goes {mid = mid} {first = first} {more = more} d k) =
-      let w = Turn-went answered acts l first mid s d in
-      then_went answered acts first more mid to w (Turns-went us w.now w.behind mid more to w.stands k)
+  Turns-went : (us : List ⊤) (answered : List (List ℕ)) (acts : List Act) (d : Desk) (notes : List Note) (to : Desk) → StandsAt start answered acts d.live → Each (OneTurn id) d us notes (Ok tt) to → Went answered acts notes to.live
+  Turns-went [] answered acts d notes to s fold.none = went_nowhere answered acts d.live s
+  Turns-went (u ∷ us) answered acts d notes to s (fold.goes {mid = mid} {first = first} {more = more} t k) =
+      let w = Turn-went answered acts d first mid s t in
+      then_went answered acts first more mid.live to.live w (Turns-went us w.now w.behind mid more to w.stands k)
 
-  Turns-why : (us : List ⊤) (answered : List (List ℕ)) (acts : List Act) (l : Live) (notes : List Note) (e : Ending) (to : Live) → StandsAt start answered acts l → Each (OneTurn id) l us notes (Err e) to → Why answered acts notes e to
-  Turns-why [] answered acts l notes e to s d = elim d [ ]
-  Turns-why (u ∷ us) answered acts l notes e to s (fold.ends d) = Turn-why answered acts l notes e to s d
-  Turns-why (u ∷ us) answered acts l notes e to s (fold.goes {mid = mid} {first = first} {more = more} d k) =
-      let w = Turn-went answered acts l first mid s d in
-      then_why answered acts first more e mid to w (Turns-why us w.now w.behind mid more e to w.stands k)
+  Turns-why : (us : List ⊤) (answered : List (List ℕ)) (acts : List Act) (d : Desk) (notes : List Note) (e : Ending) (to : Desk) → StandsAt start answered acts d.live → Each (OneTurn id) d us notes (Err e) to → Why answered acts notes e to.live
+  Turns-why [] answered acts d notes e to s t = elim t [ ]
+  Turns-why (u ∷ us) answered acts d notes e to s (fold.ends t) = Turn-why answered acts d notes e to s t
+  Turns-why (u ∷ us) answered acts d notes e to s (fold.goes {mid = mid} {first = first} {more = more} t k) =
+      let w = Turn-went answered acts d first mid s t in
+      then_why answered acts first more e mid.live to.live w (Turns-why us w.now w.behind mid more e to w.stands k)
 
   -- ---- a run
 
@@ -281,30 +369,30 @@ module _ (id : Identity) (start : State) where
   closed : (answered : List (List ℕ)) (acts : List Act) (notes : List Note) (to : Live) (w : Ended answered acts notes to) → Recounts id start answered acts notes w.now
   closed answered acts notes to w = subst (λ z. Recounts id start answered acts z w.now) (append-nil notes) (w.closes [] nothing_more)
 
-  pub Ran-looks_back : (n : ℕ) (answered : List (List ℕ)) (acts : List Act) (l : Live) (notes : List Note) (r : Result ⊤ Ending) (to : Live) → StandsAt start answered acts l → Ran id n l notes r to → LooksBack id start answered acts (run_end r) to notes
-  Ran-looks_back n answered acts l notes r to s (turn.all_turns d) =
-      let w = Turns-went (replicate n tt) answered acts l notes to s d in
+  pub Ran-looks_back : (n : ℕ) (answered : List (List ℕ)) (acts : List Act) (d : Desk) (notes : List Note) (r : Result ⊤ Ending) (to : Desk) → StandsAt start answered acts d.live → Ran id n d notes r to → LooksBack id start answered acts (run_end r) to.live notes
+  Ran-looks_back n answered acts d notes r to s (turns.all_turns t) =
+      let w = Turns-went (replicate n tt) answered acts d notes to s t in
       record {
         frames = w.now;
         recounts = subst (λ z. Recounts id start answered acts z w.now) (append-nil notes) (w.goes_on [] w.now done);
-        goes_on = λ h. subst (λ z. StandsAt start w.now z to) w.are w.stands;
+        goes_on = λ h. subst (λ z. StandsAt start w.now z to.live) w.are w.stands;
         shown = tt;
       }
-  Ran-looks_back n answered acts l notes r to s (turn.cut {to = at} {notes = xs} {e = e} h d) =
-      let w = Turns-why (replicate n tt) answered acts l xs e at s d in
+  Ran-looks_back n answered acts d notes r to s (turns.cut {to = at} {notes = xs} {e = e} h t) =
+      let w = Turns-why (replicate n tt) answered acts d xs e at s t in
       record {
         frames = w.ended.now;
         recounts = w.ended.closes (Did act.Cut ∷ []) cuts_off;
         goes_on = λ h. absurd (never_spent e h);
         shown = shown_before (run_end (Err e)) w.ended.now xs (Did act.Cut ∷ []) w.shown;
       }
-  Ran-looks_back n answered acts l notes r to s (turn.cut_memory {to = at} {e = e} h d) =
-      let w = Turns-why (replicate n tt) answered acts l notes e at s d in
-      record { frames = w.ended.now; recounts = closed answered acts notes at w.ended; goes_on = λ h. absurd (never_spent ending.OutOfMemory h); shown = tt }
-  Ran-looks_back n answered acts l notes r to s (turn.no_cut {to = at} {e = e} h d) =
-      let w = Turns-why (replicate n tt) answered acts l notes e at s d in
-      record { frames = w.ended.now; recounts = closed answered acts notes at w.ended; goes_on = λ h. absurd (never_spent e h); shown = w.shown }
+  Ran-looks_back n answered acts d notes r to s (turns.cut_memory {to = at} {e = e} h t) =
+      let w = Turns-why (replicate n tt) answered acts d notes e at s t in
+      record { frames = w.ended.now; recounts = closed answered acts notes at.live w.ended; goes_on = λ h. absurd (never_spent ending.OutOfMemory h); shown = tt }
+  Ran-looks_back n answered acts d notes r to s (turns.no_cut {to = at} {e = e} h t) =
+      let w = Turns-why (replicate n tt) answered acts d notes e at s t in
+      record { frames = w.ended.now; recounts = closed answered acts notes at.live w.ended; goes_on = λ h. absurd (never_spent e h); shown = w.shown }
 
 -- a run by looking back over its connection
-pub looks_back : (id : Identity) (n : ℕ) (l : Live) (r : Result ⊤ Ending) (to : Live) (old new : Seen) → Goes old new (λ notes. Ran id n l notes r to) → (start : State) (answered : List (List ℕ)) (acts : List Act) → StandsAt start answered acts l → Goes old new (LooksBack id start answered acts (run_end r) to)
-looks_back id n l r to old new g start answered acts s = (g.0, g.1, Ran-looks_back id start n answered acts l g.0 r to s g.2)
+pub looks_back : (id : Identity) (n : ℕ) (d : Desk) (r : Result ⊤ Ending) (to : Desk) (old new : Seen) → Goes old new (λ notes. Ran id n d notes r to) → (start : State) (answered : List (List ℕ)) (acts : List Act) → StandsAt start answered acts d.live → Goes old new (LooksBack id start answered acts (run_end r) to.live)
+looks_back id n d r to old new g start answered acts s = (g.0, g.1, Ran-looks_back id start n answered acts d g.0 r to s g.2)

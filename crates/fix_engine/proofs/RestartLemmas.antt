@@ -9,7 +9,7 @@ use Rattle.fix_base.specs.declared.entry.Stored.{Stored}
 use Rattle.fix_base.specs.End.{End, folded}
 use Rattle.fix_base.specs.EndStep as steps
 use Rattle.fix_base.specs.EndStep.{EndState, EndRun, handled_with}
-use Rattle.fix_engine.specs.Outside.{IsStoredOf}
+use Rattle.fix_rim.specs.Outside.{IsStoredOf}
 use Rattle.fix_engine.specs.Lawful.{IsCertain, MayHold}
 use Rattle.fix_engine.specs.Run.{state_of}
 use Rattle.fix_engine.specs.Restart.{HasNumbersOf, StartsAt, Restarts}

@@ -8,11 +8,18 @@ use Rattle.fix_base.specs.Reader.{AreOfOneConnection}
 use Rattle.fix_base.specs.Payload.{LAST_TIME, IsPersistentEntry}
 use Rattle.fix_base.specs.Seen.{Note, Did, acts_of}
 use Rattle.fix_base.proofs.SeenLemmas.{acts_of-append}
+use Rattle.fix_fields.specs.Drafted.{DraftText}
 use Rattle.fix_engine.specs.State.{State, Ending, Step, Say, Logon, Logout, with_last, counted}
 use Rattle.fix_engine.specs.Fold.{Each, none, ends, goes, AndThen, first_ends, both}
 use Rattle.fix_engine.specs.Answer.{Performed, entry_of, nothing, count, go_up, close, give_up, taken, hand_lost, hand_memory, spent, keep_memory, keep_lost, sent, write_lost, write_memory}
+use Rattle.fix_engine.specs.declared.stop.SendFault.{SendFault}
+use Rattle.fix_engine.specs.Drafted as drafted
+use Rattle.fix_engine.specs.Drafted.{KeepsDraft, Drafting}
 use Rattle.fix_engine.specs.InStep.{IsOfRun, AreOfRun}
-use Rattle.fix_engine.specs.Turn.{Live, Taken, no_more, ends as ends_at, goes as goes_on, fed_frames, fed_memory, Heard, bytes, idle, over, read_lost, read_memory, Clocked, now, now_memory, KeptExpected, same, kept, expect_lost, expect_memory, Turn, stops, keeps, keeps_not, Ran, all_turns, cut, cut_memory, no_cut}
+use Rattle.fix_engine.specs.Turn.{Live, Taken, no_more, ends as ends_at, goes as goes_on, fed_frames, fed_memory, Heard, bytes, idle, over, read_lost, read_memory, Clocked, now, now_memory, KeptExpected, same, kept, expect_lost, expect_memory}
+use Rattle.fix_engine.specs.Desk as turns
+use Rattle.fix_engine.specs.Desk.{Desk, Sends, Holding, Offered, Beside, Met, Turn, Ran}
+use Rattle.fix_engine.proofs.DraftFrames.{draft_persistent}
 
 pub of_run-append : (xs ys : List Act) → AreOfRun xs → AreOfRun ys → AreOfRun (xs ++ ys)
 of_run-append [] ys h k = k
@@ -96,24 +103,68 @@ Clocked-plainly : (l : Live) (notes : List Note) (r : Result ⊤ Ending) (to : L
 Clocked-plainly l notes r to (now t) = λ h. ((tt, tt), omega arith)
 Clocked-plainly l notes r to now_memory = λ h. (tt, h)
 
-Met-plainly : (id : Identity) {l to : Live} {notes : List Note} {r : Result ⊤ Ending} → AndThen (Heard id) Clocked l notes r to → Plainly l.state.reading notes to.state.reading
-Met-plainly id (first_ends d) = Heard-plainly id _ _ _ _ d
-Met-plainly id {l = l} {to = to} (both {mid = mid} {first = first} {more = more} d others) = plainly_then l.state.reading mid.state.reading to.state.reading first more (Heard-plainly id _ _ _ _ d) (Clocked-plainly _ _ _ _ others)
-
 KeptExpected-plainly : (l : Live) (notes : List Note) (r : Result ⊤ Ending) (to : Live) → KeptExpected l notes r to → Plainly l.state.reading notes to.state.reading
 KeptExpected-plainly l notes r to (same k) = λ h. (tt, h)
 KeptExpected-plainly l notes r to (kept k) = λ h. ((tt, tt), h)
 KeptExpected-plainly l notes r to (expect_lost k) = λ h. ((tt, tt), h)
 KeptExpected-plainly l notes r to (expect_memory k) = λ h. (tt, h)
 
-Turn-plainly : (id : Identity) (l : Live) (u : ⊤) (notes : List Note) (r : Result ⊤ Ending) (to : Live) → Turn id l notes r to → Plainly l.state.reading notes to.state.reading
-Turn-plainly id l u notes r to (stops h d) = Met-plainly id d
-Turn-plainly id l u notes r to (keeps {mid = mid} {first = first} {more = more} h d k) = plainly_then l.state.reading mid.state.reading to.state.reading first more (Met-plainly id d) (KeptExpected-plainly _ _ _ _ k)
-Turn-plainly id l u notes r to (keeps_not {mid = mid} {first = first} {more = more} h d k) = plainly_then l.state.reading mid.state.reading to.state.reading first more (Met-plainly id d) (KeptExpected-plainly _ _ _ _ k)
+-- one part, and then the other
+AndThen-plainly : {S : Type 0} (time : S → ℕ) {A B : S → List Note → Result ⊤ Ending → S → Type 0} {s s' : S} {notes : List Note} {r : Result ⊤ Ending} → ((s : S) (notes : List Note) (r : Result ⊤ Ending) (s' : S) → A s notes r s' → Plainly (time s) notes (time s')) → ((s : S) (notes : List Note) (r : Result ⊤ Ending) (s' : S) → B s notes r s' → Plainly (time s) notes (time s')) → AndThen A B s notes r s' → Plainly (time s) notes (time s')
+AndThen-plainly time one other (first_ends d) = one _ _ _ _ d
+AndThen-plainly time {s = s} {s' = s'} one other (both {mid = mid} {first = first} {more = more} d others) = plainly_then (time s) (time mid) (time s') first more (one _ _ _ _ d) (other _ _ _ _ others)
+
+-- ---- a draft
+
+-- what is kept of a draft may be sent again
+KeepsDraft-plainly : (d : DraftText) (s : State) (notes : List Note) (r : Result ℕ SendFault) (s' : State) → KeepsDraft d s notes r s' → Plainly s.reading notes s'.reading
+KeepsDraft-plainly d s notes r s' drafted.unkept = λ h. (tt, h)
+KeepsDraft-plainly d s notes r s' (drafted.kept_lost is) = λ h. ((draft_persistent s d is h, tt), h)
+KeepsDraft-plainly d s notes r s' (drafted.was_kept is) = λ h. ((draft_persistent s d is h, tt), h)
+
+pub Drafting-plainly : (id : Identity) (d : DraftText) (s : State) (notes : List Note) (r : Result ℕ SendFault) (s' : State) → Drafting id d s notes r s' → Plainly s.reading notes s'.reading
+Drafting-plainly id d s notes r s' drafted.no_memory = λ h. (tt, h)
+Drafting-plainly id d s notes r s' (drafted.lost k) = KeepsDraft-plainly d s notes _ s' k
+Drafting-plainly id d s notes r s' (drafted.stored other k) = KeepsDraft-plainly d s notes _ s' k
+Drafting-plainly id d s notes r s' (drafted.sent {notes = first} text up said k) = plainly_then s.reading s'.reading s'.reading first _ (KeepsDraft-plainly d s first _ s' k) (λ h. ((tt, tt), h))
+Drafting-plainly id d s notes r s' (drafted.write_lost {notes = first} text many up said k) = plainly_then s.reading s'.reading s'.reading first _ (KeepsDraft-plainly d s first _ s' k) (λ h. ((tt, tt), h))
+Drafting-plainly id d s notes r s' (drafted.write_memory up k) = KeepsDraft-plainly d s notes _ s' k
+
+Sends-plainly : (id : Identity) (draft : DraftText) (d : Desk) (notes : List Note) (r : Result ⊤ Ending) (to : Desk) → Sends id draft d notes r to → Plainly d.live.state.reading notes to.live.state.reading
+Sends-plainly id draft d notes r to (turns.spent k) = λ h. (tt, h)
+Sends-plainly id draft d notes r to (turns.sends {s = s} small is k) = Drafting-plainly id draft d.live.state notes _ s k
+
+Holding-plainly : (id : Identity) (d : Desk) (notes : List Note) (r : Result ⊤ Ending) (to : Desk) → Holding id d notes r to → Plainly d.live.state.reading notes to.live.state.reading
+Holding-plainly id d notes r to (turns.empty k) = λ h. (tt, h)
+Holding-plainly id d notes r to (turns.holds draft is k) = Sends-plainly id draft d notes r to k
+
+Offered-plainly : (id : Identity) (d : Desk) (notes : List Note) (r : Result ⊤ Ending) (to : Desk) → Offered id d notes r to → Plainly d.live.state.reading notes to.live.state.reading
+Offered-plainly id d notes r to (turns.not_up k) = λ h. (tt, h)
+Offered-plainly id d notes r to (turns.asked {notes = more} given up empty k) = λ h. Holding-plainly id _ more r to k h
+Offered-plainly id d notes r to (turns.was_in_hand draft up is k) = Sends-plainly id draft d notes r to k
+
+-- ---- a turn, and a run
+
+abbrev time_at : Desk → ℕ
+time_at d = d.live.state.reading
+
+Beside-plainly : {R : Live → List Note → Result ⊤ Ending → Live → Type 0} → ((l : Live) (notes : List Note) (r : Result ⊤ Ending) (to : Live) → R l notes r to → Plainly l.state.reading notes to.state.reading) → (d : Desk) (notes : List Note) (r : Result ⊤ Ending) (to : Desk) → Beside R d notes r to → Plainly d.live.state.reading notes to.live.state.reading
+Beside-plainly part d notes r to (turns.beside {to = mid} k) = part d.live notes r mid k
+
+HeardClocked-plainly : (id : Identity) (l : Live) (notes : List Note) (r : Result ⊤ Ending) (to : Live) → AndThen (Heard id) Clocked l notes r to → Plainly l.state.reading notes to.state.reading
+HeardClocked-plainly id l notes r to = AndThen-plainly time_of (Heard-plainly id) Clocked-plainly
+
+Met-plainly : (id : Identity) {d to : Desk} {notes : List Note} {r : Result ⊤ Ending} → Met id d notes r to → Plainly d.live.state.reading notes to.live.state.reading
+Met-plainly id = AndThen-plainly time_at (Offered-plainly id) (Beside-plainly (HeardClocked-plainly id))
+
+Turn-plainly : (id : Identity) (d : Desk) (u : ⊤) (notes : List Note) (r : Result ⊤ Ending) (to : Desk) → Turn id d notes r to → Plainly d.live.state.reading notes to.live.state.reading
+Turn-plainly id d u notes r to (turns.stops h k) = Met-plainly id k
+Turn-plainly id d u notes r to (turns.keeps {mid = mid} {first = first} {more = more} h k last) = plainly_then d.live.state.reading mid.live.state.reading to.live.state.reading first more (Met-plainly id k) (Beside-plainly KeptExpected-plainly _ _ _ _ last)
+Turn-plainly id d u notes r to (turns.keeps_not {mid = mid} {first = first} {more = more} h k last) = plainly_then d.live.state.reading mid.live.state.reading to.live.state.reading first more (Met-plainly id k) (Beside-plainly KeptExpected-plainly _ _ _ _ last)
 
 -- the acts of a run, from a reading on that is before the end of 2099
-pub Ran-plainly : (id : Identity) (n : ℕ) (l : Live) (notes : List Note) (r : Result ⊤ Ending) (to : Live) → Ran id n l notes r to → l.state.reading ≤ LAST_TIME → IsRun notes
-Ran-plainly id n l notes r to (all_turns d) h = (Each-plainly time_of (Turn-plainly id) d h).0
-Ran-plainly id n l notes r to (cut {notes = first} k d) h = IsRun-append first (Did act.Cut ∷ []) (Each-plainly time_of (Turn-plainly id) d h).0 (tt, tt)
-Ran-plainly id n l notes r to (cut_memory k d) h = (Each-plainly time_of (Turn-plainly id) d h).0
-Ran-plainly id n l notes r to (no_cut k d) h = (Each-plainly time_of (Turn-plainly id) d h).0
+pub Ran-plainly : (id : Identity) (n : ℕ) (d : Desk) (notes : List Note) (r : Result ⊤ Ending) (to : Desk) → Ran id n d notes r to → d.live.state.reading ≤ LAST_TIME → IsRun notes
+Ran-plainly id n d notes r to (turns.all_turns k) h = (Each-plainly time_at (Turn-plainly id) k h).0
+Ran-plainly id n d notes r to (turns.cut {notes = first} c k) h = IsRun-append first (Did act.Cut ∷ []) (Each-plainly time_at (Turn-plainly id) k h).0 (tt, tt)
+Ran-plainly id n d notes r to (turns.cut_memory c k) h = (Each-plainly time_at (Turn-plainly id) k h).0
+Ran-plainly id n d notes r to (turns.no_cut c k) h = (Each-plainly time_at (Turn-plainly id) k h).0

@@ -1,20 +1,17 @@
 -- Every `send` is a run of a lawful end, and leaves the session in step.
-use Rattle.std.proofs.Common.{◌≡◌, ◌≢◌, inl, inr, ℕ, ◌+◌, ◌-◌, ◌<◌, ◌≤◌, List, [], ◌∷◌, ◌++◌, length, take, Bool, true, false, Option, Some, None, Result, Ok, Err, refl, sym, ap, ◌∙◌, subst, append_assoc, arith}
+use Rattle.std.proofs.Common.{◌≡◌, ℕ, ◌+◌, ◌-◌, ◌<◌, ◌≤◌, List, [], ◌∷◌, ◌++◌, length, take, true, false, Option, Some, None, Result, Ok, Err, refl, sym, ◌∙◌, subst, append_assoc, arith}
 use Rattle.std.specs.Prelude.{⊤, IfNone, OnOk}
 use Rattle.fix_base.specs.declared.identity.Identity.{Identity}
-use Rattle.fix_base.specs.declared.entry.Record.TheVariants.{Push}
 use Rattle.fix_base.specs.declared.act.Act.{Act}
 use Rattle.fix_base.specs.declared.act.Act.TheVariants as act
 use Rattle.fix_base.specs.Stream.{Ahead}
 use Rattle.fix_base.specs.Payload.{LAST_TIME}
-use Rattle.fix_base.specs.Wrote as wrote
-use Rattle.fix_base.specs.Wrote.{IsOriginal}
 use Rattle.fix_base.specs.EndStep as steps
-use Rattle.fix_base.specs.EndStep.{Connection, EndState}
-use Rattle.fix_base.specs.Seen.{Note, Did, Failed, LinkPart, acts_of, Seen, Moves, Goes, store_failures, link_failures}
-use Rattle.fix_base.proofs.SeenLemmas.{acts_of-append, store_failures-append, link_failures-append}
+use Rattle.fix_base.specs.EndStep.{EndState}
+use Rattle.fix_base.specs.Seen.{Note, Did, Failed, LinkPart, acts_of, Seen, Goes, store_failures, link_failures}
+use Rattle.fix_base.proofs.SeenLemmas.{store_failures-append, link_failures-append}
 use Rattle.fix_base.proofs.RunLemmas.{EndRun-append}
-use Rattle.fix_fields.specs.Drafted.{DraftText, IsDraft}
+use Rattle.fix_fields.specs.Drafted.{DraftText}
 use Rattle.fix_engine.specs.State.{State, Down, Up, with_phase, with_last, with_reading}
 use Rattle.fix_engine.specs.declared.stop.SendFault.{SendFault}
 use Rattle.fix_engine.specs.declared.stop.SendFault.TheVariants as fault
@@ -22,95 +19,48 @@ use Rattle.fix_engine.specs.declared.stop.StopCause.{StopCause}
 use Rattle.fix_engine.specs.Turn.{Live, live}
 use Rattle.fix_engine.specs.Run.{Seat}
 use Rattle.fix_engine.specs.Drafted as drafted
-use Rattle.fix_engine.specs.Drafted.{IsOfDraft, KeepsDraft, Drafting, Drafted, SentTo, SendsTo, entry_of_draft, is_link_fault, open_sent, send_stop, SendHasCause}
+use Rattle.fix_engine.specs.Drafted.{KeepsDraft, Drafting, Drafted, SentTo, SendsTo, entry_of_draft, is_link_fault, open_sent, send_stop, SendHasCause}
 use Rattle.fix_engine.specs.Lawful as lawful
-use Rattle.fix_engine.specs.Lawful.{HasNumbers, IsCertain, IsOn, Fits, HasLeft, IsLost, IsInDoubt, Leads}
+use Rattle.fix_engine.specs.Lawful.{HasNumbers, IsCertain, Fits, HasLeft, IsLost, Leads}
 use Rattle.fix_engine.specs.InStep as step
-use Rattle.fix_engine.specs.InStep.{IsBeside, IsTape, IsStored, IsInStep, StandsInStep, Trails, IsConnected, AreOfRun}
+use Rattle.fix_engine.specs.InStep.{IsBeside, IsTape, IsInStep, StandsInStep, Trails, IsConnected, AreOfRun}
 use Rattle.fix_engine.specs.LawfulSend.{AfterSend, IsLawfulSend}
-use Rattle.fix_engine.proofs.LeadsLemmas.{leads_nowhere, leads_step, leads_on, leads_weaker, holds_end}
-use Rattle.fix_engine.proofs.OnLemmas.{pushed, writing, connected, settled_pushed, original_all, original_some, on_original, on_pushed, on_state}
-use Rattle.fix_engine.proofs.LawfulSteps.{push_lost, push_kept, push_wrote, push_alone, settled_sent}
-use Rattle.fix_engine.proofs.DraftFrames.{draft_is_body, draft_persistent}
-use Rattle.fix_engine.proofs.RunActs.{of_run-append}
+use Rattle.fix_engine.proofs.LeadsLemmas.{certain_settled, settled_phase, lost_down, leads_nowhere, leads_step, leads_on, leads_weaker, holds_end}
+use Rattle.fix_engine.proofs.OnLemmas.{pushed, settled_pushed, on_state}
+use Rattle.fix_engine.proofs.LawfulSteps.{push_kept}
+use Rattle.fix_engine.proofs.DraftLeads.{BehindDraft, behind_weaker, lost_leads, drafting_fits}
+use Rattle.fix_engine.proofs.RunActs.{of_run-append, Drafting-plainly}
 use Rattle.fix_engine.proofs.InStepLemmas.{seated, beside_settled, beside_fits, moved, trail, if_none, stands_on, tape_moves, store_moves, stored_on}
-
--- ---- a draft is the original of its entry
-
-draft_original : (id : Identity) (n : ℕ) (s : State) (d : DraftText) (text : List ℕ) → IsOfDraft id n s.reading d text → IsOriginal id n (entry_of_draft s d) text
-draft_original id n s d text h = record {
-  type = d.kind;
-  at = h.at;
-  rest = h.draft.fields;
-  carries = wrote.app (draft_is_body d h.draft);
-  sent_at = record { digits = 3; precision = inr (inl refl); is = h.sent_at };
-  sealed_so = h.sealed_so;
-}
 
 -- ---- it is lawful
 
 -- behind a sending, before a connection is cut
 abbrev BehindSend : Identity → Ahead → Result ℕ SendFault → State → EndState → Type 0
-BehindSend id a (Ok n) s e = IsBeside id (live s a) e
-BehindSend id a (Err (fault.Stopped why)) s e = ⊥
-BehindSend id a (Err fault.NumbersSpent) s e = ⊥
-BehindSend id a (Err fault.OutOfMemory) s e = IsCertain s e
-BehindSend id a (Err fault.StoreFault) s e = IsInDoubt s e
-BehindSend id a (Err (fault.LinkFault n)) s e = IsCertain s e
+BehindSend id a r s e = BehindDraft (IsBeside id (live s a)) r s e
 
 never_both : (s : State) → s.phase ≡ Down → s.phase ≡ Up → ⊥
 never_both s p q = cc
 
 module _ (id : Identity) (a : Ahead) (d : DraftText) where
-  lost_leads : (s s' : State) (notes : List Note) → KeepsDraft d s notes (Err fault.StoreFault) s' → (e : EndState) → IsCertain s e → Leads id e (acts_of notes) (IsInDoubt s')
-  lost_leads s s' notes (drafted.kept_lost is) e h = push_lost id s (entry_of_draft s d) e (lawful.draft d is) h
-
-  stored_on_connection : (s s' : State) (n : ℕ) (notes : List Note) → KeepsDraft d s notes (Ok n) s' → (e : EndState) → Fits id (live s a) e → Leads id e (acts_of notes) (IsBeside id (live s' a))
-  stored_on_connection s s' n notes (drafted.was_kept is) e f =
-      let to = pushed e (entry_of_draft s d) in
-      let end = live (with_last s (s.last + 1)) a in
-      push_kept id (entry_of_draft s d) e [] (IsBeside id end) f.on.settled.doubt
-      (leads_nowhere id to (IsBeside id end) (step.connected (record { connection = f.connection; on = on_pushed id s a f.connection e (entry_of_draft s d) f.on; counted = f.counted })))
-
   stored_down : (s s' : State) (n : ℕ) (notes : List Note) → KeepsDraft d s notes (Ok n) s' → (e : EndState) → s.phase ≡ Down → IsCertain s e → Leads id e (acts_of notes) (IsBeside id (live s' a))
   stored_down s s' n notes (drafted.was_kept is) e p h =
       let end = live (with_last s (s.last + 1)) a in
       push_kept id (entry_of_draft s d) e [] (IsBeside id end) h.doubt
       (leads_nowhere id (pushed e (entry_of_draft s d)) (IsBeside id end) (step.down p (settled_pushed s e (entry_of_draft s d) h)))
 
-  stored_alone : (s s' : State) (n : ℕ) (notes : List Note) → KeepsDraft d s notes (Ok n) s' → (e : EndState) → IsCertain s e → Leads id e (acts_of notes) (IsCertain s')
-  stored_alone s s' n notes (drafted.was_kept is) e h = push_alone id s (entry_of_draft s d) e h
-
-  sent_leads : (s s' : State) (n : ℕ) (notes : List Note) (text : List ℕ) → s.last < 999999999 → IsOfDraft id (s.last + 1) s.reading d text → KeepsDraft d s notes (Ok n) s' → (e : EndState) → Fits id (live s a) e → Leads id e (acts_of (notes ++ Did (act.Wrote text) ∷ [])) (IsBeside id (live s' a))
-  sent_leads s s' n notes text small said (drafted.was_kept is) e f =
-      let c = f.connection in
-      let entry = entry_of_draft s d in
-      let end = live (with_last s (s.last + 1)) a in
-      let original = draft_original id (s.last + 1) s d text said in
-      push_wrote id s a c entry e text [] (IsBeside id end) f.on (original_all id s a c e entry text small original f.on)
-      (leads_nowhere id (connected (pushed e entry) (writing c text)) (IsBeside id end) (step.connected (record { connection = writing c text; on = on_original id s a c e entry text small original f.on; counted = f.counted })))
-
-  write_lost_leads : (s s' : State) (n many : ℕ) (notes more : List Note) (text : List ℕ) → s.last < 999999999 → IsOfDraft id (s.last + 1) s.reading d text → KeepsDraft d s notes (Ok n) s' → acts_of more ≡ [] → (e : EndState) → Fits id (live s a) e → Leads id e (acts_of (notes ++ Did (act.Wrote (take many text)) ∷ more)) (IsCertain s')
-  write_lost_leads s s' n many notes more text small said (drafted.was_kept is) nothing e f =
-      let c = f.connection in
-      let entry = entry_of_draft s d in
-      let end = with_last s (s.last + 1) in
-      let part = take many text in
-      let original = draft_original id (s.last + 1) s d text said in
-      subst (λ (acts : List Act). Leads id e (act.Kept (Push entry) ∷ act.Wrote part ∷ acts) (IsCertain end)) (sym nothing)
-      (push_wrote id s a c entry e part [] (IsCertain end) f.on (original_some id s a c e entry text many small original f.on)
-      (leads_nowhere id (connected (pushed e entry) (writing c part)) (IsCertain end) (settled_sent id s c entry e part f.on.settled)))
+  -- where there is no connection
+  drafting_down : (s : State) (notes : List Note) (r : Result ℕ SendFault) (s' : State) → Drafting id d s notes r s' → (e : EndState) → s.phase ≡ Down → IsCertain s e → Leads id e (acts_of notes) (BehindSend id a r s')
+  drafting_down s notes r s' drafted.no_memory e p h = leads_nowhere id e (IsCertain s) h
+  drafting_down s notes r s' (drafted.lost k) e p h = lost_leads id a d s s' notes k e h
+  drafting_down s notes r s' (drafted.stored {n = n} other k) e p h = stored_down s s' n notes k e p h
+  drafting_down s notes r s' (drafted.sent text up said k) e p h = absurd (never_both s p up)
+  drafting_down s notes r s' (drafted.write_lost text many up said k) e p h = absurd (never_both s p up)
+  drafting_down s notes r s' (drafted.write_memory up k) e p h = absurd (never_both s p up)
 
   drafting_leads : (s : State) (notes : List Note) (r : Result ℕ SendFault) (s' : State) → Drafting id d s notes r s' → s.last < 999999999 → (e : EndState) → IsBeside id (live s a) e → Leads id e (acts_of notes) (BehindSend id a r s')
-  drafting_leads s notes r s' drafted.no_memory small e b = leads_nowhere id e (IsCertain s) (beside_settled id (live s a) e b)
-  drafting_leads s notes r s' (drafted.lost k) small e b = lost_leads s s' notes k e (beside_settled id (live s a) e b)
-  drafting_leads s notes r s' (drafted.stored {n = n} other k) small e (step.connected f) = stored_on_connection s s' n notes k e f
-  drafting_leads s notes r s' (drafted.stored {n = n} other k) small e (step.down p h) = stored_down s s' n notes k e p h
-  drafting_leads s notes r s' (drafted.sent {notes = first} {n = n} text up said k) small e (step.connected f) = sent_leads s s' n first text small said k e f
-  drafting_leads s notes r s' (drafted.sent text up said k) small e (step.down p h) = absurd (never_both s p up)
-  drafting_leads s notes r s' (drafted.write_lost {notes = first} {n = n} text many up said k) small e (step.connected f) = write_lost_leads s s' n many first _ text small said k refl e f
-  drafting_leads s notes r s' (drafted.write_lost text many up said k) small e (step.down p h) = absurd (never_both s p up)
-  drafting_leads s notes r s' (drafted.write_memory {n = n} up k) small e b = stored_alone s s' n notes k e (beside_settled id (live s a) e b)
+  drafting_leads s notes r s' k small e (step.connected f) =
+      leads_weaker id e (acts_of notes) (BehindDraft (Fits id (live s' a)) r s') (BehindSend id a r s') (λ m q. behind_weaker (Fits id (live s' a)) (IsBeside id (live s' a)) r s' m step.connected q) (drafting_fits id a d s notes r s' k small e f)
+  drafting_leads s notes r s' k small e (step.down p h) = drafting_down s notes r s' k e p h
 
   -- a look at the clock leaves the end in step
   beside_reading : (s : State) (t : ℕ) (e : EndState) → IsBeside id (live s a) e → IsBeside id (live (with_reading s t) a) e
@@ -122,14 +72,6 @@ module _ (id : Identity) (a : Ahead) (d : DraftText) where
   drafted_leads s notes r s' (drafted.at_time {notes = more} t k) small e b =
       leads_step id e e (act.Now t) (acts_of more) (BehindSend id a r s') (record { certain = (beside_settled id (live s a) e b).doubt; row = steps.now t }) (λ held h. h)
       (drafting_leads (with_reading s t) more r s' k small e (beside_reading s t e b))
-
-  settled_down : (s : State) (e : EndState) → IsCertain s e → IsCertain (with_phase s Down) e
-  settled_down s e h = record { doubt = h.doubt; numbers = record { expected = h.numbers.expected; stored = h.numbers.stored; out = h.numbers.out } }
-
-  lost_down : (s : State) {lost : _} → IsLost s lost → IsLost (with_phase s Down) lost
-  lost_down s (lawful.entry say) = lawful.entry say
-  lost_down s (lawful.draft x h) = lawful.draft x h
-  lost_down s lawful.number = lawful.number
 
   -- a fault of the connection leaves nothing in doubt
   link_settled : (why : SendFault) (s : State) (e : EndState) → is_link_fault why ≡ true → BehindSend id a (Err why) s e → IsCertain s e
@@ -150,7 +92,7 @@ module _ (id : Identity) (a : Ahead) (d : DraftText) where
   not_link_after (fault.LinkFault n) s e t h = cc
   not_link_after (fault.Stopped why) s e t h = absurd h
   not_link_after fault.NumbersSpent s e t h = absurd h
-  not_link_after fault.OutOfMemory s e t h = settled_down s e h
+  not_link_after fault.OutOfMemory s e t h = settled_phase s e h
   not_link_after fault.StoreFault s e t h = record {
     numbers = record { expected = h.numbers.expected; stored = h.numbers.stored; out = h.numbers.out };
     record_lost = h.record_lost;
@@ -166,9 +108,6 @@ module _ (id : Identity) (a : Ahead) (d : DraftText) where
       let P = AfterSend {T = ℕ} id (Err why) (live (with_phase s Down) a) in
       leads_step id e left act.Cut [] P (record { certain = h.doubt; row = steps.cut }) (λ held k. k) (leads_nowhere id left P (link_after why (with_phase s Down) left t is_left))
 
-  certain_settled : (s : State) (e : EndState) → IsCertain s e → e.doubt ≡ None
-  certain_settled s e h = h.doubt
-
   sent_to_leads : (s : State) (notes : List Note) (r : Result ℕ SendFault) (s' : State) → SentTo id d s notes r s' → s.last < 999999999 → (e : EndState) → IsBeside id (live s a) e → Leads id e (acts_of notes) (AfterSend id r (live s' a))
   sent_to_leads s notes r s' (drafted.went {n = n} k) small e b = drafted_leads s notes (Ok n) s' k small e b
   sent_to_leads s notes r s' (drafted.cut {notes = first} {why = why} {s' = behind} t k) small e b =
@@ -176,7 +115,7 @@ module _ (id : Identity) (a : Ahead) (d : DraftText) where
       (leads_weaker id e (acts_of first) (BehindSend id a (Err why) behind) (IsCertain behind) (λ m q. link_settled why behind m t q) (drafted_leads s first (Err why) behind k small e b))
       (λ m q. cut_leads why behind m t q)
   sent_to_leads s notes r s' (drafted.cut_memory {why = why} {s' = behind} t k) small e b =
-      leads_weaker id e (acts_of notes) (BehindSend id a (Err why) behind) (IsCertain (with_phase behind Down)) (λ m q. settled_down behind m (link_settled why behind m t q)) (drafted_leads s notes (Err why) behind k small e b)
+      leads_weaker id e (acts_of notes) (BehindSend id a (Err why) behind) (IsCertain (with_phase behind Down)) (λ m q. settled_phase behind m (link_settled why behind m t q)) (drafted_leads s notes (Err why) behind k small e b)
   sent_to_leads s notes r s' (drafted.no_cut {why = why} {s' = behind} t k) small e b =
       leads_weaker id e (acts_of notes) (BehindSend id a (Err why) behind) (AfterSend {T = ℕ} id (Err why) (live (with_phase behind Down) a)) (λ m q. not_link_after why behind m t q) (drafted_leads s notes (Err why) behind k small e b)
 
@@ -218,52 +157,35 @@ open_unstopped (Err (fault.Stopped why)) s none = refl
 open_unstopped (Err fault.OutOfMemory) s none = refl
 open_unstopped (Err fault.StoreFault) s none = cc
 
-send_moved : (d : DraftText) (seat : Seat) (r : Result ℕ SendFault) (to : Live) (old new : Seen) → new.open_at ≡ open_sent r to.state → Goes old new (SendsTo seat.identity d seat.live r to) → send_stop r ≡ None → (start : EndState) (before : List Act) → IsInStep start before old seat → IsInStep start before new (seated seat to (send_stop r))
+send_moved : (d : DraftText) (seat : Seat) (r : Result ℕ SendFault) (to : Live) (old new : Seen) → new.open_at ≡ open_sent r to.state → Goes old new (SendsTo seat.identity d seat.live r to) → send_stop r ≡ None → (start : EndState) (before : List Act) → IsInStep start before old seat → IsInStep start before new (seated seat to seat.hand (send_stop r))
 send_moved d seat r to old new opens g none start before h =
-    moved start before old new seat to (send_stop r) g.0 (AfterSend seat.identity r to) g.1 (opens ∙ open_unstopped r to.state none) (λ e k. send_beside seat.identity r to e none k) h
+    moved start before old new seat to seat.hand (send_stop r) g.0 (AfterSend seat.identity r to) g.1 (opens ∙ open_unstopped r to.state none) (λ e k. send_beside seat.identity r to e none k) h
     (Sends-lawful seat.identity d seat.live r to g.0 g.2 h.to h.beside)
 
-pub send_in_step : (d : DraftText) (seat : Seat) (r : Result ℕ SendFault) (to : Live) (old new : Seen) → new.open_at ≡ open_sent r to.state → Goes old new (SendsTo seat.identity d seat.live r to) → IfNone (send_stop r) ((start : EndState) (before : List Act) → IsInStep start before old seat → IsInStep start before new (seated seat to (send_stop r)))
+pub send_in_step : (d : DraftText) (seat : Seat) (r : Result ℕ SendFault) (to : Live) (old new : Seen) → new.open_at ≡ open_sent r to.state → Goes old new (SendsTo seat.identity d seat.live r to) → IfNone (send_stop r) ((start : EndState) (before : List Act) → IsInStep start before old seat → IsInStep start before new (seated seat to seat.hand (send_stop r)))
 send_in_step d seat r to old new opens g =
-    if_none (send_stop r) ((start : EndState) (before : List Act) → IsInStep start before old seat → IsInStep start before new (seated seat to (send_stop r)))
+    if_none (send_stop r) ((start : EndState) (before : List Act) → IsInStep start before old seat → IsInStep start before new (seated seat to seat.hand (send_stop r)))
     (λ none. send_moved d seat r to old new opens g none)
 
-pub send_stands : (d : DraftText) (seat : Seat) (r : Result ℕ SendFault) (to : Live) (old new : Seen) → new.open_at ≡ open_sent r to.state → Goes old new (SendsTo seat.identity d seat.live r to) → StandsInStep old seat → IfNone (send_stop r) (StandsInStep new (seated seat to (send_stop r)))
+pub send_stands : (d : DraftText) (seat : Seat) (r : Result ℕ SendFault) (to : Live) (old new : Seen) → new.open_at ≡ open_sent r to.state → Goes old new (SendsTo seat.identity d seat.live r to) → StandsInStep old seat → IfNone (send_stop r) (StandsInStep new (seated seat to seat.hand (send_stop r)))
 send_stands d seat r to old new opens g h =
-    if_none (send_stop r) (StandsInStep new (seated seat to (send_stop r)))
-    (λ none. stands_on old new seat (seated seat to (send_stop r)) (opens ∙ open_unstopped r to.state none) (send_moved d seat r to old new opens g none) h)
+    if_none (send_stop r) (StandsInStep new (seated seat to seat.hand (send_stop r)))
+    (λ none. stands_on old new seat (seated seat to seat.hand (send_stop r)) (opens ∙ open_unstopped r to.state none) (send_moved d seat r to old new opens g none) h)
 
 -- whatever it answers, an end trails
-pub send_trails : (d : DraftText) (seat : Seat) (r : Result ℕ SendFault) (to : Live) (stopped : Option StopCause) (old new : Seen) → Goes old new (SendsTo seat.identity d seat.live r to) → (start : EndState) (before : List Act) → IsInStep start before old seat → Trails start before new (seated seat to stopped)
+pub send_trails : (d : DraftText) (seat : Seat) (r : Result ℕ SendFault) (to : Live) (stopped : Option StopCause) (old new : Seen) → Goes old new (SendsTo seat.identity d seat.live r to) → (start : EndState) (before : List Act) → IsInStep start before old seat → Trails start before new (seated seat to seat.hand stopped)
 send_trails d seat r to stopped old new g start before h =
-    trail start before old new seat to stopped g.0 (AfterSend seat.identity r to) g.1 (send_numbers seat.identity r to) h
+    trail start before old new seat to seat.hand stopped g.0 (AfterSend seat.identity r to) g.1 (send_numbers seat.identity r to) h
     (Sends-lawful seat.identity d seat.live r to g.0 g.2 h.to h.beside)
 
 -- ---- it stays connected
-
--- what is kept of a draft may be sent again
-keeps_of_run : (d : DraftText) (s s' : State) (notes : List Note) (r : Result ℕ SendFault) → s.reading ≤ LAST_TIME → KeepsDraft d s notes r s' → AreOfRun (acts_of notes)
-keeps_of_run d s s' notes r small drafted.unkept = tt
-keeps_of_run d s s' notes r small (drafted.kept_lost is) = (draft_persistent s d is small, tt)
-keeps_of_run d s s' notes r small (drafted.was_kept is) = (draft_persistent s d is small, tt)
-
-then_of_run : (xs ys : List Note) → AreOfRun (acts_of xs) → AreOfRun (acts_of ys) → AreOfRun (acts_of (xs ++ ys))
-then_of_run xs ys h k = subst AreOfRun (sym (acts_of-append xs ys)) (of_run-append (acts_of xs) (acts_of ys) h k)
-
-drafting_of_run : (id : Identity) (d : DraftText) (s s' : State) (notes : List Note) (r : Result ℕ SendFault) → s.reading ≤ LAST_TIME → Drafting id d s notes r s' → AreOfRun (acts_of notes)
-drafting_of_run id d s s' notes r small drafted.no_memory = tt
-drafting_of_run id d s s' notes r small (drafted.lost k) = keeps_of_run d s s' notes r small k
-drafting_of_run id d s s' notes r small (drafted.stored other k) = keeps_of_run d s s' notes r small k
-drafting_of_run id d s s' notes r small (drafted.sent {notes = first} text up said k) = then_of_run first _ (keeps_of_run d s s' first _ small k) (tt, tt)
-drafting_of_run id d s s' notes r small (drafted.write_lost {notes = first} text many up said k) = then_of_run first _ (keeps_of_run d s s' first _ small k) (tt, tt)
-drafting_of_run id d s s' notes r small (drafted.write_memory up k) = keeps_of_run d s s' notes _ small k
 
 capped : (s : State) (t : ℕ) → (with_reading s t).reading ≤ LAST_TIME
 capped s t = omega arith
 
 drafted_of_run : (id : Identity) (d : DraftText) (s s' : State) (notes : List Note) (r : Result ℕ SendFault) → Drafted id d s notes r s' → AreOfRun (acts_of notes)
 drafted_of_run id d s s' notes r drafted.no_reading = tt
-drafted_of_run id d s s' notes r (drafted.at_time {notes = more} t k) = (tt, drafting_of_run id d (with_reading s t) s' more r (capped s t) k)
+drafted_of_run id d s s' notes r (drafted.at_time {notes = more} t k) = (tt, (Drafting-plainly id d (with_reading s t) more r s' k (capped s t)).0)
 
 sends_of_run : (id : Identity) (d : DraftText) (l to : Live) (n : ℕ) (notes : List Note) → SendsTo id d l (Ok n) to notes → AreOfRun (acts_of notes)
 sends_of_run id d l to n notes (drafted.sends {s = s} small (drafted.went k)) = drafted_of_run id d l.state s notes (Ok n) k
@@ -271,7 +193,7 @@ sends_of_run id d l to n notes (drafted.sends {s = s} small (drafted.went k)) = 
 keeps_phase : (d : DraftText) (s s' : State) (n : ℕ) (notes : List Note) → KeepsDraft d s notes (Ok n) s' → s'.phase ≡ s.phase
 keeps_phase d s s' n notes (drafted.was_kept is) = refl
 
-drafting_phase : (id : Identity) (d : DraftText) (s s' : State) (n : ℕ) (notes : List Note) → Drafting id d s notes (Ok n) s' → s'.phase ≡ s.phase
+pub drafting_phase : (id : Identity) (d : DraftText) (s s' : State) (n : ℕ) (notes : List Note) → Drafting id d s notes (Ok n) s' → s'.phase ≡ s.phase
 drafting_phase id d s s' n notes (drafted.stored other k) = keeps_phase d s s' n notes k
 drafting_phase id d s s' n notes (drafted.sent {notes = first} text up said k) = keeps_phase d s s' n first k
 
@@ -279,7 +201,7 @@ drafting_phase id d s s' n notes (drafted.sent {notes = first} text up said k) =
 sends_phase : (id : Identity) (d : DraftText) (l to : Live) (n : ℕ) (notes : List Note) → SendsTo id d l (Ok n) to notes → to.state.phase ≡ l.state.phase
 sends_phase id d l to n notes (drafted.sends {s = s} small (drafted.went (drafted.at_time {notes = more} t k))) = drafting_phase id d (with_reading l.state t) s n more k
 
-connected_on : (d : DraftText) (seat : Seat) (n : ℕ) (to : Live) (stopped : Option StopCause) (old new : Seen) → new.open_at ≡ Some to.state.last → Goes old new (SendsTo seat.identity d seat.live (Ok n) to) → (start : EndState) (before : List Act) → IsConnected start before old seat → IsConnected start before new (seated seat to stopped)
+connected_on : (d : DraftText) (seat : Seat) (n : ℕ) (to : Live) (stopped : Option StopCause) (old new : Seen) → new.open_at ≡ Some to.state.last → Goes old new (SendsTo seat.identity d seat.live (Ok n) to) → (start : EndState) (before : List Act) → IsConnected start before old seat → IsConnected start before new (seated seat to seat.hand stopped)
 connected_on d seat n to stopped old new opens g start before h =
     let acts = acts_of g.0 in
     let l = Sends-lawful seat.identity d seat.live (Ok n) to g.0 g.2 h.to (step.connected h.fits) in
@@ -299,7 +221,7 @@ connected_on d seat n to stopped old new opens g start before h =
       store = λ held s. holds_end l.to.doubt l.to.end held certain.doubt (stored_on h.opened.end h.to.end h.acts acts l.to.doubt l.to.end h.store l.store held s);
     }
 
-pub send_connected : (d : DraftText) (seat : Seat) (r : Result ℕ SendFault) (to : Live) (stopped : Option StopCause) (old new : Seen) → new.open_at ≡ open_sent r to.state → Goes old new (SendsTo seat.identity d seat.live r to) → OnOk r ((start : EndState) (before : List Act) → IsConnected start before old seat → IsConnected start before new (seated seat to stopped))
+pub send_connected : (d : DraftText) (seat : Seat) (r : Result ℕ SendFault) (to : Live) (stopped : Option StopCause) (old new : Seen) → new.open_at ≡ open_sent r to.state → Goes old new (SendsTo seat.identity d seat.live r to) → OnOk r ((start : EndState) (before : List Act) → IsConnected start before old seat → IsConnected start before new (seated seat to seat.hand stopped))
 send_connected d seat (Ok n) to stopped old new opens g = connected_on d seat n to stopped old new opens g
 send_connected d seat (Err why) to stopped old new opens g = tt
 
@@ -316,7 +238,7 @@ Blames (Err (fault.LinkFault n)) notes = 0 < link_failures notes
 keeps_blames : (d : DraftText) (s s' : State) (notes : List Note) → KeepsDraft d s notes (Err fault.StoreFault) s' → 0 < store_failures notes
 keeps_blames d s s' notes (drafted.kept_lost is) = omega arith
 
-drafting_blames : (id : Identity) (d : DraftText) (s s' : State) (notes : List Note) (r : Result ℕ SendFault) → Drafting id d s notes r s' → Blames r notes
+pub drafting_blames : (id : Identity) (d : DraftText) (s s' : State) (notes : List Note) (r : Result ℕ SendFault) → Drafting id d s notes r s' → Blames r notes
 drafting_blames id d s s' notes r drafted.no_memory = tt
 drafting_blames id d s s' notes r (drafted.lost k) = keeps_blames d s s' notes k
 drafting_blames id d s s' notes r (drafted.stored other k) = tt

@@ -7,6 +7,8 @@ use Rattle.fix_base.specs.Seen.{Note, acts_of}
 use Rattle.fix_base.proofs.ReaderLemmas.{reader}
 use Rattle.fix_engine.specs.declared.stop.RunEnd.{RunEnd}
 use Rattle.fix_engine.specs.Turn.{Live}
+use Rattle.fix_engine.specs.declared.hand.Hand.{Hand}
+use Rattle.fix_engine.specs.Desk.{Desk, desk}
 use Rattle.fix_engine.specs.Run.{RanTo, begun}
 use Rattle.fix_engine.specs.Lawful.{IsCertain}
 use Rattle.fix_engine.specs.InStep.{HasServed}
@@ -20,13 +22,13 @@ pub begun_opens : (id : Identity) (l : Live) (e : EndState) → IsCertain l.stat
 begun_opens id l e h = opening id e h.doubt
 
 -- what the run wrote is lawful, and it keeps up with its counterparty
-pub begun_serves : (id : Identity) (n : ℕ) (l : Live) (t : ℕ) (answer : RunEnd) (to : Live) (notes : List Note) → RanTo id n (begun l t) answer to notes → (start : EndState) → IsCertain l.state start → HasServed id answer to start (opened_by start) (acts_of notes)
-begun_serves id n l t answer to notes h start certain =
+pub begun_serves : (id : Identity) (n : ℕ) (l : Live) (hand : Hand) (t : ℕ) (answer : RunEnd) (to : Desk) (notes : List Note) → RanTo id n (desk (begun l t) hand) answer to notes → (start : EndState) → IsCertain l.state start → HasServed id answer to.live start (opened_by start) (acts_of notes)
+begun_serves id n l hand t answer to notes h start certain =
     let acts = acts_of notes in
     let open_run = opening id start certain.doubt in
-    let led = Ran-lawful id n (begun l t) notes h.r to h.ran (opened_by start) (fits_opened id l t start certain) in
-    let ran = Ran-plainly id n (begun l t) notes h.r to h.ran (omega arith) in
-    subst (λ x. HasServed id x to start (opened_by start) acts) (sym h.answered)
+    let led = Ran-lawful id n (desk (begun l t) hand) notes h.r to h.ran (opened_by start) (fits_opened id l t start certain) in
+    let ran = Ran-plainly id n (desk (begun l t) hand) notes h.r to h.ran (omega arith) in
+    subst (λ x. HasServed id x to.live start (opened_by start) acts) (sym h.answered)
     (record {
       to = led.to;
       run = led.run;

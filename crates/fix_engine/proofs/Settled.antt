@@ -6,7 +6,8 @@ use Rattle.fix_base.specs.Seen.{Note}
 use Rattle.fix_engine.specs.State.{Ending}
 use Rattle.fix_engine.specs.declared.state.Ending.TheVariants as ending
 use Rattle.fix_engine.specs.Fold.{Each, none, ends, goes}
-use Rattle.fix_engine.specs.Turn.{Live, KeptExpected, same, kept, expect_lost, expect_memory, settles_of, Turn, stops, keeps, keeps_not, OneTurn, Ran, all_turns, cut, cut_memory, no_cut}
+use Rattle.fix_engine.specs.Turn.{Live, KeptExpected, same, kept, expect_lost, expect_memory, settles_of}
+use Rattle.fix_engine.specs.Desk.{Desk, beside, Turn, stops, keeps, keeps_not, OneTurn, Ran, all_turns, cut, cut_memory, no_cut}
 use Rattle.fix_engine.specs.Run.{run_end}
 use Rattle.fix_engine.specs.Turns.{IsSettled}
 
@@ -22,16 +23,16 @@ unkept : (l to : Live) (notes : List Note) (e : Ending) → KeptExpected l notes
 unkept l to notes e (expect_lost h) = record { holds = λ s. cc }
 unkept l to notes e (expect_memory h) = record { holds = λ s. cc }
 
-Turn-settles : (id : Identity) (l : Live) (notes : List Note) (r : Result ⊤ Ending) (to : Live) → Turn id l notes r to → Settles r to
-Turn-settles id l notes r to (stops h d) = record { holds = λ s. cc }
-Turn-settles id l notes r to (keeps h d k) = KeptExpected-settles _ to _ r k
-Turn-settles id l notes r to (keeps_not {e = e} h d k) = unkept _ to _ e k
+Turn-settles : (id : Identity) (d : Desk) (notes : List Note) (r : Result ⊤ Ending) (to : Desk) → Turn id d notes r to → Settles r to.live
+Turn-settles id d notes r to (stops h k) = record { holds = λ s. cc }
+Turn-settles id d notes r to (keeps h k (beside {to = end} e)) = KeptExpected-settles _ end _ r e
+Turn-settles id d notes r to (keeps_not {e = e} h k (beside {to = end} lost)) = unkept _ end _ e lost
 
-Turns-settle : (id : Identity) (us : List ⊤) (l : Live) (notes : List Note) (r : Result ⊤ Ending) (to : Live) → (us ≡ [] → l.state.kept ≡ l.state.expected) → Each (OneTurn id) l us notes r to → Settles r to
-Turns-settle id [] l notes r to held none = record { holds = λ s. held refl }
-Turns-settle id (u ∷ us) l notes r to held (ends d) = Turn-settles id l notes r to d
-Turns-settle id (u ∷ us) l notes r to held (goes {mid = mid} d more) =
-    let first : Settles (Ok tt) mid = Turn-settles id l _ (Ok tt) mid d in
+Turns-settle : (id : Identity) (us : List ⊤) (d : Desk) (notes : List Note) (r : Result ⊤ Ending) (to : Desk) → (us ≡ [] → d.live.state.kept ≡ d.live.state.expected) → Each (OneTurn id) d us notes r to → Settles r to.live
+Turns-settle id [] d notes r to held none = record { holds = λ s. held refl }
+Turns-settle id (u ∷ us) d notes r to held (ends k) = Turn-settles id d notes r to k
+Turns-settle id (u ∷ us) d notes r to held (goes {mid = mid} k more) =
+    let first : Settles (Ok tt) mid.live = Turn-settles id d _ (Ok tt) mid k in
     Turns-settle id us mid _ r to (λ e. first.holds refl) more
 
 none_made : (n : ℕ) → replicate {A = ⊤} n tt ≡ [] → n ≡ 0
@@ -49,8 +50,8 @@ settled_end (Err ending.NumbersSpent) to down k e s = tt
 settled_end (Err ending.OutOfMemory) to down k e s = tt
 
 -- behind a run the expected number is kept, unless the store failed, memory was refused or the numbers are spent
-pub Ran-settled : (id : Identity) (n : ℕ) (l : Live) (notes : List Note) (r : Result ⊤ Ending) (to : Live) → (n ≡ 0 → l.state.kept ≡ l.state.expected) → Ran id n l notes r to → IsSettled (run_end r) to.state
-Ran-settled id n l notes r to held (all_turns d) = settled_end (Ok tt) to to refl refl (Turns-settle id (replicate n tt) l _ (Ok tt) to (λ e. held (none_made n e)) d)
-Ran-settled id n l notes r to held (cut {to = at} {e = e} h d) = settled_end (Err e) at to refl refl (Turns-settle id (replicate n tt) l _ (Err e) at (λ e. held (none_made n e)) d)
-Ran-settled id n l notes r to held (cut_memory h d) = tt
-Ran-settled id n l notes r to held (no_cut {to = at} {e = e} h d) = settled_end (Err e) at to refl refl (Turns-settle id (replicate n tt) l _ (Err e) at (λ e. held (none_made n e)) d)
+pub Ran-settled : (id : Identity) (n : ℕ) (d : Desk) (notes : List Note) (r : Result ⊤ Ending) (to : Desk) → (n ≡ 0 → d.live.state.kept ≡ d.live.state.expected) → Ran id n d notes r to → IsSettled (run_end r) to.live.state
+Ran-settled id n d notes r to held (all_turns k) = settled_end (Ok tt) to.live to.live refl refl (Turns-settle id (replicate n tt) d _ (Ok tt) to (λ e. held (none_made n e)) k)
+Ran-settled id n d notes r to held (cut {to = at} {e = e} h k) = settled_end (Err e) at.live to.live refl refl (Turns-settle id (replicate n tt) d _ (Err e) at (λ e. held (none_made n e)) k)
+Ran-settled id n d notes r to held (cut_memory h k) = tt
+Ran-settled id n d notes r to held (no_cut {to = at} {e = e} h k) = settled_end (Err e) at.live to.live refl refl (Turns-settle id (replicate n tt) d _ (Err e) at (λ e. held (none_made n e)) k)

@@ -5,16 +5,22 @@ use Rattle.std.proofs.lemmas.List.{length-replicate}
 use Rattle.fix_base.specs.declared.identity.Identity.{Identity}
 use Rattle.fix_base.specs.declared.act.Act.TheVariants as act
 use Rattle.fix_base.specs.declared.act.Act.{Act}
-use Rattle.fix_base.specs.Seen.{Note, Did, Seen, Goes, acts_of}
+use Rattle.fix_base.specs.Seen.{Note, Did, Failed, Asked, Seen, Goes, acts_of}
 use Rattle.fix_base.proofs.SeenLemmas.{acts_of-append}
+use Rattle.fix_fields.specs.Drafted.{DraftText}
 use Rattle.fix_engine.specs.State.{State, Ending, Step}
 use Rattle.fix_engine.specs.declared.state.Ending.TheVariants as ending
 use Rattle.fix_engine.specs.declared.stop.RunEnd.TheVariants as run
+use Rattle.fix_engine.specs.declared.stop.SendFault.{SendFault}
 use Rattle.fix_engine.specs.Fold.{Each, none, ends, goes, AndThen, first_ends, both}
 use Rattle.fix_engine.specs.Answer.{Performed, nothing, count, go_up, close, give_up, taken, hand_lost, hand_memory, spent, keep_memory, keep_lost, sent, write_lost, write_memory}
-use Rattle.fix_engine.specs.Turn.{Live, Taken, no_more, ends as ends_at, goes as goes_on, Fed, fed_frames, fed_memory, Heard, bytes, idle, over, read_lost, read_memory, Clocked, now, now_memory, KeptExpected, same, kept, expect_lost, expect_memory, Turn, OneTurn, stops, keeps, keeps_not, Ran, all_turns, cut, cut_memory, no_cut}
+use Rattle.fix_engine.specs.Turn.{Live, Taken, no_more, ends as ends_at, goes as goes_on, Fed, fed_frames, fed_memory, Heard, bytes, idle, over, read_lost, read_memory, Clocked, now, now_memory, KeptExpected, same, kept, expect_lost, expect_memory}
+use Rattle.fix_engine.specs.Drafted as drafted
+use Rattle.fix_engine.specs.Drafted.{KeepsDraft, Drafting}
+use Rattle.fix_engine.specs.Desk as desk
+use Rattle.fix_engine.specs.Desk.{Desk, Sends, Holding, Offered, beside, Met, Turn, OneTurn, stops, keeps, keeps_not, Ran, all_turns, cut, cut_memory, no_cut}
 use Rattle.fix_engine.specs.Run.{run_end}
-use Rattle.fix_engine.specs.Turns.{reads_in, looks_in, IsMadeOf, HasTurns}
+use Rattle.fix_engine.specs.Turns.{reads_in, looks_in, asks_in, IsMadeOf, HasTurns}
 
 pub reads_in-append : (xs ys : List Act) → reads_in (xs ++ ys) ≡ reads_in xs + reads_in ys
 reads_in-append [] ys = omega arith
@@ -46,50 +52,58 @@ looks_in-append (act.HandLost n marked body ∷ xs) ys = looks_in-append xs ys
 looks_in-append (act.Cut ∷ xs) ys = looks_in-append xs ys
 looks_in-append (act.Stop ∷ xs) ys = looks_in-append xs ys
 
--- so often the notes read, and look at the clock
-pub record Tallies (notes : List Note) (read looked : ℕ) : Type 0 where
+asks_in-append : (xs ys : List Note) → asks_in (xs ++ ys) ≡ asks_in xs + asks_in ys
+asks_in-append [] ys = omega arith
+asks_in-append (Did act ∷ xs) ys = asks_in-append xs ys
+asks_in-append (Failed part ∷ xs) ys = asks_in-append xs ys
+asks_in-append (Asked draft ∷ xs) ys = omega (arith, asks_in-append xs ys)
+
+-- so often the notes read, look at the clock, and ask for a draft
+pub record Tallies (notes : List Note) (read looked asked : ℕ) : Type 0 where
   pub reads : reads_in (acts_of notes) ≡ read
   pub looks : looks_in (acts_of notes) ≡ looked
+  pub asks : asks_in notes ≡ asked
 
-tallies-append : (xs ys : List Note) (a b c d : ℕ) → Tallies xs a b → Tallies ys c d → Tallies (xs ++ ys) (a + c) (b + d)
-tallies-append xs ys a b c d t u = record {
+tallies-append : (xs ys : List Note) (a b c d e f : ℕ) → Tallies xs a b c → Tallies ys d e f → Tallies (xs ++ ys) (a + d) (b + e) (c + f)
+tallies-append xs ys a b c d e f t u = record {
   reads = omega (arith, ap reads_in (acts_of-append xs ys), reads_in-append (acts_of xs) (acts_of ys), t.reads, u.reads);
   looks = omega (arith, ap looks_in (acts_of-append xs ys), looks_in-append (acts_of xs) (acts_of ys), t.looks, u.looks);
+  asks = omega (arith, asks_in-append xs ys, t.asks, u.asks);
 }
 
--- no read and no look
+-- no read, no look, and no asking
 abbrev pub Answers : List Note → Type 0
-Answers notes = Tallies notes 0 0
+Answers notes = Tallies notes 0 0 0
 
 Performed-answers : (id : Identity) (frame : List ℕ) (s : State) (x : Step) (notes : List Note) (r : Result ⊤ Ending) (s' : State) → Performed id frame s x notes r s' → Answers notes
-Performed-answers id frame s x notes r s' nothing = record { reads = refl; looks = refl }
-Performed-answers id frame s x notes r s' (count n) = record { reads = refl; looks = refl }
-Performed-answers id frame s x notes r s' go_up = record { reads = refl; looks = refl }
-Performed-answers id frame s x notes r s' (close why) = record { reads = refl; looks = refl }
-Performed-answers id frame s x notes r s' (give_up n) = record { reads = refl; looks = refl }
-Performed-answers id frame s x notes r s' (taken n marked fields has) = record { reads = refl; looks = refl }
-Performed-answers id frame s x notes r s' (hand_lost n marked fields has) = record { reads = refl; looks = refl }
-Performed-answers id frame s x notes r s' (hand_memory n marked) = record { reads = refl; looks = refl }
-Performed-answers id frame s x notes r s' (spent say n h) = record { reads = refl; looks = refl }
-Performed-answers id frame s x notes r s' (keep_memory say n h) = record { reads = refl; looks = refl }
-Performed-answers id frame s x notes r s' (keep_lost say n h) = record { reads = refl; looks = refl }
-Performed-answers id frame s x notes r s' (sent say n text h said) = record { reads = refl; looks = refl }
-Performed-answers id frame s x notes r s' (write_lost say n text k h said) = record { reads = refl; looks = refl }
-Performed-answers id frame s x notes r s' (write_memory say n h) = record { reads = refl; looks = refl }
+Performed-answers id frame s x notes r s' nothing = record { reads = refl; looks = refl; asks = refl }
+Performed-answers id frame s x notes r s' (count n) = record { reads = refl; looks = refl; asks = refl }
+Performed-answers id frame s x notes r s' go_up = record { reads = refl; looks = refl; asks = refl }
+Performed-answers id frame s x notes r s' (close why) = record { reads = refl; looks = refl; asks = refl }
+Performed-answers id frame s x notes r s' (give_up n) = record { reads = refl; looks = refl; asks = refl }
+Performed-answers id frame s x notes r s' (taken n marked fields has) = record { reads = refl; looks = refl; asks = refl }
+Performed-answers id frame s x notes r s' (hand_lost n marked fields has) = record { reads = refl; looks = refl; asks = refl }
+Performed-answers id frame s x notes r s' (hand_memory n marked) = record { reads = refl; looks = refl; asks = refl }
+Performed-answers id frame s x notes r s' (spent say n h) = record { reads = refl; looks = refl; asks = refl }
+Performed-answers id frame s x notes r s' (keep_memory say n h) = record { reads = refl; looks = refl; asks = refl }
+Performed-answers id frame s x notes r s' (keep_lost say n h) = record { reads = refl; looks = refl; asks = refl }
+Performed-answers id frame s x notes r s' (sent say n text h said) = record { reads = refl; looks = refl; asks = refl }
+Performed-answers id frame s x notes r s' (write_lost say n text k h said) = record { reads = refl; looks = refl; asks = refl }
+Performed-answers id frame s x notes r s' (write_memory say n h) = record { reads = refl; looks = refl; asks = refl }
 
 Carried-answers : (id : Identity) (frame : List ℕ) (xs : List Step) (s : State) (notes : List Note) (r : Result ⊤ Ending) (s' : State) → Each (Performed id frame) s xs notes r s' → Answers notes
-Carried-answers id frame [] s notes r s' none = record { reads = refl; looks = refl }
+Carried-answers id frame [] s notes r s' none = record { reads = refl; looks = refl; asks = refl }
 Carried-answers id frame (x ∷ xs) s notes r s' (ends d) = Performed-answers id frame s x notes r s' d
-Carried-answers id frame (x ∷ xs) s notes r s' (goes {first = a} {more = b} d k) = tallies-append a b 0 0 0 0 (Performed-answers id frame s x a _ _ d) (Carried-answers id frame xs _ b r s' k)
+Carried-answers id frame (x ∷ xs) s notes r s' (goes {first = a} {more = b} d k) = tallies-append a b 0 0 0 0 0 0 (Performed-answers id frame s x a _ _ d) (Carried-answers id frame xs _ b r s' k)
 
 Taken-answers : (id : Identity) (l : Live) (notes : List Note) (r : Result ⊤ Ending) (to : Live) → Taken id l notes r to → Answers notes
-Taken-answers id l notes r to (no_more gives) = record { reads = refl; looks = refl }
+Taken-answers id l notes r to (no_more gives) = record { reads = refl; looks = refl; asks = refl }
 Taken-answers id l notes r to (ends_at frame gives h) = Carried-answers id frame _ _ _ _ _ h.carried
-Taken-answers id l notes r to (goes_on {first = a} {more = b} frame gives h more) = tallies-append a b 0 0 0 0 (Carried-answers id frame _ _ a _ _ h.carried) (Taken-answers id _ b r to more)
+Taken-answers id l notes r to (goes_on {first = a} {more = b} frame gives h more) = tallies-append a b 0 0 0 0 0 0 (Carried-answers id frame _ _ a _ _ h.carried) (Taken-answers id _ b r to more)
 
 pub Fed-answers : (id : Identity) (b : List ℕ) (l : Live) (notes : List Note) (r : Result ⊤ Ending) (to : Live) → Fed id b l notes r to → Answers notes
 Fed-answers id b l notes r to (fed_frames d) = Taken-answers id _ notes r to d
-Fed-answers id b l notes r to fed_memory = record { reads = refl; looks = refl }
+Fed-answers id b l notes r to fed_memory = record { reads = refl; looks = refl; asks = refl }
 
 -- so many of n turns were made up to their look, where they ended so
 abbrev IsMade : Result ⊤ Ending → ℕ → ℕ → Type 0
@@ -102,6 +116,8 @@ record Makes (n : ℕ) (r : Result ⊤ Ending) (notes : List Note) : Type 0 wher
   reads_once : reads_in (acts_of notes) ≤ looks_in (acts_of notes) + 1
   at_most : reads_in (acts_of notes) ≤ n
   all : run_end r ≡ run.TurnsSpent → reads_in (acts_of notes) ≡ n
+  asks_once : asks_in notes ≤ looks_in (acts_of notes) + 1
+  asks_at_most : asks_in notes ≤ n
 
 -- it ended before its look
 before_look : (e : Ending) → IsMade (Err e) 1 0
@@ -124,46 +140,116 @@ never_spent ending.NumbersSpent h = cc
 never_spent ending.OutOfMemory h = cc
 
 -- what ended before its look makes no whole turn
-makes_none : (e : Ending) (notes : List Note) (a : ℕ) → a ≤ 1 → Tallies notes a 0 → Makes 1 (Err e) notes
-makes_none e notes a le t = record {
+makes_none : (e : Ending) (notes : List Note) (a b : ℕ) → a ≤ 1 → b ≤ 1 → Tallies notes a 0 b → Makes 1 (Err e) notes
+makes_none e notes a b le few t = record {
   made = rw t.looks (before_look e);
   reads_first = omega (arith, t.looks);
   reads_once = omega (arith, t.reads);
   at_most = omega (arith, t.reads);
   all = λ h. absurd (never_spent e h);
+  asks_once = omega (arith, t.asks);
+  asks_at_most = omega (arith, t.asks);
 }
 
+-- a part of one turn that asks for no draft
+record MakesUnasked (r : Result ⊤ Ending) (notes : List Note) : Type 0 where
+  makes : Makes 1 r notes
+  asks : asks_in notes ≡ 0
+
+ends_unasked : (e : Ending) (notes : List Note) (a : ℕ) → a ≤ 1 → Tallies notes a 0 0 → MakesUnasked (Err e) notes
+ends_unasked e notes a le t = record { makes = makes_none e notes a 0 le (omega arith) t; asks = t.asks }
+
 -- a read that went well, or one that ended the turn
-Heard-reads : (id : Identity) (l : Live) (notes : List Note) (to : Live) → Heard id l notes (Ok tt) to → Tallies notes 1 0
-Heard-reads id l notes to (bytes {more = b} text some fits d) = tallies-append (Did (act.Read text) ∷ []) b 1 0 0 0 (record { reads = refl; looks = refl }) (Fed-answers id text l b _ to d)
-Heard-reads id l notes to idle = record { reads = refl; looks = refl }
+Heard-reads : (id : Identity) (l : Live) (notes : List Note) (to : Live) → Heard id l notes (Ok tt) to → Tallies notes 1 0 0
+Heard-reads id l notes to (bytes {more = b} text some fits d) = tallies-append (Did (act.Read text) ∷ []) b 1 0 0 0 0 0 (record { reads = refl; looks = refl; asks = refl }) (Fed-answers id text l b _ to d)
+Heard-reads id l notes to idle = record { reads = refl; looks = refl; asks = refl }
 
-Heard-ends : (id : Identity) (l : Live) (notes : List Note) (e : Ending) (to : Live) → Heard id l notes (Err e) to → Makes 1 (Err e) notes
-Heard-ends id l notes e to (bytes {more = b} text some fits d) = makes_none e _ 1 (omega arith) (tallies-append (Did (act.Read text) ∷ []) b 1 0 0 0 (record { reads = refl; looks = refl }) (Fed-answers id text l b _ to d))
-Heard-ends id l notes e to over = makes_none e _ 1 (omega arith) (record { reads = refl; looks = refl })
-Heard-ends id l notes e to read_lost = makes_none e _ 0 (omega arith) (record { reads = refl; looks = refl })
-Heard-ends id l notes e to read_memory = makes_none e _ 0 (omega arith) (record { reads = refl; looks = refl })
+Heard-ends : (id : Identity) (l : Live) (notes : List Note) (e : Ending) (to : Live) → Heard id l notes (Err e) to → MakesUnasked (Err e) notes
+Heard-ends id l notes e to (bytes {more = b} text some fits d) = ends_unasked e _ 1 (omega arith) (tallies-append (Did (act.Read text) ∷ []) b 1 0 0 0 0 0 (record { reads = refl; looks = refl; asks = refl }) (Fed-answers id text l b _ to d))
+Heard-ends id l notes e to over = ends_unasked e _ 1 (omega arith) (record { reads = refl; looks = refl; asks = refl })
+Heard-ends id l notes e to read_lost = ends_unasked e _ 0 (omega arith) (record { reads = refl; looks = refl; asks = refl })
+Heard-ends id l notes e to read_memory = ends_unasked e _ 0 (omega arith) (record { reads = refl; looks = refl; asks = refl })
 
-looked : (l : Live) (first more : List Note) (r : Result ⊤ Ending) (to : Live) → Tallies first 1 0 → Clocked l more r to → Makes 1 r (first ++ more)
+looked : (l : Live) (first more : List Note) (r : Result ⊤ Ending) (to : Live) → Tallies first 1 0 0 → Clocked l more r to → MakesUnasked r (first ++ more)
 looked l first more r to t (now reading) =
-    let u = tallies-append first (Did (act.Now reading) ∷ []) 1 0 0 1 t (record { reads = refl; looks = refl }) in
-    record { made = u.looks; reads_first = omega (arith, u.reads, u.looks); reads_once = omega (arith, u.reads); at_most = omega (arith, u.reads); all = λ h. u.reads }
-looked l first more r to t now_memory = makes_none ending.OutOfMemory (first ++ []) 1 (omega arith) (tallies-append first [] 1 0 0 0 t (record { reads = refl; looks = refl }))
+    let u = tallies-append first (Did (act.Now reading) ∷ []) 1 0 0 0 1 0 t (record { reads = refl; looks = refl; asks = refl }) in
+    record {
+      makes = record { made = u.looks; reads_first = omega (arith, u.reads, u.looks); reads_once = omega (arith, u.reads); at_most = omega (arith, u.reads); all = λ h. u.reads; asks_once = omega (arith, u.asks); asks_at_most = omega (arith, u.asks) };
+      asks = u.asks;
+    }
+looked l first more r to t now_memory = ends_unasked ending.OutOfMemory (first ++ []) 1 (omega arith) (tallies-append first [] 1 0 0 0 0 0 t (record { reads = refl; looks = refl; asks = refl }))
 
-Met-makes : (id : Identity) (l : Live) (notes : List Note) (r : Result ⊤ Ending) (to : Live) → AndThen (Heard id) Clocked l notes r to → Makes 1 r notes
-Met-makes id l notes r to (first_ends {e = e} d) = Heard-ends id l notes e to d
-Met-makes id l notes r to (both {mid = mid} {first = a} {more = b} d k) = looked mid a b r to (Heard-reads id l a mid d) k
+Looked-makes : (id : Identity) (l : Live) (notes : List Note) (r : Result ⊤ Ending) (to : Live) → AndThen (Heard id) Clocked l notes r to → MakesUnasked r notes
+Looked-makes id l notes r to (first_ends {e = e} d) = Heard-ends id l notes e to d
+Looked-makes id l notes r to (both {mid = mid} {first = a} {more = b} d k) = looked mid a b r to (Heard-reads id l a mid d) k
+
+KeepsDraft-answers : (d : DraftText) (s s' : State) (notes : List Note) (r : Result ℕ SendFault) → KeepsDraft d s notes r s' → Answers notes
+KeepsDraft-answers d s s' notes r drafted.unkept = record { reads = refl; looks = refl; asks = refl }
+KeepsDraft-answers d s s' notes r (drafted.kept_lost is) = record { reads = refl; looks = refl; asks = refl }
+KeepsDraft-answers d s s' notes r (drafted.was_kept is) = record { reads = refl; looks = refl; asks = refl }
+
+Drafting-answers : (id : Identity) (d : DraftText) (s s' : State) (notes : List Note) (r : Result ℕ SendFault) → Drafting id d s notes r s' → Answers notes
+Drafting-answers id d s s' notes r drafted.no_memory = record { reads = refl; looks = refl; asks = refl }
+Drafting-answers id d s s' notes r (drafted.lost k) = KeepsDraft-answers d s s' notes r k
+Drafting-answers id d s s' notes r (drafted.stored other k) = KeepsDraft-answers d s s' notes r k
+Drafting-answers id d s s' notes r (drafted.sent {notes = a} text up said k) = tallies-append a _ 0 0 0 0 0 0 (KeepsDraft-answers d s s' a _ k) (record { reads = refl; looks = refl; asks = refl })
+Drafting-answers id d s s' notes r (drafted.write_lost {notes = a} text many up said k) = tallies-append a _ 0 0 0 0 0 0 (KeepsDraft-answers d s s' a _ k) (record { reads = refl; looks = refl; asks = refl })
+Drafting-answers id d s s' notes r (drafted.write_memory up k) = KeepsDraft-answers d s s' notes _ k
+
+Sends-answers : (id : Identity) (draft : DraftText) (d : Desk) (notes : List Note) (r : Result ⊤ Ending) (to : Desk) → Sends id draft d notes r to → Answers notes
+Sends-answers id draft d notes r to (desk.spent full) = record { reads = refl; looks = refl; asks = refl }
+Sends-answers id draft d notes r to (desk.sends {r = x} {s = s} small is k) = Drafting-answers id draft d.live.state s notes x k
+
+Holding-answers : (id : Identity) (d : Desk) (notes : List Note) (r : Result ⊤ Ending) (to : Desk) → Holding id d notes r to → Answers notes
+Holding-answers id d notes r to (desk.empty held_none) = record { reads = refl; looks = refl; asks = refl }
+Holding-answers id d notes r to (desk.holds draft some k) = Sends-answers id draft d notes r to k
+
+-- no read and no look, and at most one asking
+pub record OffersOnce (notes : List Note) : Type 0 where
+  pub asked : ℕ
+  pub once : asked ≤ 1
+  pub tallies : Tallies notes 0 0 asked
+
+pub Offered-once : (id : Identity) (d : Desk) (notes : List Note) (r : Result ⊤ Ending) (to : Desk) → Offered id d notes r to → OffersOnce notes
+Offered-once id d notes r to (desk.not_up other) = record { asked = 0; once = omega arith; tallies = record { reads = refl; looks = refl; asks = refl } }
+Offered-once id d notes r to (desk.asked {notes = more} given up held_none k) = record {
+  asked = 1;
+  once = omega arith;
+  tallies = tallies-append (_ ∷ []) more 0 0 1 0 0 0 (record { reads = refl; looks = refl; asks = refl }) (Holding-answers id (desk.desk d.live (record { draft = given; tried = d.hand.tried })) more r to k);
+}
+Offered-once id d notes r to (desk.was_in_hand draft up some k) = record { asked = 0; once = omega arith; tallies = Sends-answers id draft d notes r to k }
+
+-- a draft was offered at most once, and the rest of the turn follows
+offered_then : (r : Result ⊤ Ending) (xs ys : List Note) → OffersOnce xs → MakesUnasked r ys → Makes 1 r (xs ++ ys)
+offered_then r xs ys o m =
+    let u = tallies-append xs ys 0 0 o.asked (reads_in (acts_of ys)) (looks_in (acts_of ys)) 0 o.tallies (record { reads = refl; looks = refl; asks = m.asks }) in
+    let looks : looks_in (acts_of (xs ++ ys)) ≡ looks_in (acts_of ys) = omega (arith, u.looks) in
+    record {
+      made = rw looks m.makes.made;
+      reads_first = omega (arith, u.reads, u.looks, m.makes.reads_first);
+      reads_once = omega (arith, u.reads, u.looks, m.makes.reads_once);
+      at_most = omega (arith, u.reads, m.makes.at_most);
+      all = λ h. (let a = m.makes.all h in omega (arith, u.reads, a));
+      asks_once = omega (arith, u.asks, o.once);
+      asks_at_most = omega (arith, u.asks, o.once);
+    }
+
+Met-makes : (id : Identity) (d : Desk) (notes : List Note) (r : Result ⊤ Ending) (to : Desk) → Met id d notes r to → Makes 1 r notes
+Met-makes id d notes r to (first_ends {e = e} k) =
+    let o = Offered-once id d notes (Err e) to k in
+    makes_none e notes 0 o.asked (omega arith) o.once o.tallies
+Met-makes id d notes r to (both {mid = mid} {first = a} {more = b} k (beside {to = end} h)) = offered_then r a b (Offered-once id d a (Ok tt) mid k) (Looked-makes id mid.live b r end h)
 
 pub KeptExpected-answers : (l : Live) (notes : List Note) (r : Result ⊤ Ending) (to : Live) → KeptExpected l notes r to → Answers notes
-KeptExpected-answers l notes r to (same h) = record { reads = refl; looks = refl }
-KeptExpected-answers l notes r to (kept h) = record { reads = refl; looks = refl }
-KeptExpected-answers l notes r to (expect_lost h) = record { reads = refl; looks = refl }
-KeptExpected-answers l notes r to (expect_memory h) = record { reads = refl; looks = refl }
+KeptExpected-answers l notes r to (same h) = record { reads = refl; looks = refl; asks = refl }
+KeptExpected-answers l notes r to (kept h) = record { reads = refl; looks = refl; asks = refl }
+KeptExpected-answers l notes r to (expect_lost h) = record { reads = refl; looks = refl; asks = refl }
+KeptExpected-answers l notes r to (expect_memory h) = record { reads = refl; looks = refl; asks = refl }
 
--- notes without a read or a look change nothing
+-- notes without a read, a look or an asking change nothing
 makes_too : (n : ℕ) (r : Result ⊤ Ending) (xs ys : List Note) → Makes n r xs → Answers ys → Makes n r (xs ++ ys)
 makes_too n r xs ys m t =
-    let u = tallies-append xs ys (reads_in (acts_of xs)) (looks_in (acts_of xs)) 0 0 (record { reads = refl; looks = refl }) t in
+    let u = tallies-append xs ys (reads_in (acts_of xs)) (looks_in (acts_of xs)) (asks_in xs) 0 0 0 (record { reads = refl; looks = refl; asks = refl }) t in
     let looks : looks_in (acts_of (xs ++ ys)) ≡ looks_in (acts_of xs) = omega (arith, u.looks) in
     record {
       made = rw looks m.made;
@@ -171,6 +257,8 @@ makes_too n r xs ys m t =
       reads_once = omega (arith, u.reads, u.looks, m.reads_once);
       at_most = omega (arith, u.reads, m.at_most);
       all = λ h. (let a = m.all h in omega (arith, u.reads, a));
+      asks_once = omega (arith, u.asks, u.looks, m.asks_once);
+      asks_at_most = omega (arith, u.asks, m.asks_at_most);
     }
 
 most_made : (r : Result ⊤ Ending) (n made : ℕ) → IsMade r n made → made ≤ n
@@ -185,13 +273,13 @@ most_made (Err ending.OutOfMemory) n made h = omega arith
 
 -- the store failed, or memory was refused, behind what was met
 unkept : (l to : Live) (met : Result ⊤ Ending) (xs ys : List Note) (e : Ending) → Makes 1 met xs → KeptExpected l ys (Err e) to → Makes 1 (Err e) (xs ++ ys)
-unkept l to met xs ys e m (expect_lost h) = makes_too 1 (Err ending.StoreFault) xs _ (record { made = most_made met 1 _ m.made; reads_first = m.reads_first; reads_once = m.reads_once; at_most = m.at_most; all = λ h. cc }) (record { reads = refl; looks = refl })
-unkept l to met xs ys e m (expect_memory h) = makes_too 1 (Err ending.OutOfMemory) xs _ (record { made = most_made met 1 _ m.made; reads_first = m.reads_first; reads_once = m.reads_once; at_most = m.at_most; all = λ h. cc }) (record { reads = refl; looks = refl })
+unkept l to met xs ys e m (expect_lost h) = makes_too 1 (Err ending.StoreFault) xs _ (record { made = most_made met 1 _ m.made; reads_first = m.reads_first; reads_once = m.reads_once; at_most = m.at_most; all = λ h. cc; asks_once = m.asks_once; asks_at_most = m.asks_at_most }) (record { reads = refl; looks = refl; asks = refl })
+unkept l to met xs ys e m (expect_memory h) = makes_too 1 (Err ending.OutOfMemory) xs _ (record { made = most_made met 1 _ m.made; reads_first = m.reads_first; reads_once = m.reads_once; at_most = m.at_most; all = λ h. cc; asks_once = m.asks_once; asks_at_most = m.asks_at_most }) (record { reads = refl; looks = refl; asks = refl })
 
-Turn-makes : (id : Identity) (l : Live) (notes : List Note) (r : Result ⊤ Ending) (to : Live) → Turn id l notes r to → Makes 1 r notes
-Turn-makes id l notes r to (stops h d) = Met-makes id l notes r to d
-Turn-makes id l notes r to (keeps {mid = mid} {first = a} {more = b} h d k) = makes_too 1 r a b (Met-makes id l a r mid d) (KeptExpected-answers mid b _ to k)
-Turn-makes id l notes r to (keeps_not {mid = mid} {met = met} {first = a} {more = b} {e = e} h d k) = unkept mid to met a b e (Met-makes id l a met mid d) k
+Turn-makes : (id : Identity) (d : Desk) (notes : List Note) (r : Result ⊤ Ending) (to : Desk) → Turn id d notes r to → Makes 1 r notes
+Turn-makes id d notes r to (stops h k) = Met-makes id d notes r to k
+Turn-makes id d notes r to (keeps {mid = mid} {first = a} {more = b} h k (beside {to = end} e)) = makes_too 1 r a b (Met-makes id d a r mid k) (KeptExpected-answers mid.live b _ end e)
+Turn-makes id d notes r to (keeps_not {mid = mid} {met = met} {first = a} {more = b} {e = e} h k (beside {to = end} lost)) = unkept mid.live end met a b e (Met-makes id d a met mid k) lost
 
 -- one turn was made, and n more are left
 made_more : (r : Result ⊤ Ending) (n made : ℕ) → IsMade r n made → IsMade r (suc n) (1 + made)
@@ -207,13 +295,15 @@ made_more (Err ending.OutOfMemory) n made h = omega arith
 makes_more : (n : ℕ) (r : Result ⊤ Ending) (xs ys : List Note) → Makes 1 (Ok tt) xs → Makes n r ys → Makes (suc n) r (xs ++ ys)
 makes_more n r xs ys m k =
     let one = m.all refl in
-    let u = tallies-append xs ys 1 1 (reads_in (acts_of ys)) (looks_in (acts_of ys)) (record { reads = one; looks = m.made }) (record { reads = refl; looks = refl }) in
+    let u = tallies-append xs ys 1 1 (asks_in xs) (reads_in (acts_of ys)) (looks_in (acts_of ys)) (asks_in ys) (record { reads = one; looks = m.made; asks = refl }) (record { reads = refl; looks = refl; asks = refl }) in
     record {
       made = rw u.looks (made_more r n _ k.made);
       reads_first = omega (arith, u.reads, u.looks, k.reads_first);
       reads_once = omega (arith, u.reads, u.looks, k.reads_once);
       at_most = omega (arith, u.reads, k.at_most);
       all = λ h. (let a = k.all h in omega (arith, u.reads, a));
+      asks_once = omega (arith, u.asks, u.looks, m.asks_at_most, k.asks_once);
+      asks_at_most = omega (arith, u.asks, m.asks_at_most, k.asks_at_most);
     }
 
 -- fewer than that were made
@@ -226,14 +316,22 @@ ended_early ending.AppFault n made h = omega arith
 ended_early ending.NumbersSpent n made h = omega arith
 ended_early ending.OutOfMemory n made h = omega arith
 
-Turns-make : (id : Identity) (us : List ⊤) (l : Live) (notes : List Note) (r : Result ⊤ Ending) (to : Live) → Each (OneTurn id) l us notes r to → Makes (length us) r notes
-Turns-make id [] l notes r to none = record { made = refl; reads_first = omega arith; reads_once = omega arith; at_most = omega arith; all = λ h. refl }
-Turns-make id (u ∷ us) l notes r to (ends {e = e} d) =
-    let m = Turn-makes id l notes (Err e) to d in
-    record { made = ended_early e (length us) _ m.made; reads_first = m.reads_first; reads_once = m.reads_once; at_most = omega (arith, m.at_most); all = λ h. absurd (never_spent e h) }
-Turns-make id (u ∷ us) l notes r to (goes {mid = mid} {first = a} {more = b} d k) = makes_more (length us) r a b (Turn-makes id l a (Ok tt) mid d) (Turns-make id us mid b r to k)
+Turns-make : (id : Identity) (us : List ⊤) (d : Desk) (notes : List Note) (r : Result ⊤ Ending) (to : Desk) → Each (OneTurn id) d us notes r to → Makes (length us) r notes
+Turns-make id [] d notes r to none = record { made = refl; reads_first = omega arith; reads_once = omega arith; at_most = omega arith; all = λ h. refl; asks_once = omega arith; asks_at_most = omega arith }
+Turns-make id (u ∷ us) d notes r to (ends {e = e} k) =
+    let m = Turn-makes id d notes (Err e) to k in
+    record {
+      made = ended_early e (length us) _ m.made;
+      reads_first = m.reads_first;
+      reads_once = m.reads_once;
+      at_most = omega (arith, m.at_most);
+      all = λ h. absurd (never_spent e h);
+      asks_once = m.asks_once;
+      asks_at_most = omega (arith, m.asks_at_most);
+    }
+Turns-make id (u ∷ us) d notes r to (goes {mid = mid} {first = a} {more = b} k more) = makes_more (length us) r a b (Turn-makes id d a (Ok tt) mid k) (Turns-make id us mid b r to more)
 
-has_turns : (n : ℕ) (r : Result ⊤ Ending) (notes : List Note) → Makes (length (replicate {A = ⊤} n tt)) r notes → HasTurns n (run_end r) (acts_of notes)
+has_turns : (n : ℕ) (r : Result ⊤ Ending) (notes : List Note) → Makes (length (replicate {A = ⊤} n tt)) r notes → HasTurns n (run_end r) notes
 has_turns n r notes m =
     let k : length (replicate {A = ⊤} n tt) ≡ n = length-replicate n tt in
     record {
@@ -242,18 +340,28 @@ has_turns n r notes m =
       reads_once = m.reads_once;
       at_most = omega (arith, k, m.at_most);
       all = λ h. (let a = m.all h in omega (arith, k, a));
+      asks_once = m.asks_once;
+      asks_at_most = omega (arith, k, m.asks_at_most);
     }
 
 -- memory was refused for Cut
 for_memory : (n : ℕ) (r : Result ⊤ Ending) (notes : List Note) → Makes n r notes → Makes n (Err ending.OutOfMemory) notes
-for_memory n r notes m = record { made = most_made r n _ m.made; reads_first = m.reads_first; reads_once = m.reads_once; at_most = m.at_most; all = λ h. absurd (never_spent ending.OutOfMemory h) }
+for_memory n r notes m = record {
+  made = most_made r n _ m.made;
+  reads_first = m.reads_first;
+  reads_once = m.reads_once;
+  at_most = m.at_most;
+  all = λ h. absurd (never_spent ending.OutOfMemory h);
+  asks_once = m.asks_once;
+  asks_at_most = m.asks_at_most;
+}
 
 -- the turns of a run
-pub Ran-turns : (id : Identity) (n : ℕ) (l : Live) (notes : List Note) (r : Result ⊤ Ending) (to : Live) → Ran id n l notes r to → HasTurns n (run_end r) (acts_of notes)
-Ran-turns id n l notes r to (all_turns d) = has_turns n r notes (Turns-make id (replicate n tt) l notes r to d)
-Ran-turns id n l notes r to (cut {to = at} {notes = a} {e = e} h d) = has_turns n (Err e) _ (makes_too _ (Err e) a _ (Turns-make id (replicate n tt) l a (Err e) at d) (record { reads = refl; looks = refl }))
-Ran-turns id n l notes r to (cut_memory {to = at} {e = e} h d) = has_turns n (Err ending.OutOfMemory) notes (for_memory _ (Err e) notes (Turns-make id (replicate n tt) l notes (Err e) at d))
-Ran-turns id n l notes r to (no_cut {to = at} {e = e} h d) = has_turns n (Err e) notes (Turns-make id (replicate n tt) l notes (Err e) at d)
+pub Ran-turns : (id : Identity) (n : ℕ) (d : Desk) (notes : List Note) (r : Result ⊤ Ending) (to : Desk) → Ran id n d notes r to → HasTurns n (run_end r) notes
+Ran-turns id n d notes r to (all_turns k) = has_turns n r notes (Turns-make id (replicate n tt) d notes r to k)
+Ran-turns id n d notes r to (cut {to = at} {notes = a} {e = e} h k) = has_turns n (Err e) _ (makes_too _ (Err e) a _ (Turns-make id (replicate n tt) d a (Err e) at k) (record { reads = refl; looks = refl; asks = refl }))
+Ran-turns id n d notes r to (cut_memory {to = at} {e = e} h k) = has_turns n (Err ending.OutOfMemory) notes (for_memory _ (Err e) notes (Turns-make id (replicate n tt) d notes (Err e) at k))
+Ran-turns id n d notes r to (no_cut {to = at} {e = e} h k) = has_turns n (Err e) notes (Turns-make id (replicate n tt) d notes (Err e) at k)
 
-pub Ran-has_turns : (id : Identity) (n : ℕ) (l : Live) (r : Result ⊤ Ending) (to : Live) (old new : Seen) → Goes old new (λ notes. Ran id n l notes r to) → Goes old new (λ notes. HasTurns n (run_end r) (acts_of notes))
-Ran-has_turns id n l r to old new g = (g.0, g.1, Ran-turns id n l g.0 r to g.2)
+pub Ran-has_turns : (id : Identity) (n : ℕ) (d : Desk) (r : Result ⊤ Ending) (to : Desk) (old new : Seen) → Goes old new (λ notes. Ran id n d notes r to) → Goes old new (HasTurns n (run_end r))
+Ran-has_turns id n d r to old new g = (g.0, g.1, Ran-turns id n d g.0 r to g.2)

@@ -1,4 +1,3 @@
-pub mod Outside
 pub mod State
 pub mod Fold
 pub mod Inbound
@@ -6,13 +5,9 @@ pub mod Presented
 pub mod Answer
 pub mod Written
 pub mod Turn
-pub mod Run
-pub mod Store
-pub mod Plain
-pub mod Plug
-pub mod Held
-pub mod Rim
 pub mod Drafted
+pub mod Desk
+pub mod Run
 pub mod Lawful
 pub mod Turns
 pub mod Stated

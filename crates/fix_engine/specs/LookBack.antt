@@ -1,5 +1,5 @@
 -- A run by looking back: over the frames that were answered on its connection, and over its acts.
-use Rattle.std.specs.Prelude.{◌≡◌, ◌+◌, ◌∷◌, ◌++◌, ℕ, List, [], length, min, true, false, codes, Ok, Err, ⊤}
+use Rattle.std.specs.Prelude.{◌≡◌, ◌+◌, ◌∷◌, ◌++◌, ℕ, List, [], Option, length, min, true, false, codes, Ok, Err, ⊤}
 use Rattle.fix_base.specs.declared.identity.Identity.{Identity}
 use Rattle.fix_base.specs.declared.act.Act.{Act}
 use Rattle.fix_base.specs.declared.act.Act.TheVariants as act
@@ -8,13 +8,16 @@ use Rattle.fix_base.specs.Lists.{Among}
 use Rattle.fix_base.specs.Payload.{LAST_TIME}
 use Rattle.fix_base.specs.Reader.{bytes_read}
 use Rattle.fix_base.specs.Stream.{Ahead, Item, HasNoItem, TakesAll, frames}
-use Rattle.fix_base.specs.Seen.{Note, Did, Failed, Part, StorePart, acts_of}
+use Rattle.fix_base.specs.Seen.{Note, Did, Failed, Asked, Part, StorePart, acts_of}
 use Rattle.fix_engine.specs.State.{State, Phase, AwaitLogon, Up, Ending, PeerEnd, LoggedOut, Refused, NotLogon}
 use Rattle.fix_engine.specs.declared.stop.RunEnd.{RunEnd}
 use Rattle.fix_engine.specs.declared.stop.RunEnd.TheVariants as run
 use Rattle.fix_engine.specs.Inbound.{Inbound, IsInbound}
 use Rattle.fix_engine.specs.Answer.{Handled, names, is_numbered, number_or_0}
 use Rattle.fix_engine.specs.Turn.{Live}
+use Rattle.fix_fields.specs.Drafted.{DraftText}
+use Rattle.fix_engine.specs.declared.stop.SendFault.{SendFault}
+use Rattle.fix_engine.specs.Drafted.{Drafting}
 
 -- the last outbound number, which each kept entry raises
 abbrev pub last_sent : ℕ → List Act → ℕ
@@ -116,6 +119,7 @@ pub data Calls (start : State) (answered : List (List ℕ)) (acts : List Act) : 
   loses : Calls start answered acts (Did (act.KeepLost (Expect (start.expected + length answered))))
   cuts : Calls start answered acts (Did act.Cut)
   fails : (part : Part) → Calls start answered acts (Failed part)
+  asks : (draft : Option (List ℕ)) → Calls start answered acts (Asked draft)
 
 -- what comes behind the frame that ended the run, where this number is expected
 pub data Closes (expected : ℕ) : List Note → Type 0 where
@@ -125,12 +129,14 @@ pub data Closes (expected : ℕ) : List Note → Type 0 where
   cuts_off : Closes expected (Did act.Cut ∷ [])
 
 -- The notes go on from where these frames were answered and these acts done, up to where the last ones were
--- answered: calls that answer no frame, and frames. Each frame is the next one of the bytes read, and is answered
--- as the state is that is found by looking back.
+-- answered: calls that answer no frame, frames, and drafts. Each frame is the next one of the bytes read. It is answered,
+-- and a draft is sent, as the state is that is found by looking back.
 pub data Recounts (id : Identity) (start : State) : List (List ℕ) → List Act → List Note → List (List ℕ) → Type 0 where
   done : {answered : List (List ℕ)} {acts : List Act} → Recounts id start answered acts [] answered
   calls : {answered to : List (List ℕ)} {acts : List Act} {note : Note} {more : List Note} → Calls start answered acts note → Recounts id start answered (acts ++ acts_of (note ∷ [])) more to → Recounts id start answered acts (note ∷ more) to
   answers : {answered to : List (List ℕ)} {acts : List Act} {first more : List Note} (frame : List ℕ) → IsNext answered acts frame → Handled id (state_at start answered acts) frame first (Ok tt) (state_at start (answered ++ frame ∷ []) (acts ++ acts_of first)) → Recounts id start (answered ++ frame ∷ []) (acts ++ acts_of first) more to → Recounts id start answered acts (first ++ more) to
+  sends : {answered to : List (List ℕ)} {acts : List Act} {first more : List Note} {n : ℕ} (draft : DraftText) → Drafting id draft (state_at start answered acts) first (Ok n) (state_at start answered (acts ++ acts_of first)) → Recounts id start answered (acts ++ acts_of first) more to → Recounts id start answered acts (first ++ more) to
+  sends_not : {answered : List (List ℕ)} {acts : List Act} {first more : List Note} {why : SendFault} {s : State} (draft : DraftText) → Drafting id draft (state_at start answered acts) first (Err why) s → Closes s.expected more → Recounts id start answered acts (first ++ more) answered
   ends : {answered : List (List ℕ)} {acts : List Act} {first more : List Note} {e : Ending} {s : State} (frame : List ℕ) → IsNext answered acts frame → Handled id (state_at start answered acts) frame first (Err e) s → Closes s.expected more → Recounts id start answered acts (first ++ more) (answered ++ frame ∷ [])
 
 -- the last of the frames has P

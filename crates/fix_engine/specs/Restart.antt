@@ -6,7 +6,7 @@ use Rattle.fix_base.specs.declared.entry.Record.{Record}
 use Rattle.fix_base.specs.declared.entry.Stored.{Stored}
 use Rattle.fix_base.specs.End.{End, folded}
 use Rattle.fix_base.specs.EndStep.{EndState, EndRun}
-use Rattle.fix_engine.specs.Outside.{IsStoredOf}
+use Rattle.fix_rim.specs.Outside.{IsStoredOf}
 use Rattle.fix_engine.specs.Lawful.{IsCertain, MayHold}
 use Rattle.fix_engine.specs.Run.{state_of}
 

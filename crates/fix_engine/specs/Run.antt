@@ -14,16 +14,23 @@ use Rattle.fix_engine.specs.declared.stop.StopCause.{StopCause}
 use Rattle.fix_engine.specs.declared.stop.StopCause.TheVariants as cause
 use Rattle.fix_engine.specs.declared.stop.BeginFault.{BeginFault}
 use Rattle.fix_engine.specs.declared.stop.BeginFault.TheVariants as begins
-use Rattle.fix_engine.specs.declared.outside.LoadFault.{LoadFault}
-use Rattle.fix_engine.specs.declared.outside.LoadFault.TheVariants as load
-use Rattle.fix_engine.specs.Outside.{loads}
-use Rattle.fix_engine.specs.Turn.{Live, live, Ran}
+use Rattle.fix_rim.specs.declared.outside.LoadFault.{LoadFault}
+use Rattle.fix_rim.specs.declared.outside.LoadFault.TheVariants as load
+use Rattle.fix_rim.specs.Outside.{loads}
+use Rattle.fix_engine.specs.declared.hand.Hand.{Hand}
+use Rattle.fix_engine.specs.Turn.{Live, live}
+use Rattle.fix_engine.specs.Desk.{Desk, desk, Ran, no_draft, hand_again}
 
 -- what a session is seen as
 pub record Seat : Type 0 where
   pub identity : Identity
   pub live : Live
+  pub hand : Hand
   pub stopped : Option StopCause
+
+-- without its identity, and why it is stopped
+abbrev pub desk_of : Seat → Desk
+desk_of seat = desk seat.live seat.hand
 
 -- a session that starts from these numbers
 abbrev pub state_of : Stored → State
@@ -45,10 +52,10 @@ run_end (Err ending.NumbersSpent) = run.NumbersSpent
 run_end (Err ending.OutOfMemory) = run.OutOfMemory
 
 -- these notes are a run of at most n turns with this answer, and this is behind it
-pub record RanTo (id : Identity) (n : ℕ) (l : Live) (answer : RunEnd) (to : Live) (notes : List Note) : Type 0 where
+pub record RanTo (id : Identity) (n : ℕ) (d : Desk) (answer : RunEnd) (to : Desk) (notes : List Note) : Type 0 where
   pub r : Result ⊤ Ending
   pub answered : answer ≡ run_end r
-  pub ran : Ran id n l notes r to
+  pub ran : Ran id n d notes r to
 
 -- why the session is stopped after this answer
 abbrev pub stop_cause : RunEnd → Option StopCause
@@ -95,7 +102,7 @@ IsDownUnlessSpent (run.Stopped c) old new = new ≡ old
 
 -- a session that was just opened over these numbers
 abbrev pub seated_at : Identity → Stored → Seat
-seated_at id stored = record { identity = id; live = live (state_of stored) no_bytes; stopped = None }
+seated_at id stored = record { identity = id; live = live (state_of stored) no_bytes; hand = no_draft; stopped = None }
 
 -- what comes of opening a session: it has the numbers that the store told, or there is none
 pub data OpensTo (id : Identity) : Result Seat LoadFault → Result Stored LoadFault → List Note → Type 0 where
@@ -113,12 +120,12 @@ abbrev pub stays_stopped : Option StopCause → LoadFault → Option StopCause
 stays_stopped None fault = Some (load_stop fault)
 stays_stopped (Some why) fault = Some why
 
--- a session that goes on from these numbers, and one whose store wasn't opened
+-- a session that goes on from these numbers, with the draft in hand that isn't stored, and one whose store wasn't opened
 abbrev pub seated_again : Seat → Stored → Seat
-seated_again old stored = record { identity = old.identity; live = live (state_of stored) old.live.ahead; stopped = None }
+seated_again old stored = record { identity = old.identity; live = live (state_of stored) old.live.ahead; hand = hand_again old.hand old.live.state.last stored.last; stopped = None }
 
 abbrev pub seated_refused : Seat → LoadFault → Seat
-seated_refused old fault = record { identity = old.identity; live = old.live; stopped = stays_stopped old.stopped fault }
+seated_refused old fault = record { identity = old.identity; live = old.live; hand = old.hand; stopped = stays_stopped old.stopped fault }
 
 -- what comes of opening the store of a session again
 pub data ReopensTo {T : Type 0} (old : Seat) : Result T LoadFault → Result Stored LoadFault → Seat → List Note → Type 0 where
@@ -137,11 +144,11 @@ begun l t = live (record { phase = AwaitLogon; expected = l.state.expected; kept
 
 -- what a session is that memory was refused to
 abbrev pub stopped_for_memory : Seat → Seat
-stopped_for_memory old = record { identity = old.identity; live = old.live; stopped = Some cause.OutOfMemory }
+stopped_for_memory old = record { identity = old.identity; live = old.live; hand = old.hand; stopped = Some cause.OutOfMemory }
 
 -- what comes of `begin` on a session that goes on: on Ok it waits for a Logon on the new connection, and where memory
 -- was refused it is stopped
 pub data BeginsTo {T : Type 0} (old : Seat) : Result T BeginFault → Seat → List Note → Type 0 where
-  opened_to : {x : T} (t : ℕ) → BeginsTo old (Ok x) (record { identity = old.identity; live = begun old.live t; stopped = None }) (Did (act.Now t) ∷ Did act.Opened ∷ [])
+  opened_to : {x : T} (t : ℕ) → BeginsTo old (Ok x) (record { identity = old.identity; live = begun old.live t; hand = old.hand; stopped = None }) (Did (act.Now t) ∷ Did act.Opened ∷ [])
   no_memory : BeginsTo old (Err begins.OutOfMemory) (stopped_for_memory old) []
   no_memory_to_open : (t : ℕ) → BeginsTo old (Err begins.OutOfMemory) (stopped_for_memory old) (Did (act.Now t) ∷ [])

@@ -6,7 +6,7 @@ use Rattle.fix_engine.specs.State.{Ending}
 use Rattle.fix_engine.specs.declared.state.Ending.TheVariants as ending
 use Rattle.fix_engine.specs.declared.stop.RunEnd.{RunEnd}
 use Rattle.fix_engine.specs.declared.stop.RunEnd.TheVariants as run
-use Rattle.fix_engine.specs.Turn.{Live, Ran}
+use Rattle.fix_engine.specs.Desk.{Desk, Ran}
 use Rattle.fix_engine.specs.Run.{RanTo}
 
 -- no part failed
@@ -32,6 +32,6 @@ CanNotFail A = (A → ⊥) → ⊥
 -- No part failed, and the notes, the answer and what is behind them are those of a run; or memory was refused,
 -- and the notes are the front of those of a run that another answer ends. That run would have looked at bytes that
 -- nobody looked at, so it is said that there is one, and not which.
-abbrev pub IsAsStated : Identity → ℕ → Live → RunEnd → Live → List Note → Type 0
-IsAsStated id n l answer to notes =
-    IsFaultless notes × (((answer ≢ run.OutOfMemory) × RanTo id n l answer to notes) ⊎ ((answer ≡ run.OutOfMemory) × CanNotFail (GoesOn (Ran id n) l notes)))
+abbrev pub IsAsStated : Identity → ℕ → Desk → RunEnd → Desk → List Note → Type 0
+IsAsStated id n d answer to notes =
+    IsFaultless notes × (((answer ≢ run.OutOfMemory) × RanTo id n d answer to notes) ⊎ ((answer ≡ run.OutOfMemory) × CanNotFail (GoesOn (Ran id n) d notes)))

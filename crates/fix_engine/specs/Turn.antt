@@ -1,6 +1,6 @@
--- The turns of a session: one read with the frames that it completes, one look at the clock, and the
+-- What a turn does on a connection: one read with the frames that it completes, one look at the clock, and the
 -- expected number kept.
-use Rattle.std.specs.Prelude.{◌≡◌, ◌≢◌, ◌<◌, ◌≤◌, ◌∷◌, ◌++◌, ℕ, List, [], length, Bool, true, false, Result, Ok, Err, ⊤, replicate}
+use Rattle.std.specs.Prelude.{◌≡◌, ◌≢◌, ◌<◌, ◌≤◌, ◌∷◌, ◌++◌, ℕ, List, [], length, Bool, true, false, Result, Ok, Err, ⊤}
 use Rattle.fix_base.specs.declared.identity.Identity.{Identity}
 use Rattle.fix_base.specs.Stream.{Ahead}
 use Rattle.fix_base.specs.declared.entry.Record.TheVariants.{Expect}
@@ -9,7 +9,6 @@ use Rattle.fix_base.specs.Seen.{Note, Did, Failed, StorePart, LinkPart}
 use Rattle.fix_frame.specs.Given.{GivesFrame, GivesNone}
 use Rattle.fix_engine.specs.State.{State, Down, PeerEnd, Ending, with_phase, with_kept, with_reading}
 use Rattle.fix_engine.specs.declared.state.Ending.TheVariants as ending
-use Rattle.fix_engine.specs.Fold.{Each, AndThen}
 use Rattle.fix_engine.specs.Answer.{Handled}
 
 -- a session on a connection: its state, and the bytes that no frame was taken from yet
@@ -68,19 +67,6 @@ settles_of (Err ending.StoreFault) = false
 settles_of (Err ending.NumbersSpent) = false
 settles_of (Err ending.OutOfMemory) = false
 
--- one turn. A fault of keeping the expected number goes before how the rest ended
-pub data Turn (id : Identity) (l : Live) : List Note → Result ⊤ Ending → Live → Type 0 where
-  stops : {to : Live} {met : Result ⊤ Ending} {notes : List Note} → settles_of met ≡ false → AndThen (Heard id) Clocked l notes met to → Turn id l notes met to
-  keeps : {mid to : Live} {met : Result ⊤ Ending} {first more : List Note} → settles_of met ≡ true → AndThen (Heard id) Clocked l first met mid → KeptExpected mid more (Ok tt) to → Turn id l (first ++ more) met to
-  keeps_not : {mid to : Live} {met : Result ⊤ Ending} {first more : List Note} {e : Ending} → settles_of met ≡ true → AndThen (Heard id) Clocked l first met mid → KeptExpected mid more (Err e) to → Turn id l (first ++ more) (Err e) to
-
-abbrev pub OneTurn : Identity → Live → ⊤ → List Note → Result ⊤ Ending → Live → Type 0
-OneTurn id l u = Turn id l
-
--- at most n turns
-abbrev pub Turns : Identity → ℕ → Live → List Note → Result ⊤ Ending → Live → Type 0
-Turns id n l = Each (OneTurn id) l (replicate n tt)
-
 -- whether Cut is noted behind this
 abbrev pub is_cut_of : Ending → Bool
 is_cut_of (ending.Closed why) = true
@@ -93,10 +79,3 @@ is_cut_of ending.OutOfMemory = false
 
 abbrev pub down : Live → Live
 down l = live (with_phase l.state Down) l.ahead
-
--- the turns, and what is noted behind their end
-pub data Ran (id : Identity) (n : ℕ) (l : Live) : List Note → Result ⊤ Ending → Live → Type 0 where
-  all_turns : {to : Live} {notes : List Note} → Turns id n l notes (Ok tt) to → Ran id n l notes (Ok tt) to
-  cut : {to : Live} {notes : List Note} {e : Ending} → is_cut_of e ≡ true → Turns id n l notes (Err e) to → Ran id n l (notes ++ Did act.Cut ∷ []) (Err e) (down to)
-  cut_memory : {to : Live} {notes : List Note} {e : Ending} → is_cut_of e ≡ true → Turns id n l notes (Err e) to → Ran id n l notes (Err ending.OutOfMemory) (down to)
-  no_cut : {to : Live} {notes : List Note} {e : Ending} → is_cut_of e ≡ false → Turns id n l notes (Err e) to → Ran id n l notes (Err e) (down to)

@@ -4,6 +4,7 @@ use Rattle.std.specs.Prelude.{◌≡◌, ◌<◌, ◌≤◌, ◌+◌, ◌∷◌,
 use Rattle.fix_base.specs.declared.act.Act.TheVariants as act
 use Rattle.fix_base.specs.declared.act.Act.{Act}
 use Rattle.fix_base.specs.Lists.{Among}
+use Rattle.fix_base.specs.Seen.{Note, Did, Failed, Asked, acts_of}
 use Rattle.fix_engine.specs.State.{State, PeerEnd, LoggedOut, Refused}
 use Rattle.fix_engine.specs.declared.stop.RunEnd.{RunEnd}
 use Rattle.fix_engine.specs.declared.stop.RunEnd.TheVariants as run
@@ -40,6 +41,13 @@ looks_in (act.HandLost n marked body ∷ acts) = looks_in acts
 looks_in (act.Cut ∷ acts) = looks_in acts
 looks_in (act.Stop ∷ acts) = looks_in acts
 
+-- how often the application was asked for a draft
+abbrev pub asks_in : List Note → ℕ
+asks_in [] = 0
+asks_in (Did act ∷ notes) = asks_in notes
+asks_in (Failed part ∷ notes) = asks_in notes
+asks_in (Asked draft ∷ notes) = suc (asks_in notes)
+
 -- Of n turns, this many were made up to their look at the clock: all of them at TurnsSpent, and fewer where
 -- a turn ended the run before it looked. A store that fails, and want of memory, may end a turn behind its look.
 abbrev pub IsMadeOf : RunEnd → ℕ → ℕ → Type 0
@@ -53,13 +61,15 @@ IsMadeOf run.StoreFault n made = made ≤ n
 IsMadeOf run.OutOfMemory n made = made ≤ n
 IsMadeOf (run.Stopped cause) n made = made ≡ 0
 
--- a run of at most n turns: each reads once, and then looks once at the clock
-pub record HasTurns (n : ℕ) (answer : RunEnd) (acts : List Act) : Type 0 where
-  pub made : IsMadeOf answer n (looks_in acts)
-  pub reads_first : looks_in acts ≤ reads_in acts
-  pub reads_once : reads_in acts ≤ looks_in acts + 1
-  pub at_most : reads_in acts ≤ n
-  pub all : answer ≡ run.TurnsSpent → reads_in acts ≡ n
+-- a run of at most n turns: each asks for a draft at most once, then reads once, and then looks once at the clock
+pub record HasTurns (n : ℕ) (answer : RunEnd) (notes : List Note) : Type 0 where
+  pub made : IsMadeOf answer n (looks_in (acts_of notes))
+  pub reads_first : looks_in (acts_of notes) ≤ reads_in (acts_of notes)
+  pub reads_once : reads_in (acts_of notes) ≤ looks_in (acts_of notes) + 1
+  pub at_most : reads_in (acts_of notes) ≤ n
+  pub all : answer ≡ run.TurnsSpent → reads_in (acts_of notes) ≡ n
+  pub asks_once : asks_in notes ≤ looks_in (acts_of notes) + 1
+  pub asks_at_most : asks_in notes ≤ n
 
 -- behind this answer the expected number is the one that is kept
 abbrev pub IsSettled : RunEnd → State → Type 0

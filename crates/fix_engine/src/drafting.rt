@@ -134,8 +134,8 @@ fn write_draft<O: Outside>(
     }
 }
 
-// Keeps the draft under the next number and, in phase Up, writes its original.
-fn send_draft<O: Outside>(
+/// Keeps the draft under the next number and, in phase Up, writes its original.
+pub fn send_draft<O: Outside>(
     o: &mut O,
     party: &Party,
     state: &mut State,

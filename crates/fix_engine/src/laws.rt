@@ -5,7 +5,7 @@ ghost use Rattle.fix_base.specs.Session.{mirrored};
 ghost use Rattle.fix_base.specs.Payload.{IsPersistent};
 ghost use Rattle.fix_base.specs.declared.entry.Stored.{Stored};
 ghost use Rattle.fix_base.specs.End.{End, new_end};
-ghost use Rattle.fix_engine.specs.Outside.{IsStoredOf};
+ghost use Rattle.fix_rim.specs.Outside.{IsStoredOf};
 ghost use Rattle.fix_engine.specs.Lawful.{MayHold};
 ghost use Rattle.fix_engine.specs.Restart.{StartsAt, Restarts};
 ghost use Rattle.fix_base.specs.EndStep.{EndState, new_state};
@@ -14,6 +14,7 @@ ghost use Rattle.fix_base.specs.Reader.{bytes_read, ReaderKeepsUp};
 ghost use Rattle.fix_engine.specs.State.{first_state};
 ghost use Rattle.fix_engine.specs.Turn.{Live, live};
 ghost use Rattle.fix_engine.specs.Run.{no_bytes};
+ghost use Rattle.fix_engine.specs.Desk.{no_draft};
 ghost use Rattle.fix_engine.specs.InStep.{IsTape, IsStored, IsInStep, HasServed, bytes_written};
 
 use crate::{Outside, RunEnd};
@@ -22,7 +23,7 @@ use fix_base::{Act, Identity};
 /// A session that was just opened is in step with an open outside that stores nothing, whatever acts
 /// its tape has already.
 pub fn a_new_session_is_in_step<O: Outside>(o: &O)
-    ensures { (id : Identity) (before : List Act) → IsTape (O.seen o.now) before → IsStored (O.seen o.now) new_end → (O.seen o.now).open_at ≡ Some 0 → IsInStep new_state before (O.seen o.now) (record { identity = id; live = live first_state no_bytes; stopped = None }) }
+    ensures { (id : Identity) (before : List Act) → IsTape (O.seen o.now) before → IsStored (O.seen o.now) new_end → (O.seen o.now).open_at ≡ Some 0 → IsInStep new_state before (O.seen o.now) (record { identity = id; live = live first_state no_bytes; hand = no_draft; stopped = None }) }
 {}
 
 /// Where both ends of a connection are sessions of this engine, and what the one read is a front of

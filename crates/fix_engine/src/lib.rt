@@ -3,22 +3,15 @@
 #![tactic(auto)]
 
 mod drafting;
+mod hand;
 mod handling;
-mod held;
 mod inbound;
 mod laws;
 mod machine;
-mod memory_store;
 mod outbound;
-mod outside;
 mod party;
 mod performing;
-mod plain;
-mod plug;
-mod reserving;
-mod rim;
 mod session;
-mod shelf;
 mod state;
 mod stop;
 mod turn;
@@ -28,10 +21,8 @@ pub use fix_parts::{
     App, Clock, Handed, KeptTape, Link, MemoryApp, MemoryClock, MemoryLink, NoTape, Noted,
     ReadTurn, Said, Tape, WriteTurn,
 };
+pub use fix_rim::{FetchFault, KeepFault, Kind, LoadFault, Outside, Rim};
 pub use laws::{a_new_session_is_in_step, a_stop_is_lawful, two_sessions_agree};
-pub use outside::{FetchFault, KeepFault, Kind, LoadFault, Outside};
-pub use plain::Plain;
-pub use rim::Rim;
 pub use session::Session;
 pub use state::{Decision, Ending, Phase, Refusal, Say, State, Step, Why};
 pub use stop::{BeginFault, RunEnd, SendFault, StopCause};

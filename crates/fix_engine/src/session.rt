@@ -1,16 +1,16 @@
-ghost use Rattle.std.specs.Prelude.{◌≡◌, ◌≢◌, ◌≤◌, ◌∷◌, ◌++◌, ℕ, List, [], IfSome, IfNone, Result, IfOk, OnOk, OnErr, Some, None, Err};
+ghost use Rattle.std.specs.Prelude.{◌≡◌, ◌≢◌, ◌⊎◌, ◌≤◌, ◌∷◌, ◌++◌, ℕ, List, [], IfSome, IfNone, is_some, Result, IfOk, OnOk, OnErr, Some, None, Err};
 ghost use Rattle.fix_base.specs.declared.entry.Stored.{Stored};
 ghost use Rattle.fix_base.specs.End.{End};
 ghost use Rattle.fix_base.specs.Session.{IsValidIdentity};
 ghost use Rattle.fix_base.specs.EndStep.{EndState};
 ghost use Rattle.fix_base.specs.Seen.{acts_of, NoneRose, Goes};
 ghost use Rattle.fix_engine.specs.declared.state.State.{State};
-ghost use Rattle.fix_engine.specs.declared.outside.LoadFault.{LoadFault};
+ghost use Rattle.fix_rim.specs.declared.outside.LoadFault.{LoadFault};
 ghost use Rattle.fix_engine.specs.State.{IsInRange};
-ghost use Rattle.fix_engine.specs.Outside.{LoadAnswers};
+ghost use Rattle.fix_rim.specs.Outside.{LoadAnswers};
 ghost use Rattle.fix_engine.specs.Lawful.{IsLawful, IsLawfulBegin};
 ghost use Rattle.fix_engine.specs.InStep.{IsInStep, StandsInStep, Trails, IsConnected, HasServed};
-ghost use Rattle.fix_engine.specs.Run.{state_of, stays_stopped, LoadHasCause, OpensTo, ReopensTo, run_end, RanTo, stop_cause, RunHasCause, IsDownUnlessSpent, Opens, BeginsTo};
+ghost use Rattle.fix_engine.specs.Run.{desk_of, state_of, stays_stopped, LoadHasCause, OpensTo, ReopensTo, run_end, RanTo, stop_cause, RunHasCause, IsDownUnlessSpent, Opens, BeginsTo};
 ghost use Rattle.fix_engine.specs.Drafted.{SendsTo, send_stop, SendHasCause};
 ghost use Rattle.fix_engine.specs.LawfulSend.{IsLawfulSend};
 ghost use Rattle.fix_engine.specs.Turns.{HasTurns, IsSettled, ShowsPeerEnd};
@@ -18,6 +18,7 @@ ghost use Rattle.fix_engine.specs.Stated.{IsAsStated};
 ghost use Rattle.fix_engine.specs.LookBack.{StandsAt, LooksBack};
 
 use crate::drafting::send_and_cut;
+use crate::hand::{Hand, look_at, settle_hand};
 use crate::outbound::LAST_NUMBER;
 use crate::party::Party;
 use crate::turn::{ROOM, run_and_cut, take_reading};
@@ -29,18 +30,20 @@ use std::alloc::Global;
 use std::marker::Model;
 
 /// One session: it outlives its connections. Contracts see its identity, its state with the bytes
-/// that no frame was taken from yet, and why it is stopped, if it is.
+/// that no frame was taken from yet, the draft that it has in hand, and why it is stopped, if it
+/// is.
 #[derive(Drop)]
 pub struct Session {
     party: Party,
     state: State,
     reader: Reader,
     room: Vec<u8>,
+    hand: Hand,
     stopped: Option<StopCause>,
 }
 
 impl Model for Session {
-    ghost use Rattle.std.specs.Prelude.{◌≡◌, length};
+    ghost use Rattle.std.specs.Prelude.{◌≡◌, length, false, None};
     ghost use Rattle.fix_base.specs.Session.{IsValidIdentity};
     ghost use Rattle.fix_engine.specs.State.{IsInRange};
     ghost use Rattle.fix_engine.specs.Turn.{live};
@@ -48,9 +51,9 @@ impl Model for Session {
 
     ghost Value = { Seat };
 
-    ghost view = { λ s. record { identity = s.party.identity; live = live s.state s.reader.ahead; stopped = s.stopped } };
+    ghost view = { λ s. record { identity = s.party.identity; live = live s.state s.reader.ahead; hand = s.hand; stopped = s.stopped } };
 
-    ghost invariant = { λ s. IsValidIdentity s.party.identity × IsInRange s.state × (length s.room.items ≡ 65536) };
+    ghost invariant = { λ s. IsValidIdentity s.party.identity × IsInRange s.state × (length s.room.items ≡ 65536) × (s.stopped ≡ None → s.hand.tried ≡ false) };
 }
 
 // Reads the clock, and notes that a connection is opened.
@@ -158,6 +161,8 @@ impl Session {
         ensures opens { (loaded : Result Stored LoadFault) × LoadAnswers loaded (O.seen o.old) × Goes (O.seen o.old) (O.seen o.new) (OpensTo identity result loaded) }
         ensures cause { LoadHasCause result (O.seen o.old).faults (O.seen o.new).faults }
         ensures in_step { IfOk result (StandsInStep (O.seen o.new)) }
+        // The store isn't open then, unless it wasn't asked.
+        ensures shut { OnErr result ((o.new ≡ o.old) ⊎ ((O.seen o.new).open_at ≡ None)) }
     {
         let Ok(reader) = Reader::new(alloc) else {
             return Err(LoadFault::OutOfMemory);
@@ -171,6 +176,10 @@ impl Session {
                 state: state_from(stored),
                 reader,
                 room,
+                hand: Hand {
+                    draft: None,
+                    tried: false,
+                },
                 stopped: None,
             }),
             Err(fault) => Err(fault),
@@ -180,6 +189,9 @@ impl Session {
     /// Opens the message store again: the session goes on from what is stored, whatever a stop left
     /// of it. A session that isn't stopped must be Down, and is stopped where this is refused; one
     /// that is stopped stays so then. On Ok it isn't stopped, and in step with the outside.
+    ///
+    /// A draft in hand whose entry was lost is dropped where the store has it, which shows by the
+    /// last number. Else it is still in hand, and sent first in the next turn in phase Up.
     pub fn reopen<O: Outside>(&mut self, o: &mut O) -> Result<(), LoadFault>
         requires { IfNone self.old.stopped (self.old.live.state.phase ≡ Phase.Down) }
         ensures loads { (loaded : Result Stored LoadFault) × LoadAnswers loaded (O.seen o.old) × Goes (O.seen o.old) (O.seen o.new) (ReopensTo self.old result loaded self.new) }
@@ -189,9 +201,11 @@ impl Session {
         // still, and what was in doubt is settled.
         ensures in_step { OnOk result ((start : EndState) (before : List Act) (e : End) → (O.seen o.old).Holds e → Trails start before (O.seen o.old) self.old → IsInStep start before (O.seen o.new) self.new) }
         ensures trails { OnErr result ((start : EndState) (before : List Act) → Trails start before (O.seen o.old) self.old → Trails start before (O.seen o.new) self.new) }
+        ensures shut { OnErr result ((O.seen o.new).open_at ≡ None) }
     {
         match o.load() {
             Ok(stored) => {
+                settle_hand(&mut self.hand, self.state.last, stored.last);
                 self.state = state_from(stored);
                 self.stopped = None;
                 Ok(())
@@ -251,10 +265,15 @@ impl Session {
         }
     }
 
-    /// Makes at most `turns` turns: in each it reads once, answers the messages that this
-    /// completes, reads the clock once, and keeps the expected number. The phase must not be
-    /// Down, and the outside in step with the session. A stopped session answers `Stopped` and
-    /// calls nothing.
+    /// Makes at most `turns` turns. In each of them it asks the application once for a draft, where
+    /// it is Up and has none in hand, and sends what it has in hand. Then it reads once, answers
+    /// the messages that this completes, reads the clock once, and keeps the expected number.
+    ///
+    /// A draft stays in hand until its entry is kept: where memory was refused before that, where
+    /// the store failed, and where every number is used.
+    ///
+    /// The phase must not be Down, and the outside in step with the session. A stopped session
+    /// answers `Stopped` and calls nothing.
     pub fn run_turns<O: Outside>(&mut self, o: &mut O, turns: u64) -> RunEnd
         requires phase { IfNone self.old.stopped (self.old.live.state.phase ≢ Phase.Down) }
         requires in_step { IfNone self.old.stopped (StandsInStep (O.seen o.old) self.old) }
@@ -264,21 +283,21 @@ impl Session {
         ensures stays { IfSome self.old.stopped (λ cause. self.new ≡ self.old) }
 
         // On a session that goes on: what it did, what it answers, and what it is then.
-        ensures runs { IfNone self.old.stopped (Goes (O.seen o.old) (O.seen o.new) (RanTo self.old.identity turns self.old.live result self.new.live)) }
+        ensures runs { IfNone self.old.stopped (Goes (O.seen o.old) (O.seen o.new) (RanTo self.old.identity turns (desk_of self.old) result (desk_of self.new))) }
         ensures identity { self.new.identity ≡ self.old.identity }
         ensures stops { IfNone self.old.stopped (self.new.stopped ≡ stop_cause result) }
         ensures cause { IfNone self.old.stopped (RunHasCause result (O.seen o.old).faults (O.seen o.new).faults) }
         ensures phase { IfNone self.old.stopped (IsDownUnlessSpent result self.old.live.state.phase self.new.live.state.phase) }
 
         // Where no part failed: all of it, or a front of it where memory was refused.
-        ensures as_stated { NoneRose (O.seen o.old).faults (O.seen o.new).faults → IfNone self.old.stopped (Goes (O.seen o.old) (O.seen o.new) (IsAsStated self.old.identity turns self.old.live result self.new.live)) }
+        ensures as_stated { NoneRose (O.seen o.old).faults (O.seen o.new).faults → IfNone self.old.stopped (Goes (O.seen o.old) (O.seen o.new) (IsAsStated self.old.identity turns (desk_of self.old) result (desk_of self.new))) }
 
         // By looking back over the frames that were answered on the connection, and over its acts.
         ensures looks_back { IfNone self.old.stopped ((start : State) (answered : List (List ℕ)) (acts : List Act) → StandsAt start answered acts self.old.live → Goes (O.seen o.old) (O.seen o.new) (LooksBack self.old.identity start answered acts result self.new.live)) }
 
-        // How many turns it made, what is kept behind them, and that it answers the other side's end of the
-        // connection just where it read so.
-        ensures turns { IfNone self.old.stopped (Goes (O.seen o.old) (O.seen o.new) (λ notes. HasTurns turns result (acts_of notes))) }
+        // How many turns it made, with how many calls, what is kept behind them, and that it answers the
+        // other side's end of the connection just where it read so.
+        ensures turns { IfNone self.old.stopped (Goes (O.seen o.old) (O.seen o.new) (HasTurns turns result)) }
         ensures settled { IfNone self.old.stopped ((turns ≡ 0 → self.old.live.state.kept ≡ self.old.live.state.expected) → IsSettled result self.new.live.state) }
         ensures peer_end { IfNone self.old.stopped (Goes (O.seen o.old) (O.seen o.new) (λ notes. ShowsPeerEnd result (acts_of notes))) }
 
@@ -299,12 +318,14 @@ impl Session {
         if let Some(cause) = self.stopped {
             return RunEnd::Stopped(cause);
         }
+        look_at(&self.hand);
         let ran = run_and_cut(
             o,
             &self.party,
             &mut self.state,
             &mut self.reader,
             &mut self.room,
+            &mut self.hand,
             turns,
         );
         let answer = answer_of(&ran);
@@ -330,9 +351,11 @@ impl Session {
         // On a session that goes on: what it did, what it answers, and what it is then.
         ensures sends { IfNone self.old.stopped (Goes (O.seen o.old) (O.seen o.new) (SendsTo self.old.identity draft.now self.old.live result self.new.live)) }
         ensures identity { self.new.identity ≡ self.old.identity }
+        ensures hand { self.new.hand ≡ self.old.hand }
         ensures stops { IfNone self.old.stopped (self.new.stopped ≡ send_stop result) }
         ensures cause { IfNone self.old.stopped (SendHasCause result (O.seen o.old).faults (O.seen o.new).faults) }
         ensures spent { IfNone self.old.stopped (999999999 ≤ self.old.live.state.last → o.new ≡ o.old) }
+        ensures from_here { IfNone self.old.stopped (OnOk result ((start : State) (answered : List (List ℕ)) (acts : List Act) → StandsAt start answered acts self.old.live → Goes (O.seen o.old) (O.seen o.new) (λ notes. StandsAt start answered (acts ++ acts_of notes) self.new.live))) }
 
         // It is a run of a lawful end, and a session that isn't stopped stays in step with what is outside
         // of it, and connected where it answers a number.
@@ -357,6 +380,13 @@ impl Session {
         ensures { result ≡ self.now.live.state.phase }
     {
         self.state.phase
+    }
+
+    /// Whether a draft is in hand.
+    pub fn in_hand(&self) -> bool
+        ensures { result ≡ is_some self.now.hand.draft }
+    {
+        self.hand.draft.is_some()
     }
 
     /// The inbound MsgSeqNum (34) that is expected next, 1 to 1,000,000,000.

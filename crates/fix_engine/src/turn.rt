@@ -3,8 +3,10 @@ ghost use Rattle.fix_base.specs.Session.{IsValidIdentity};
 ghost use Rattle.fix_base.specs.Seen.{Goes};
 ghost use Rattle.fix_engine.specs.State.{IsInRange, open_behind, with_reading};
 ghost use Rattle.fix_engine.specs.Fold.{AndThen};
-ghost use Rattle.fix_engine.specs.Turn.{live, Fed, Heard, Clocked, KeptExpected, settles_of, Turn, Turns, is_cut_of, Ran};
+ghost use Rattle.fix_engine.specs.Turn.{live, Fed, Heard, Clocked, KeptExpected, settles_of, is_cut_of};
+ghost use Rattle.fix_engine.specs.Desk.{desk, Met, Turn, Turns, Ran};
 
+use crate::hand::{Hand, offer};
 use crate::handling::take_frames;
 use crate::party::Party;
 use crate::{Ending, KeepFault, Outside, Phase, State, Why};
@@ -94,7 +96,7 @@ fn look<O: Outside>(o: &mut O, state: &mut State, reader: &Reader) -> Result<(),
 }
 
 // Reads, and then looks at the clock.
-fn meet<O: Outside>(
+fn hear_and_look<O: Outside>(
     o: &mut O,
     party: &Party,
     state: &mut State,
@@ -111,6 +113,27 @@ fn meet<O: Outside>(
 {
     hear(o, party, state, reader, room)?;
     look(o, state, reader)
+}
+
+// Sends a draft of the application, reads, and then looks at the clock.
+fn meet<O: Outside>(
+    o: &mut O,
+    party: &Party,
+    state: &mut State,
+    reader: &mut Reader,
+    room: &mut [u8],
+    hand: &mut Hand,
+) -> Result<(), Ending>
+    requires valid { IsValidIdentity party.now.identity }
+    requires range { IsInRange state.old }
+    requires room { length room.old ≡ 65536 }
+    requires opens { (O.seen o.old).open_at ≡ Some state.old.last }
+    ensures range { IsInRange state.new }
+    ensures opens { (O.seen o.new).open_at ≡ open_behind result state.new }
+    ensures notes { Goes (O.seen o.old) (O.seen o.new) (λ notes. Met party.now.identity (desk (live state.old reader.old.ahead) hand.old) notes result (desk (live state.new reader.new.ahead) hand.new)) }
+{
+    offer(o, party, state, reader, hand)?;
+    hear_and_look(o, party, state, reader, room)
 }
 
 // Keeps the expected number where it is another than the one that is kept.
@@ -158,6 +181,7 @@ fn turn<O: Outside>(
     state: &mut State,
     reader: &mut Reader,
     room: &mut [u8],
+    hand: &mut Hand,
 ) -> Result<(), Ending>
     requires valid { IsValidIdentity party.now.identity }
     requires range { IsInRange state.old }
@@ -165,9 +189,9 @@ fn turn<O: Outside>(
     requires opens { (O.seen o.old).open_at ≡ Some state.old.last }
     ensures range { IsInRange state.new }
     ensures opens { (O.seen o.new).open_at ≡ open_behind result state.new }
-    ensures notes { Goes (O.seen o.old) (O.seen o.new) (λ notes. Turn party.now.identity (live state.old reader.old.ahead) notes result (live state.new reader.new.ahead)) }
+    ensures notes { Goes (O.seen o.old) (O.seen o.new) (λ notes. Turn party.now.identity (desk (live state.old reader.old.ahead) hand.old) notes result (desk (live state.new reader.new.ahead) hand.new)) }
 {
-    let met = meet(o, party, state, reader, room);
+    let met = meet(o, party, state, reader, room, hand);
     if settles(&met) {
         keep_expected(o, state, reader)?;
     }
@@ -181,6 +205,7 @@ fn run<O: Outside>(
     state: &mut State,
     reader: &mut Reader,
     room: &mut [u8],
+    hand: &mut Hand,
     turns: u64,
 ) -> Result<(), Ending>
     requires valid { IsValidIdentity party.now.identity }
@@ -189,10 +214,10 @@ fn run<O: Outside>(
     requires opens { (O.seen o.old).open_at ≡ Some state.old.last }
     ensures range { IsInRange state.new }
     ensures opens { (O.seen o.new).open_at ≡ open_behind result state.new }
-    ensures notes { Goes (O.seen o.old) (O.seen o.new) (λ notes. Turns party.now.identity turns (live state.old reader.old.ahead) notes result (live state.new reader.new.ahead)) }
+    ensures notes { Goes (O.seen o.old) (O.seen o.new) (λ notes. Turns party.now.identity turns (desk (live state.old reader.old.ahead) hand.old) notes result (desk (live state.new reader.new.ahead) hand.new)) }
 {
     for done in 0..turns {
-        turn(o, party, state, reader, room)?;
+        turn(o, party, state, reader, room, hand)?;
     }
     Ok(())
 }
@@ -219,6 +244,7 @@ pub fn run_and_cut<O: Outside>(
     state: &mut State,
     reader: &mut Reader,
     room: &mut [u8],
+    hand: &mut Hand,
     turns: u64,
 ) -> Result<(), Ending>
     requires valid { IsValidIdentity party.now.identity }
@@ -227,9 +253,9 @@ pub fn run_and_cut<O: Outside>(
     requires opens { (O.seen o.old).open_at ≡ Some state.old.last }
     ensures range { IsInRange state.new }
     ensures opens { (O.seen o.new).open_at ≡ open_behind result state.new }
-    ensures notes { Goes (O.seen o.old) (O.seen o.new) (λ notes. Ran party.now.identity turns (live state.old reader.old.ahead) notes result (live state.new reader.new.ahead)) }
+    ensures notes { Goes (O.seen o.old) (O.seen o.new) (λ notes. Ran party.now.identity turns (desk (live state.old reader.old.ahead) hand.old) notes result (desk (live state.new reader.new.ahead) hand.new)) }
 {
-    let ran = run(o, party, state, reader, room, turns);
+    let ran = run(o, party, state, reader, room, hand, turns);
     match ran {
         Ok(()) => Ok(()),
         Err(ending) => {

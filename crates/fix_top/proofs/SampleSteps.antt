@@ -9,7 +9,7 @@ use Rattle.fix_base.specs.Line.{line_text}
 use Rattle.fix_base.specs.Says.{HasFields, body_of}
 use Rattle.fix_base.specs.Seen.{Note, Did}
 use Rattle.fix_engine.specs.declared.state.State.{State}
-use Rattle.fix_engine.specs.declared.state.Phase.TheVariants.{Up}
+use Rattle.fix_engine.specs.declared.state.Phase.TheVariants.{Down, Up}
 use Rattle.fix_engine.specs.declared.state.Say.{Say}
 use Rattle.fix_engine.specs.declared.state.Step.{Step}
 use Rattle.fix_engine.specs.declared.state.Step.TheVariants as step
@@ -73,13 +73,13 @@ pub record Follows (frame : List ℕ) (Q : List Note → State → Type 0) (xs :
   pub others : Carries frame mid xs more r s'
 
 -- a step that only want of memory ends comes to Q, where there is so much room
-pub record IsDone (link app : ℕ) (frame : List ℕ) (s : State) (x : Step) (Q : List Note → State → Type 0) : Type 0 where
-  pub fails : (notes : List Note) (e : Ending) (s' : State) → HasRooms link app notes → Performed SAMPLE_ID frame s x notes (Err e) s' → e ≡ ending.OutOfMemory
+pub record IsDone (link app store : ℕ) (frame : List ℕ) (s : State) (x : Step) (Q : List Note → State → Type 0) : Type 0 where
+  pub fails : (notes : List Note) (e : Ending) (s' : State) → HasRooms link app store notes → Performed SAMPLE_ID frame s x notes (Err e) s' → e ≡ ending.OutOfMemory
   pub goes : (notes : List Note) (s' : State) → Performed SAMPLE_ID frame s x notes (Ok tt) s' → Q notes s'
 
-pub after_done : (link app : ℕ) (frame : List ℕ) (s : State) (x : Step) (Q : List Note → State → Type 0) (xs : List Step) (notes : List Note) (r : Result ⊤ Ending) (s' : State) → IsDone link app frame s x Q → HasRooms link app notes → Carries frame s (x ∷ xs) notes r s' → (r ≡ Err ending.OutOfMemory) ⊎ Follows frame Q xs notes r s'
-after_done link app frame s x Q xs notes r s' h rooms (fold.ends {e = e} d) = inl (ap Err (h.fails notes e s' rooms d))
-after_done link app frame s x Q xs notes r s' h rooms (fold.goes {mid = mid} {first = first} {more = more} d k) = inr (record { first = first; more = more; mid = mid; is = refl; did = h.goes first mid d; others = k })
+pub after_done : (link app store : ℕ) (frame : List ℕ) (s : State) (x : Step) (Q : List Note → State → Type 0) (xs : List Step) (notes : List Note) (r : Result ⊤ Ending) (s' : State) → IsDone link app store frame s x Q → HasRooms link app store notes → Carries frame s (x ∷ xs) notes r s' → (r ≡ Err ending.OutOfMemory) ⊎ Follows frame Q xs notes r s'
+after_done link app store frame s x Q xs notes r s' h rooms (fold.ends {e = e} d) = inl (ap Err (h.fails notes e s' rooms d))
+after_done link app store frame s x Q xs notes r s' h rooms (fold.goes {mid = mid} {first = first} {more = more} d k) = inr (record { first = first; more = more; mid = mid; is = refl; did = h.goes first mid d; others = k })
 
 -- a message was kept and written
 pub record HasSent (s : State) (say : Say) (notes : List Note) (to : State) : Type 0 where
@@ -96,18 +96,22 @@ SaidFits link s say = (text : List ℕ) → IsSaid SAMPLE_ID (s.last + 1) s.read
 unsent_fits : (link sent : ℕ) (text : List ℕ) → length text ≤ link → link - length (take sent text) < length text - sent → ⊥
 unsent_fits link sent text fits lost = omega (arith, length-take sent text)
 
-send_fails : (link app : ℕ) (frame : List ℕ) (s : State) (say : Say) (n : Option ℕ) → s.last < 999999999 → SaidFits link s say → (notes : List Note) (e : Ending) (s' : State) → HasRooms link app notes → Performed SAMPLE_ID frame s (step.Send say n) notes (Err e) s' → e ≡ ending.OutOfMemory
-send_fails link app frame s say n low fits notes e s' rooms (answer.spent y m high) = absurd (omega (arith, low, high))
-send_fails link app frame s say n low fits notes e s' rooms (answer.keep_memory y m h) = refl
-send_fails link app frame s say n low fits notes e s' rooms (answer.keep_lost y m h) = absurd rooms
-send_fails link app frame s say n low fits notes e s' rooms (answer.write_lost y m text k h said) = absurd (unsent_fits link k text (fits text said) rooms.0)
-send_fails link app frame s say n low fits notes e s' rooms (answer.write_memory y m h) = refl
+-- an entry of what is said takes this much
+said_size : (store : ℕ) → 19 ≤ store → store < 19 → ⊥
+said_size store room lost = omega (arith, room, lost)
+
+send_fails : (link app store : ℕ) (frame : List ℕ) (s : State) (say : Say) (n : Option ℕ) → s.last < 999999999 → SaidFits link s say → 19 ≤ store → (notes : List Note) (e : Ending) (s' : State) → HasRooms link app store notes → Performed SAMPLE_ID frame s (step.Send say n) notes (Err e) s' → e ≡ ending.OutOfMemory
+send_fails link app store frame s say n low fits room notes e s' rooms (answer.spent y m high) = absurd (omega (arith, low, high))
+send_fails link app store frame s say n low fits room notes e s' rooms (answer.keep_memory y m h) = refl
+send_fails link app store frame s say n low fits room notes e s' rooms (answer.keep_lost y m h) = absurd (said_size store room rooms.0)
+send_fails link app store frame s say n low fits room notes e s' rooms (answer.write_lost y m text k h said) = absurd (unsent_fits link k text (fits text said) rooms.0)
+send_fails link app store frame s say n low fits room notes e s' rooms (answer.write_memory y m h) = refl
 
 send_goes : (frame : List ℕ) (s : State) (say : Say) (n : Option ℕ) (notes : List Note) (s' : State) → Performed SAMPLE_ID frame s (step.Send say n) notes (Ok tt) s' → HasSent s say notes s'
 send_goes frame s say n notes s' (answer.sent y m text h said) = record { text = text; said = said; noted = refl; state = refl }
 
-pub send_done : (link app : ℕ) (frame : List ℕ) (s : State) (say : Say) (n : Option ℕ) → s.last < 999999999 → SaidFits link s say → IsDone link app frame s (step.Send say n) (HasSent s say)
-send_done link app frame s say n low fits = record { fails = send_fails link app frame s say n low fits; goes = send_goes frame s say n }
+pub send_done : (link app store : ℕ) (frame : List ℕ) (s : State) (say : Say) (n : Option ℕ) → s.last < 999999999 → SaidFits link s say → 19 ≤ store → IsDone link app store frame s (step.Send say n) (HasSent s say)
+send_done link app store frame s say n low fits room = record { fails = send_fails link app store frame s say n low fits room; goes = send_goes frame s say n }
 
 -- a message was handed over
 pub record HasHanded (frame : List ℕ) (s : State) (n : ℕ) (marked : Bool) (notes : List Note) (to : State) : Type 0 where
@@ -123,22 +127,22 @@ LineFits app frame n marked = (fields : List Field) → HasFields frame fields �
 line_fits : (app line : ℕ) → line ≤ app → app < line → ⊥
 line_fits app line fits lost = omega (arith, fits, lost)
 
-hand_fails : (link app : ℕ) (frame : List ℕ) (s : State) (n : ℕ) (marked : Bool) → LineFits app frame n marked → (notes : List Note) (e : Ending) (s' : State) → HasRooms link app notes → Performed SAMPLE_ID frame s (step.Hand n marked) notes (Err e) s' → e ≡ ending.OutOfMemory
-hand_fails link app frame s n marked fits notes e s' rooms (answer.hand_lost k m fields has) = absurd (line_fits app (length (line_text n marked (body_of fields))) (fits fields has) rooms.0)
-hand_fails link app frame s n marked fits notes e s' rooms (answer.hand_memory k m) = refl
+hand_fails : (link app store : ℕ) (frame : List ℕ) (s : State) (n : ℕ) (marked : Bool) → LineFits app frame n marked → (notes : List Note) (e : Ending) (s' : State) → HasRooms link app store notes → Performed SAMPLE_ID frame s (step.Hand n marked) notes (Err e) s' → e ≡ ending.OutOfMemory
+hand_fails link app store frame s n marked fits notes e s' rooms (answer.hand_lost k m fields has) = absurd (line_fits app (length (line_text n marked (body_of fields))) (fits fields has) rooms.0)
+hand_fails link app store frame s n marked fits notes e s' rooms (answer.hand_memory k m) = refl
 
 hand_goes : (frame : List ℕ) (s : State) (n : ℕ) (marked : Bool) (notes : List Note) (s' : State) → Performed SAMPLE_ID frame s (step.Hand n marked) notes (Ok tt) s' → HasHanded frame s n marked notes s'
 hand_goes frame s n marked notes s' (answer.taken k m fields has) = record { fields = fields; has = has; noted = refl; state = refl }
 
-pub hand_done : (link app : ℕ) (frame : List ℕ) (s : State) (n : ℕ) (marked : Bool) → LineFits app frame n marked → IsDone link app frame s (step.Hand n marked) (HasHanded frame s n marked)
-hand_done link app frame s n marked fits = record { fails = hand_fails link app frame s n marked fits; goes = hand_goes frame s n marked }
+pub hand_done : (link app store : ℕ) (frame : List ℕ) (s : State) (n : ℕ) (marked : Bool) → LineFits app frame n marked → IsDone link app store frame s (step.Hand n marked) (HasHanded frame s n marked)
+hand_done link app store frame s n marked fits = record { fails = hand_fails link app store frame s n marked fits; goes = hand_goes frame s n marked }
 
 close_ok : (frame : List ℕ) (s : State) (why : Why) (notes : List Note) (mid : State) → Performed SAMPLE_ID frame s (step.Close why) notes (Ok tt) mid → ⊥
 close_ok frame s why notes mid d = elim d [ ]
 
-close_err : (frame : List ℕ) (s : State) (why : Why) (notes : List Note) (e : Ending) (s' : State) → Performed SAMPLE_ID frame s (step.Close why) notes (Err e) s' → (notes ≡ []) × (e ≡ ending.Closed why)
-close_err frame s why notes e s' (answer.close y) = (refl, refl)
+close_err : (frame : List ℕ) (s : State) (why : Why) (notes : List Note) (e : Ending) (s' : State) → Performed SAMPLE_ID frame s (step.Close why) notes (Err e) s' → (notes ≡ []) × (e ≡ ending.Closed why) × (s' ≡ with_phase s Down)
+close_err frame s why notes e s' (answer.close y) = (refl, refl, refl)
 
-pub after_close : (frame : List ℕ) (s : State) (why : Why) (xs : List Step) (notes : List Note) (r : Result ⊤ Ending) (s' : State) → Carries frame s (step.Close why ∷ xs) notes r s' → (notes ≡ []) × (r ≡ Err (ending.Closed why))
-after_close frame s why xs notes r s' (fold.ends {e = e} d) = let is = close_err frame s why notes e s' d in (is.0, ap Err is.1)
+pub after_close : (frame : List ℕ) (s : State) (why : Why) (xs : List Step) (notes : List Note) (r : Result ⊤ Ending) (s' : State) → Carries frame s (step.Close why ∷ xs) notes r s' → (notes ≡ []) × (r ≡ Err (ending.Closed why)) × (s' ≡ with_phase s Down)
+after_close frame s why xs notes r s' (fold.ends {e = e} d) = let is = close_err frame s why notes e s' d in (is.0, ap Err is.1, is.2)
 after_close frame s why xs notes r s' (fold.goes {mid = mid} {first = first} d k) = absurd (close_ok frame s why first mid d)

@@ -1,6 +1,6 @@
 -- What opening, begin and the run come to, together.
-use Rattle.std.proofs.Common.{◌≡◌, ◌⊎◌, inl, inr, ℕ, List, [], ◌∷◌, ◌++◌, Option, Some, None, IfNone, Result, Ok, Err, refl, sym, ap, ◌∙◌, subst, arith}
-use Rattle.std.specs.Prelude.{⊤, IfSome}
+use Rattle.std.proofs.Common.{◌≡◌, inl, inr, ℕ, List, [], ◌∷◌, ◌++◌, Some, IfNone, Result, Ok, Err, refl, sym, ap, ◌∙◌, subst, arith}
+use Rattle.std.specs.Prelude.{⊤}
 use Rattle.fix_base.specs.declared.identity.Identity.{Identity}
 use Rattle.fix_base.specs.declared.entry.Stored.{Stored}
 use Rattle.fix_base.specs.End.{End}
@@ -9,31 +9,30 @@ use Rattle.fix_base.specs.declared.act.Act.TheVariants as act
 use Rattle.fix_base.specs.EndStep as steps
 use Rattle.fix_base.specs.EndStep.{EndState, EndRun}
 use Rattle.fix_base.specs.Seen.{Faults, Counts, Note, Did, Stores, acts_of, Seen, HoldsOn, Moves, Goes}
-use Rattle.fix_base.proofs.SeenLemmas.{Moves-append, Moves-nil}
+use Rattle.fix_base.proofs.SeenLemmas.{Moves-append}
 use Rattle.fix_base.proofs.RunLemmas.{EndRun-append}
 use Rattle.fix_engine.specs.declared.stop.RunEnd.{RunEnd}
 use Rattle.fix_engine.specs.declared.stop.RunEnd.TheVariants as run
 use Rattle.fix_engine.specs.declared.stop.BeginFault.{BeginFault}
 use Rattle.fix_engine.specs.declared.state.Why.TheVariants.{PeerEnd, LoggedOut, Refused}
-use Rattle.fix_engine.specs.declared.outside.LoadFault.{LoadFault}
-use Rattle.fix_engine.specs.declared.outside.LoadFault.TheVariants as load
+use Rattle.fix_rim.specs.declared.outside.LoadFault.{LoadFault}
+use Rattle.fix_rim.specs.declared.outside.LoadFault.TheVariants as load
 use Rattle.fix_engine.specs.declared.state.Phase.TheVariants.{Down}
-use Rattle.fix_engine.specs.Turn.{Live, live}
-use Rattle.fix_engine.specs.Outside.{loads, LoadAnswers, IsLoaded, IsStoredOf}
-use Rattle.fix_engine.specs.Run.{Seat, seated_at, OpensTo, from_stored, no_store, BeginsTo, opened_to, no_memory, no_memory_to_open, RanTo, RunHasCause}
-use Rattle.fix_engine.specs.Lawful.{IsCertain, MayHold}
+use Rattle.fix_engine.specs.Desk.{Desk, no_draft}
+use Rattle.fix_rim.specs.Outside.{LoadAnswers, IsLoaded}
+use Rattle.fix_engine.specs.Run.{Seat, desk_of, seated_at, OpensTo, from_stored, no_store, BeginsTo, opened_to, no_memory, no_memory_to_open, RanTo, RunHasCause}
+use Rattle.fix_engine.specs.Lawful.{MayHold}
 use Rattle.fix_engine.specs.Restart.{StartsAt}
-use Rattle.fix_engine.proofs.InStepLemmas.{told_holds}
 use Rattle.fix_engine.proofs.RestartLemmas.{restarts}
 use Rattle.fix_engine.proofs.ServesLemmas.{begun_opens, begun_serves}
-use Rattle.fix_top.specs.Serve.{status_of, load_status, Served, not_made, not_opened, not_begun, ran, HoldsEnd, HoldsStill, IsServedFrom, ServedLawfully, not_started, not_loaded, only_loaded, not_connected, served, StatusHasCause}
+use Rattle.fix_top.specs.Serve.{status_of, load_status, Served, not_made, not_opened, not_begun, ran, HoldsStill, IsServedFrom, ServedLawfully, not_started, not_loaded, only_loaded, not_connected, served, StatusHasCause}
 
 -- a connection that was begun, and the run on it
-begun-ran : (id : Identity) (turns : ℕ) (a b c d : Seen) (stored : Stored) (second : List Note) (x : ⊤) (to : Seat) (answer : RunEnd) (after : Live) → IsLoaded stored a → Moves a b (Did act.Stop ∷ []) → Moves b c second → BeginsTo (seated_at id stored) (Ok x) to second → IfNone to.stopped (Goes c d (RanTo to.identity turns to.live answer after)) → Goes a d (Served id turns a (status_of answer))
+begun-ran : (id : Identity) (turns : ℕ) (a b c d : Seen) (stored : Stored) (second : List Note) (x : ⊤) (to : Seat) (answer : RunEnd) (after : Desk) → IsLoaded stored a → Moves a b (Did act.Stop ∷ []) → Moves b c second → BeginsTo (seated_at id stored) (Ok x) to second → IfNone to.stopped (Goes c d (RanTo to.identity turns (desk_of to) answer after)) → Goes a d (Served id turns a (status_of answer))
 begun-ran id turns a b c d stored second x to answer after told m k (opened_to t) g = (Did act.Stop ∷ second ++ g.0, Moves-append a b d (Did act.Stop ∷ []) (second ++ g.0) m (Moves-append b c d second g.0 k g.1), ran stored told (opened_to t) g.2)
 
 -- a session that was opened, a connection that was begun, and the run on it
-pub opened-begun-ran : (id : Identity) (turns : ℕ) (a b c d : Seen) (loaded : Result Stored LoadFault) (seat : Seat) (first : List Note) (x : ⊤) (to : Seat) (answer : RunEnd) (after : Live) → LoadAnswers loaded a → Moves a b first → OpensTo id (Ok seat) loaded first → IfNone seat.stopped (Goes b c (BeginsTo seat (Ok x) to)) → IfNone to.stopped (Goes c d (RanTo to.identity turns to.live answer after)) → Goes a d (Served id turns a (status_of answer))
+pub opened-begun-ran : (id : Identity) (turns : ℕ) (a b c d : Seen) (loaded : Result Stored LoadFault) (seat : Seat) (first : List Note) (x : ⊤) (to : Seat) (answer : RunEnd) (after : Desk) → LoadAnswers loaded a → Moves a b first → OpensTo id (Ok seat) loaded first → IfNone seat.stopped (Goes b c (BeginsTo seat (Ok x) to)) → IfNone to.stopped (Goes c d (RanTo to.identity turns (desk_of to) answer after)) → Goes a d (Served id turns a (status_of answer))
 opened-begun-ran id turns a b c d loaded seat first x to answer after told m (from_stored stored) begun h = begun-ran id turns a b c d stored begun.0 x to answer after told m begun.1 begun.2 h
 
 pub opened-not_begun : (id : Identity) (turns : ℕ) (a b c : Seen) (loaded : Result Stored LoadFault) (seat : Seat) (first : List Note) (e : BeginFault) (to : Seat) → LoadAnswers loaded a → Moves a b first → OpensTo id (Ok seat) loaded first → IfNone seat.stopped (Goes b c (BeginsTo {T = ⊤} seat (Err e) to)) → Goes a c (Served id turns a 9)
@@ -61,11 +60,11 @@ Served-lawful id turns status notes a holds stores (not_begun stored numbers no_
 Served-lawful id turns status notes a holds stores (not_begun stored numbers (no_memory_to_open t)) = not_connected t (holds_still a.Holds holds (act.Stop ∷ act.Now t ∷ []) stores (λ e e' s. some_end e' e (s.2.2 ∙ s.2.1 ∙ s.1)))
 Served-lawful id turns status notes a holds stores (ran {to = to} {answer = answer} {more = more} stored numbers (opened_to t) r) = served t stored numbers.told from
   where
-    from : (start : EndState) → StartsAt stored start → IsServedFrom id a.Holds holds answer to t (acts_of more) start
+    from : (start : EndState) → StartsAt stored start → IsServedFrom id a.Holds holds answer to.live t (acts_of more) start
     from start starts =
         let again = restarts id stored start starts in
         let l = (seated_at id stored).live in
-        let h = begun_serves id turns l t answer to more r again.to again.certain in
+        let h = begun_serves id turns l no_draft t answer to more r again.to again.certain in
         record {
           again = again.to;
           restarts = EndRun-append again.run (steps.step (record { certain = again.certain.doubt; row = steps.now t }) steps.stop);

@@ -1,5 +1,5 @@
 -- A sample session: a Logon, an order and a Logout come, and each gets its answer.
-use Rattle.std.specs.Prelude.{◌≡◌, ◌⊎◌, ◌==◌, ◌<◌, ◌-◌, if◌then◌else◌, codes, length, ℕ, List, [], ◌∷◌, ◌++◌, Option, Some, false, ⊤}
+use Rattle.std.specs.Prelude.{◌≡◌, ◌⊎◌, ◌==◌, ◌<◌, ◌-◌, if◌then◌else◌, codes, length, ℕ, List, [], ◌∷◌, ◌++◌, Option, Some, None, false, ⊤}
 use Rattle.fix_base.specs.declared.act.Act.{Act}
 use Rattle.fix_base.specs.declared.act.Act.TheVariants as act
 use Rattle.fix_base.specs.declared.identity.Identity.{Identity}
@@ -7,6 +7,7 @@ use Rattle.fix_base.specs.declared.identity.Begin.TheVariants.{Fix42}
 use Rattle.fix_base.specs.Says.{joined}
 use Rattle.fix_base.specs.Line.{line_text}
 use Rattle.fix_base.specs.Parts.{left_before}
+use Rattle.fix_base.specs.Payload.{record_size}
 use Rattle.fix_base.specs.Seen.{Note, Did, Failed, Asked, StorePart, LinkPart, AppPart}
 use Rattle.fix_engine.specs.InStep.{bytes_written}
 
@@ -26,6 +27,10 @@ SAMPLE_TIME = 1704189600000000
 -- parts in memory keep so many bytes that are written, and so many of lines
 abbrev pub ROOM : ℕ
 ROOM = 1000
+
+-- the disk of the store keeps so many bytes of its file
+abbrev pub STORE_ROOM : ℕ
+STORE_ROOM = 1000
 
 -- what comes: a Logon (A), an order (D) and a Logout (5)
 unfoldable pub LOGON : List ℕ
@@ -89,26 +94,27 @@ ReadsPieces pieces (act.HandLost n marked body ∷ acts) = ReadsPieces pieces ac
 ReadsPieces pieces (act.Cut ∷ acts) = ReadsPieces pieces acts
 ReadsPieces pieces (act.Stop ∷ acts) = ReadsPieces pieces acts
 
--- The store never fails, the connection fails only at a write that doesn't fit into its room, and the application only
--- at a line that doesn't fit into its own: so many bytes at first, and less by what goes there.
-abbrev pub HasRooms : ℕ → ℕ → List Note → Type 0
-HasRooms link app [] = ⊤
-HasRooms link app (Did (act.Wrote b) ∷ notes) = HasRooms (link - length b) app notes
-HasRooms link app (Did (act.Handed n marked body) ∷ notes) = HasRooms link (app - length (line_text n marked body)) notes
-HasRooms link app (Did (act.HandLost n marked body) ∷ notes) = (app < length (line_text n marked body)) × HasRooms link app notes
-HasRooms link app (Did (act.KeepLost r) ∷ notes) = ⊥
-HasRooms link app (Did (act.Kept r) ∷ notes) = HasRooms link app notes
-HasRooms link app (Did (act.Now t) ∷ notes) = HasRooms link app notes
-HasRooms link app (Did (act.Read b) ∷ notes) = HasRooms link app notes
-HasRooms link app (Did act.Opened ∷ notes) = HasRooms link app notes
-HasRooms link app (Did act.Idle ∷ notes) = HasRooms link app notes
-HasRooms link app (Did act.Ended ∷ notes) = HasRooms link app notes
-HasRooms link app (Did act.Cut ∷ notes) = HasRooms link app notes
-HasRooms link app (Did act.Stop ∷ notes) = HasRooms link app notes
-HasRooms link app (Failed (LinkPart unsent) ∷ notes) = (link < unsent) × HasRooms link app notes
-HasRooms link app (Failed StorePart ∷ notes) = ⊥
-HasRooms link app (Failed AppPart ∷ notes) = HasRooms link app notes
-HasRooms link app (Asked d ∷ notes) = HasRooms link app notes
+-- The connection fails only at a write that doesn't fit into its room, the application only at a line that doesn't fit
+-- into its own, and the store only at a record that doesn't: so many bytes at first, and less by what goes there. Behind a
+-- failure of the store nothing is said of its room. The application has no draft to give.
+abbrev pub HasRooms : ℕ → ℕ → ℕ → List Note → Type 0
+HasRooms link app store [] = ⊤
+HasRooms link app store (Did (act.Wrote b) ∷ notes) = HasRooms (link - length b) app store notes
+HasRooms link app store (Did (act.Handed n marked body) ∷ notes) = HasRooms link (app - length (line_text n marked body)) store notes
+HasRooms link app store (Did (act.HandLost n marked body) ∷ notes) = (app < length (line_text n marked body)) × HasRooms link app store notes
+HasRooms link app store (Did (act.KeepLost r) ∷ notes) = (store < record_size r) × HasRooms link app store notes
+HasRooms link app store (Did (act.Kept r) ∷ notes) = HasRooms link app (store - record_size r) notes
+HasRooms link app store (Did (act.Now t) ∷ notes) = HasRooms link app store notes
+HasRooms link app store (Did (act.Read b) ∷ notes) = HasRooms link app store notes
+HasRooms link app store (Did act.Opened ∷ notes) = HasRooms link app store notes
+HasRooms link app store (Did act.Idle ∷ notes) = HasRooms link app store notes
+HasRooms link app store (Did act.Ended ∷ notes) = HasRooms link app store notes
+HasRooms link app store (Did act.Cut ∷ notes) = HasRooms link app store notes
+HasRooms link app store (Did act.Stop ∷ notes) = HasRooms link app store notes
+HasRooms link app store (Failed (LinkPart unsent) ∷ notes) = (link < unsent) × HasRooms link app store notes
+HasRooms link app store (Failed StorePart ∷ notes) = HasRooms link app 0 notes
+HasRooms link app store (Failed AppPart ∷ notes) = HasRooms link app store notes
+HasRooms link app store (Asked d ∷ notes) = (d ≡ None) × HasRooms link app store notes
 
 -- the messages that were handed over, and those that may have been lost at that
 abbrev pub handed_in : List Act → List Act

@@ -11,14 +11,15 @@ use Rattle.fix_engine.specs.declared.state.Why.TheVariants.{PeerEnd, LoggedOut, 
 use Rattle.fix_engine.specs.declared.stop.RunEnd.{RunEnd}
 use Rattle.fix_engine.specs.declared.stop.RunEnd.TheVariants as run
 use Rattle.fix_engine.specs.declared.stop.BeginFault.{BeginFault}
-use Rattle.fix_engine.specs.declared.outside.LoadFault.{LoadFault}
-use Rattle.fix_engine.specs.declared.outside.LoadFault.TheVariants as load
-use Rattle.fix_engine.specs.Outside.{IsStoredOf, IsLoaded, LoadAnswers, loads}
+use Rattle.fix_rim.specs.declared.outside.LoadFault.{LoadFault}
+use Rattle.fix_rim.specs.declared.outside.LoadFault.TheVariants as load
+use Rattle.fix_rim.specs.Outside.{IsStoredOf, IsLoaded, LoadAnswers, loads}
 use Rattle.fix_engine.specs.Turn.{Live}
 use Rattle.fix_engine.specs.Lawful.{MayHold}
 use Rattle.fix_engine.specs.InStep.{HasServed}
 use Rattle.fix_engine.specs.Restart.{StartsAt}
-use Rattle.fix_engine.specs.Run.{Seat, seated_at, BeginsTo, RanTo}
+use Rattle.fix_engine.specs.Desk.{Desk}
+use Rattle.fix_engine.specs.Run.{Seat, desk_of, seated_at, BeginsTo, RanTo}
 
 -- the status for how a run ended: 0 only where the counterparty's Logout was answered
 abbrev pub status_of : RunEnd → ℕ
@@ -51,7 +52,7 @@ pub data Served (id : Identity) (turns : ℕ) (w : Seen) : ℕ → List Note →
   not_made : Served id turns w 9 []
   not_opened : (fault : LoadFault) → LoadAnswers (Err fault) w → Served id turns w (load_status fault) (loads {T = Stored} (Err fault))
   not_begun : {to : Seat} {e : BeginFault} {notes : List Note} (stored : Stored) → IsLoaded stored w → BeginsTo {T = ⊤} (seated_at id stored) (Err e) to notes → Served id turns w 9 (Did act.Stop ∷ notes)
-  ran : {x : ⊤} {at : Seat} {to : Live} {answer : RunEnd} {first more : List Note} (stored : Stored) → IsLoaded stored w → BeginsTo (seated_at id stored) (Ok x) at first → RanTo id turns at.live answer to more → Served id turns w (status_of answer) (Did act.Stop ∷ first ++ more)
+  ran : {x : ⊤} {at : Seat} {to : Desk} {answer : RunEnd} {first more : List Note} (stored : Stored) → IsLoaded stored w → BeginsTo (seated_at id stored) (Ok x) at first → RanTo id turns (desk_of at) answer to more → Served id turns w (status_of answer) (Did act.Stop ∷ first ++ more)
 
 -- an end that a store tells is this one, with or without the record of it that is in doubt
 abbrev pub HoldsEnd : (End → Type 0) → EndState → Type 0

@@ -6,6 +6,8 @@ mod serve;
 mod status;
 #[cfg(test)]
 mod tests;
+#[cfg(test)]
+mod turn_tests;
 mod words;
 
 pub use sample::{InMemory, Sampled, serve_sample};

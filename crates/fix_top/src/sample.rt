@@ -1,25 +1,28 @@
 ghost use Rattle.std.specs.Prelude.{◌≡◌, [], ◌∷◌, Some, IfOk};
 ghost use Rattle.fix_base.specs.Says.{joined};
+ghost use Rattle.fix_disk.specs.MemoryDisk.{disk_of};
 ghost use Rattle.fix_disk.specs.MemorySink.{sink_of};
 ghost use Rattle.fix_parts.specs.Memory.{link_of, readings_of};
-ghost use Rattle.fix_engine.specs.Store.{store_from};
-ghost use Rattle.fix_engine.specs.Plain.{link_in, app_in, clock_in, store_in};
-ghost use Rattle.fix_top.specs.Sample.{SAMPLE, SAMPLE_TIME, ROOM as SAMPLE_ROOM, WritesSample};
+ghost use Rattle.fix_rim.specs.Plug.{link_seen};
+ghost use Rattle.fix_rim.specs.Rim.{disk_seen, link_in, app_in, clock_in};
+ghost use Rattle.fix_top.specs.Sample.{SAMPLE, SAMPLE_TIME, ROOM as SAMPLE_ROOM, STORE_ROOM as SAMPLE_STORE, WritesSample};
 
 use crate::serve::serve_stdio;
 use fix_base::{Bytes, OutOfMemory, Status};
-use fix_disk::MemorySink;
-use fix_engine::Plain;
+use fix_disk::{MemoryDisk, MemorySink};
+use fix_engine::Rim;
 use fix_parts::{KeptTape, LineApp, MemoryClock, MemoryLink};
 use std::alloc::Global;
 
 /// So many bytes that are written are kept, and so many of lines.
 const ROOM: usize = 1000;
+/// So many bytes of the message store's file are kept.
+const STORE: usize = 1000;
 /// 2024-01-02 10:00:00, in microseconds since 1970.
 const TIME: u64 = 1_704_189_600_000_000;
 
 /// The parts in memory over which the sample is served.
-pub type InMemory = Plain<MemoryLink, LineApp<MemorySink>, MemoryClock, KeptTape>;
+pub type InMemory = Rim<MemoryDisk, MemoryLink, LineApp<MemorySink>, MemoryClock, KeptTape>;
 
 /// What came of serving the sample.
 #[derive(Drop)]
@@ -29,22 +32,24 @@ pub struct Sampled {
     pub outside: InMemory,
 }
 
-// The parts in memory, of which none fails before its room is spent.
+// The parts in memory, of which none fails before its room is spent, over an empty disk.
 fn outside(alloc: Global, pieces: Vec<Bytes>) -> Result<InMemory, OutOfMemory>
-    ensures link { IfOk result (λ made. link_of (link_in made) ≡ record { to_come = Some pieces.items; written = Some []; room = Some SAMPLE_ROOM; faults = 0 }) }
+    ensures link { IfOk result (λ made. link_seen link_of (link_in made) ≡ record { to_come = Some pieces.items; written = Some []; room = Some SAMPLE_ROOM; faults = 0 }) }
     ensures sink { IfOk result (λ made. sink_of (app_in made) ≡ record { written = Some []; room = Some SAMPLE_ROOM; faults = 0 }) }
     ensures clock { IfOk result (λ made. readings_of (clock_in made) ≡ SAMPLE_TIME ∷ []) }
-    ensures store { IfOk result (λ made. store_in made ≡ store_from []) }
+    ensures file { IfOk result (λ made. (disk_seen disk_of made).bytes ≡ Some []) }
+    ensures disk { IfOk result (λ made. (disk_seen disk_of made).room ≡ Some SAMPLE_STORE) }
 {
+    let disk = MemoryDisk::new(alloc, STORE, 0, Vec::new(alloc), None)?;
     let link = MemoryLink::new(alloc, pieces, ROOM, Vec::new(alloc))?;
     let sink = MemorySink::new(alloc, ROOM, Vec::new(alloc))?;
-    Ok(Plain::new(
+    Ok(Rim::new(
         alloc,
-        link,
+        disk,
+        Some(link),
         LineApp::new(alloc, sink),
         MemoryClock::new(Vec::from_slice(alloc, &[TIME])?),
         KeptTape::new(alloc),
-        Vec::new(alloc),
     ))
 }
 
@@ -56,7 +61,7 @@ fn outside(alloc: Global, pieces: Vec<Bytes>) -> Result<InMemory, OutOfMemory>
 /// was refused. Memory for the parts themselves may be refused too.
 pub fn serve_sample(alloc: Global, pieces: Vec<Bytes>) -> Result<Sampled, OutOfMemory>
     requires { joined pieces.items ≡ SAMPLE }
-    ensures { IfOk result (λ made. WritesSample made.status.0 (link_of (link_in made.outside)).written (sink_of (app_in made.outside)).written) }
+    ensures { IfOk result (λ made. WritesSample made.status.0 (link_seen link_of (link_in made.outside)).written (sink_of (app_in made.outside)).written) }
 {
     let mut outside = outside(alloc, pieces)?;
     let words = ["--stdio", "FIX.4.2", "SELL", "BUY"];

@@ -504,7 +504,7 @@ impl Spent {
 }
 
 impl Outside for Spent {
-    ghost seen = { λ s. record { tape = None; Holds = λ e. ⊥; open_at = if s.loaded then Some 999999999 else None; Tells = ⊥; Breaks = λ place. ⊥; faults = record { store = 0; link = 0; app = 0 }; parts = record { to_come = None; readings = None; written = None; link_room = None; lines = None; line_room = None; asked = None; to_ask = None; sure = false; store_room = None } } };
+    ghost seen = { λ s. record { tape = None; Holds = λ e. ⊥; open_at = if s.loaded then Some 999999999 else None; Tells = ⊥; Breaks = λ place. ⊥; faults = record { store = 0; link = 0; app = 0 }; parts = record { to_come = None; readings = None; written = None; link_room = None; lines = None; line_room = None; asked = None; to_ask = None; store_room = None } } };
 
     fn now(&mut self) -> Result<u64, OutOfMemory> {
         self.count();

@@ -1,6 +1,6 @@
 use Rattle.std.proofs.Common.{rules}
 use Rattle.std.proofs.lemmas.Result.{err_from_is_err_and}
-use Rattle.fix_engine.specs.Turn.{OneTurn}
+use Rattle.fix_engine.specs.Desk.{OneTurn}
 use Rattle.fix_engine.proofs.FoldLemmas.{count_started, counts_on, count_stopped, count_finished}
 use Rattle.fix_engine.proofs.turn.run.Goals as goal
 

@@ -1,6 +1,7 @@
 use Rattle.std.proofs.Common.{◌≡◌, ◌-◌, Some, length, replicate}
 use Rattle.fix_engine.specs.State.{IsInRange}
-use Rattle.fix_engine.specs.Turn.{live, OneTurn}
+use Rattle.fix_engine.specs.Turn.{live}
+use Rattle.fix_engine.specs.Desk.{desk, OneTurn}
 use Rattle.fix_engine.proofs.FoldLemmas.{SoFar}
 use Rattle.fix_engine.proofs.turn.run.Given as goal
 
@@ -9,5 +10,5 @@ invariant-loop-done g l = record {
   range : IsInRange l.state;
   opens : (g.O.Outside.seen l.o).open_at ≡ Some l.state.last;
   room : length l.room ≡ 65536;
-  done : SoFar (OneTurn l.party.identity) (g.O.Outside.seen l.initial.o) (g.O.Outside.seen l.o) (live l.initial.state l.initial.reader.ahead) (replicate l.turns tt) (live l.state l.reader.ahead) (replicate (l.turns - l.done) tt);
+  done : SoFar (OneTurn l.party.identity) (g.O.Outside.seen l.initial.o) (g.O.Outside.seen l.o) (desk (live l.initial.state l.initial.reader.ahead) l.initial.hand) (replicate l.turns tt) (desk (live l.state l.reader.ahead) l.hand) (replicate (l.turns - l.done) tt);
 }

@@ -1,7 +1,7 @@
 use Rattle.std.proofs.Common.{sym, ◌∙◌}
 use Rattle.std.proofs.lemmas.List.{append-nil}
 use Rattle.fix_base.proofs.SeenLemmas.{Moves-append}
-use Rattle.fix_engine.specs.Turn.{all_turns, cut, cut_memory, no_cut}
+use Rattle.fix_engine.specs.Desk.{all_turns, cut, cut_memory, no_cut}
 use Rattle.fix_engine.proofs.turn.run_and_cut.Goals as goal
 
 pub returns-then-not-is_cut-clause-notes : goal.returns-then-not-is_cut-clause-notes

@@ -1,6 +1,6 @@
-use Rattle.std.proofs.Common.{[], Ok, Err}
+use Rattle.std.proofs.Common.{[], Ok, Err, refl, inl, inr}
 use Rattle.fix_base.proofs.SeenLemmas.{Moves-nil}
-use Rattle.fix_engine.specs.declared.outside.LoadFault.TheVariants as load
+use Rattle.fix_rim.specs.declared.outside.LoadFault.TheVariants as load
 use Rattle.fix_engine.specs.Run.{Seat, from_stored, no_store}
 use Rattle.fix_engine.proofs.BeginLemmas.{load_cause}
 use Rattle.fix_engine.proofs.InStepLemmas.{loaded_stands}
@@ -25,3 +25,12 @@ returns-in-Err-clause-opens g c = (Err c.in-Err.fault, c.in-Err.ensures.answers,
 
 pub returns-in-Err-clause-cause : goal.returns-in-Err-clause-cause
 returns-in-Err-clause-cause g c = load_cause Seat c.in-Err.fault _ _ c.in-Err.ensures.noted
+
+pub returns-in_default-clause-shut : goal.returns-in_default-clause-shut
+returns-in_default-clause-shut g c = inl refl
+
+pub returns-in_default-vec-clause-shut : goal.returns-in_default-vec-clause-shut
+returns-in_default-vec-clause-shut g c = inl refl
+
+pub returns-in-Err-clause-shut : goal.returns-in-Err-clause-shut
+returns-in-Err-clause-shut g c = inr c.in-Err.ensures.opens

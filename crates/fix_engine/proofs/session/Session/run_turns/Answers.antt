@@ -1,5 +1,7 @@
+use Rattle.std.proofs.Common.{ℕ, arith, length, length-take, length-append, sym, ap, ◌∙◌}
 use Rattle.std.specs.Prelude.{None}
 use Rattle.fix_engine.specs.Turn.{live}
+use Rattle.fix_engine.specs.Run.{stop_cause}
 use Rattle.fix_engine.proofs.Causes.{RanTo-has_cause}
 use Rattle.fix_engine.proofs.Phases.{Ran-phase}
 use Rattle.fix_engine.proofs.Settled.{Ran-settled}
@@ -9,7 +11,20 @@ use Rattle.fix_engine.proofs.Recounting.{looks_back}
 use Rattle.fix_engine.proofs.LawfulRuns.{run_lawful}
 use Rattle.fix_engine.proofs.InStepLemmas.{run_in_step, run_stands, run_trails, run_connected, run_serves}
 use Rattle.fix_engine.proofs.PeerEnds.{shows_peer_end}
+use Rattle.fix_engine.proofs.Untried.{Ran-untried}
 use Rattle.fix_engine.proofs.session.Session.run_turns.Goals as goal
+
+pub invariant_of-self : goal.invariant_of-self
+invariant_of-self g c =
+    let h = c.run_and_cut-ran.ensures.notes in
+    let room = c.deref_mut.ensures in
+    let kept = c.run_and_cut-ran.auto.room in
+    let answered = ap stop_cause (sym c.answer_of-answer.ensures) ∙ sym c.stop_of-self-inside.ensures in (
+      c.self.invariant.0,
+      c.run_and_cut-ran.ensures.range,
+      omega (arith, length-take {A = ℕ}, length-append {A = ℕ}, kept, room.len, ap length room.value, c.self.invariant.2),
+      λ goes_on. Ran-untried _ _ _ _ _ _ (c.self.invariant.3 c.in_default.is) h.2 (answered ∙ goes_on),
+    )
 
 pub returns-clause-cause : goal.returns-clause-cause
 returns-clause-cause g c =
@@ -31,7 +46,7 @@ returns-clause-settled g c =
 
 pub returns-clause-as_stated : goal.returns-clause-as_stated
 returns-clause-as_stated g c =
-    rw (← c.self.view_is, c.in_default.is, c.answer_of-answer.ensures) (λ calm. as_stated _ c.self.invariant.0 _ _ _ _ _ _ c.self.invariant.1.reading c.run_and_cut-ran.ensures.notes calm)
+    rw (← c.self.view_is, c.in_default.is, c.answer_of-answer.ensures) (λ calm. as_stated _ c.self.invariant.0 _ _ _ _ _ _ c.self.invariant.1.reading c.look_at.ensures c.run_and_cut-ran.ensures.notes calm)
 
 pub returns-clause-looks_back : goal.returns-clause-looks_back
 returns-clause-looks_back g c =
@@ -43,13 +58,13 @@ returns-clause-lawful g c = rw (← c.self.view_is, c.in_default.is, c.answer_of
 pub returns-clause-in_step : goal.returns-clause-in_step
 returns-clause-in_step g c =
     let h = c.run_and_cut-ran.ensures.notes in
-    rw (← c.self.view_is, c.in_default.is, c.stop_of-self-inside.ensures, c.answer_of-answer.ensures) (run_in_step _ _ _ _ _ _ (rw (← c.self.view_is, c.in_default.is) at c.requires.phase) c.run_and_cut-ran.ensures.opens h)
+    rw (← c.self.view_is, c.in_default.is, c.stop_of-self-inside.ensures, c.answer_of-answer.ensures) (run_in_step _ _ _ _ _ _ _ (rw (← c.self.view_is, c.in_default.is) at c.requires.phase) c.run_and_cut-ran.ensures.opens h)
 
 pub returns-clause-connected : goal.returns-clause-connected
-returns-clause-connected g c = rw (← c.self.view_is, c.answer_of-answer.ensures) (run_connected _ _ _ _ _ _ _ c.self.invariant.1.reading c.run_and_cut-ran.ensures.opens c.run_and_cut-ran.ensures.notes)
+returns-clause-connected g c = rw (← c.self.view_is, c.answer_of-answer.ensures) (run_connected _ _ _ _ _ _ _ _ c.self.invariant.1.reading c.run_and_cut-ran.ensures.opens c.run_and_cut-ran.ensures.notes)
 
 pub returns-clause-headline : goal.returns-clause-headline
-returns-clause-headline g c = rw (← c.self.view_is, c.in_default.is, c.answer_of-answer.ensures) (run_serves _ _ _ _ _ _ c.self.invariant.1.reading c.run_and_cut-ran.ensures.notes)
+returns-clause-headline g c = rw (← c.self.view_is, c.in_default.is, c.answer_of-answer.ensures) (run_serves _ _ _ _ _ _ _ c.self.invariant.1.reading c.run_and_cut-ran.ensures.notes)
 
 pub returns-clause-peer_end : goal.returns-clause-peer_end
 returns-clause-peer_end g c =
@@ -57,8 +72,8 @@ returns-clause-peer_end g c =
 
 pub returns-clause-stands : goal.returns-clause-stands
 returns-clause-stands g c =
-    rw (c.stop_of-self-inside.ensures, c.answer_of-answer.ensures) (run_stands _ _ _ _ _ _ (rw (← c.self.view_is, c.in_default.is) at c.requires.phase) c.run_and_cut-ran.ensures.opens c.run_and_cut-ran.ensures.notes (rw (← c.self.view_is, c.in_default.is) at c.requires.in_step))
+    rw (c.stop_of-self-inside.ensures, c.answer_of-answer.ensures) (run_stands _ _ _ _ _ _ _ (rw (← c.self.view_is, c.in_default.is) at c.requires.phase) c.run_and_cut-ran.ensures.opens c.run_and_cut-ran.ensures.notes (rw (← c.self.view_is, c.in_default.is) at c.requires.in_step))
 
 pub returns-clause-trails : goal.returns-clause-trails
 returns-clause-trails g c =
-    rw (← c.self.view_is, c.in_default.is) (run_trails _ (record { identity = c.self.inside.party.identity; live = live c.self.inside.state c.self.inside.reader.ahead; stopped = None }) _ _ _ _ _ (rw (← c.self.view_is, c.in_default.is) at c.requires.phase) c.run_and_cut-ran.ensures.notes)
+    rw (← c.self.view_is, c.in_default.is) (run_trails _ (record { identity = c.self.inside.party.identity; live = live c.self.inside.state c.self.inside.reader.ahead; hand = c.self.inside.hand; stopped = None }) _ _ _ _ _ _ (rw (← c.self.view_is, c.in_default.is) at c.requires.phase) c.run_and_cut-ran.ensures.notes)

@@ -1,0 +1,26 @@
+use Rattle.std.proofs.Common.{sym, ◌∙◌}
+use Rattle.fix_base.proofs.SeenLemmas.{Moves-nil, Moves-append}
+use Rattle.fix_engine.specs.Turn.{live}
+use Rattle.fix_engine.specs.Desk.{desk, not_up}
+use Rattle.fix_engine.proofs.HandLemmas.{offered_held, offered_asked}
+use Rattle.fix_engine.proofs.hand.offer.Goals as goal
+
+pub returns-then-is_some-clause-notes : goal.returns-then-is_some-clause-notes
+returns-then-is_some-clause-notes g c =
+    let h = c.send_in_hand.ensures.notes in
+    (h.0, h.1, offered_held _ (desk (live c.args.state.now c.args.reader.now.ahead) c.args.hand.now) _ _ _ c.in-Up.is (sym c.is_some.ensures ∙ c.if-is_some.true) h.2)
+
+pub returns-else-is_some-clause-notes : goal.returns-else-is_some-clause-notes
+returns-else-is_some-clause-notes g c =
+    let h = c.send_in_hand-in-Up.ensures.notes in
+    (_, Moves-append _ _ _ _ _ c.ask_for.ensures.noted h.1, offered_asked _ (desk (live c.args.state.now c.args.reader.now.ahead) c.args.hand.now) c.ask_for.new.hand _ _ _ c.in-Up.is (sym c.is_some.ensures ∙ c.if-is_some.false) c.ask_for.ensures.tried h.2)
+
+pub returns-in-AwaitLogon-clause-notes : goal.returns-in-AwaitLogon-clause-notes
+returns-in-AwaitLogon-clause-notes g c =
+    let p = c.in-AwaitLogon.is in
+    (_, Moves-nil _, not_up (λ up. cc))
+
+pub returns-in-Down-clause-notes : goal.returns-in-Down-clause-notes
+returns-in-Down-clause-notes g c =
+    let p = c.in-Down.is in
+    (_, Moves-nil _, not_up (λ up. cc))

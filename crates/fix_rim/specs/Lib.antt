@@ -1,0 +1,4 @@
+pub mod Outside
+pub mod Plug
+pub mod Held
+pub mod Rim

@@ -1,0 +1,279 @@
+use crate::plug::Plug;
+use crate::reserving::reserve_read;
+use crate::shelf::Shelf;
+use crate::{FetchFault, KeepFault, Kind, LoadFault, Outside};
+use fix_base::{OutOfMemory, Record, SeqNum, Stored};
+use fix_disk::Disk;
+use fix_fields::Draft;
+use fix_parts::{App, Clock, Handed, Link, Noted, ReadTurn, Said, Tape, WriteTurn};
+use std::alloc::Global;
+
+/// An outside over a disk, a connection, an application, a clock and a tape. The message store is
+/// a journal on the disk.
+#[derive(Drop)]
+pub struct Rim<D: Disk, L, A, C, T> {
+    shelf: Shelf<D>,
+    plug: Plug<L>,
+    app: A,
+    clock: C,
+    tape: T,
+}
+
+impl<D: Disk, L: Link, A: App, C: Clock, T: Tape> Rim<D, L, A, C, T> {
+    ghost use Rattle.std.specs.Prelude.{◌≡◌, Some, None, option_map};
+    ghost use Rattle.fix_rim.specs.Rim.{disk_in, open_at_of, link_in, unlinked_in, app_in, clock_in, tape_in};
+
+    /// An outside over these parts. Its store isn't open. Without a connection a read ends, and a
+    /// write fails.
+    pub fn new(
+        alloc: Global,
+        disk: D,
+        link: Option<L>,
+        app: A,
+        clock: C,
+        tape: T,
+    ) -> Rim<D, L, A, C, T>
+        ensures disk { disk_in result ≡ Some disk }
+        ensures shut { open_at_of result ≡ None }
+        ensures link { link_in result ≡ link }
+        ensures linked { unlinked_in result ≡ 0 }
+        ensures app { app_in result ≡ app }
+        ensures clock { clock_in result ≡ clock }
+        ensures tape { tape_in result ≡ tape }
+    {
+        Rim {
+            shelf: Shelf::new(alloc, disk),
+            plug: Plug::new(link),
+            app,
+            clock,
+            tape,
+        }
+    }
+
+    /// The connection, if there is one.
+    pub fn link(&self) -> Option<&L>
+        ensures { option_map (λ l. l.now) result ≡ link_in self.now }
+    {
+        self.plug.link.as_ref()
+    }
+
+    /// The parts, without what the store holds in memory.
+    pub fn into_parts(self) -> (D, Option<L>, A, C, T)
+        ensures disk { disk_in self ≡ Some result.0 }
+        ensures link { result.1 ≡ link_in self }
+        ensures app { result.2 ≡ app_in self }
+        ensures clock { result.3 ≡ clock_in self }
+        ensures tape { result.4 ≡ tape_in self }
+    {
+        (
+            self.shelf.into_disk(),
+            self.plug.link,
+            self.app,
+            self.clock,
+            self.tape,
+        )
+    }
+
+    /// The application.
+    pub fn app(&self) -> &A
+        ensures { result.now ≡ app_in self.now }
+    {
+        &self.app
+    }
+
+    /// The tape of acts.
+    pub fn tape(&self) -> &T
+        ensures { result.now ≡ tape_in self.now }
+    {
+        &self.tape
+    }
+}
+
+impl<D: Disk, L: Link, A: App, C: Clock, T: Tape> Outside for Rim<D, L, A, C, T> {
+    ghost use Rattle.std.specs.Prelude.{◌≡◌, ◌<◌, ◌∷◌, [], length, option_map, MatchResult, Err};
+    ghost use Rattle.fix_base.specs.Payload.{IsKeepable};
+    ghost use Rattle.fix_base.specs.Seen.{Moves, Asked};
+    ghost use Rattle.fix_base.specs.Parts.{ClockReads};
+    ghost use Rattle.fix_fields.specs.Drafted.{draft_body};
+    ghost use Rattle.fix_parts.specs.Link.{IsInRoom, IsInBytes, LinkReads, LinkWrites};
+    ghost use Rattle.fix_parts.specs.App.{AppTakes, AppAsks, HasKind};
+    ghost use Rattle.fix_rim.specs.declared.outside.KeepFault.TheVariants as TheKeepFault;
+    ghost use Rattle.fix_rim.specs.Outside.{marks, tells_time, reads, writes, keeps, hands, loads, fetches, HasPlace, HasEntry, open_kept, open_loaded, open_fetched, LoadAnswers, FetchAnswers};
+    ghost use Rattle.fix_rim.specs.Held.{seen_on, KeepLeft, LoadLeaves, LoadLasts};
+    ghost use Rattle.fix_rim.specs.Plug.{plug_of};
+    ghost use Rattle.fix_rim.specs.Rim.{seen_of, disk_seen, disk_in, tape_in, app_in, clock_in, with_clock_of, with_tape_of, with_link_of, with_store_of, with_app_of, with_app_alone_of};
+
+    ghost seen = { λ p. seen_of (T.told p.tape) (seen_on D.disk p.shelf.device) (p.shelf.open_at) (plug_of L.link p.plug) (A.app p.app) (C.readings p.clock) };
+
+    fn now(&mut self) -> Result<u64, OutOfMemory>
+        ensures noted { Moves (seen_of (T.told self.old.tape) (seen_on D.disk self.old.shelf.device) self.old.shelf.open_at (plug_of L.link self.old.plug) (A.app self.old.app) (C.readings self.old.clock)) (seen_of (T.told self.new.tape) (seen_on D.disk self.new.shelf.device) self.new.shelf.open_at (plug_of L.link self.new.plug) (A.app self.new.app) (C.readings self.new.clock)) (tells_time result) }
+        ensures clock { MatchResult result (λ time. ClockReads time (C.readings (clock_in self.old)) (C.readings (clock_in self.new))) (λ e. clock_in self.new ≡ clock_in self.old) }
+        ensures opens { self.new.shelf.open_at ≡ self.old.shelf.open_at }
+        ensures others { self.new ≡ with_clock_of self.old self.new }
+    {
+        self.tape.reserve(&Noted::Now(0))?;
+        let time = self.clock.now();
+        self.tape.note(&Noted::Now(time));
+        Ok(time)
+    }
+
+    fn load(&mut self) -> Result<Stored, LoadFault>
+        ensures noted { Moves (seen_of (T.told self.old.tape) (seen_on D.disk self.old.shelf.device) self.old.shelf.open_at (plug_of L.link self.old.plug) (A.app self.old.app) (C.readings self.old.clock)) (seen_of (T.told self.new.tape) (seen_on D.disk self.new.shelf.device) self.new.shelf.open_at (plug_of L.link self.new.plug) (A.app self.new.app) (C.readings self.new.clock)) (loads result) }
+        ensures answers { LoadAnswers result (seen_of (T.told self.old.tape) (seen_on D.disk self.old.shelf.device) self.old.shelf.open_at (plug_of L.link self.old.plug) (A.app self.old.app) (C.readings self.old.clock)) }
+        ensures opens { self.new.shelf.open_at ≡ open_loaded result }
+        // A crash at any moment of it leaves the end that was on the disk; at Ok it is the one that is told.
+        ensures leaves { LoadLeaves (disk_seen D.disk self.old) (disk_seen D.disk self.new) }
+        ensures lasts { LoadLasts result (disk_seen D.disk self.new) }
+        ensures others { self.new ≡ with_store_of self.old self.new }
+    {
+        match self.tape.reserve(&Noted::Stop) {
+            Ok(()) => {}
+            Err(_) => {
+                self.shelf.close();
+                return Err(LoadFault::OutOfMemory);
+            }
+        }
+        match self.shelf.load() {
+            Ok(stored) => {
+                self.tape.note(&Noted::Stop);
+                Ok(stored)
+            }
+            Err(fault) => Err(fault),
+        }
+    }
+
+    fn mark(&mut self, cut: bool) -> Result<(), OutOfMemory>
+        ensures noted { Moves (seen_of (T.told self.old.tape) (seen_on D.disk self.old.shelf.device) self.old.shelf.open_at (plug_of L.link self.old.plug) (A.app self.old.app) (C.readings self.old.clock)) (seen_of (T.told self.new.tape) (seen_on D.disk self.new.shelf.device) self.new.shelf.open_at (plug_of L.link self.new.plug) (A.app self.new.app) (C.readings self.new.clock)) (marks cut result) }
+        ensures opens { self.new.shelf.open_at ≡ self.old.shelf.open_at }
+        ensures others { self.new ≡ with_tape_of self.old self.new }
+    {
+        self.tape.reserve(&Noted::Opened)?;
+        if cut {
+            self.tape.note(&Noted::Cut);
+        } else {
+            self.tape.note(&Noted::Opened);
+        }
+        Ok(())
+    }
+
+    fn read(&mut self, room: &mut [u8]) -> ReadTurn
+        requires { 0 < length room.old }
+        ensures noted { Moves (seen_of (T.told self.old.tape) (seen_on D.disk self.old.shelf.device) self.old.shelf.open_at (plug_of L.link self.old.plug) (A.app self.old.app) (C.readings self.old.clock)) (seen_of (T.told self.new.tape) (seen_on D.disk self.new.shelf.device) self.new.shelf.open_at (plug_of L.link self.new.plug) (A.app self.new.app) (C.readings self.new.clock)) (reads result room.new) }
+        ensures in_room { IsInRoom result room.new }
+        ensures link { LinkReads result room.new (plug_of L.link self.old.plug) (plug_of L.link self.new.plug) }
+        ensures opens { self.new.shelf.open_at ≡ self.old.shelf.open_at }
+        ensures others { self.new ≡ with_link_of self.old self.new }
+    {
+        if reserve_read(&mut self.tape, room).is_err() {
+            return ReadTurn::OutOfMemory;
+        }
+        match self.plug.read(room) {
+            ReadTurn::Bytes(n) => {
+                self.tape.note(&Noted::Read(&room[..n]));
+                ReadTurn::Bytes(n)
+            }
+            ReadTurn::Idle => {
+                self.tape.note(&Noted::Idle);
+                ReadTurn::Idle
+            }
+            ReadTurn::End => {
+                self.tape.note(&Noted::Ended);
+                ReadTurn::End
+            }
+            ReadTurn::Failed => ReadTurn::Failed,
+            ReadTurn::OutOfMemory => ReadTurn::OutOfMemory,
+        }
+    }
+
+    fn write(&mut self, bytes: &[u8]) -> WriteTurn
+        ensures noted { Moves (seen_of (T.told self.old.tape) (seen_on D.disk self.old.shelf.device) self.old.shelf.open_at (plug_of L.link self.old.plug) (A.app self.old.app) (C.readings self.old.clock)) (seen_of (T.told self.new.tape) (seen_on D.disk self.new.shelf.device) self.new.shelf.open_at (plug_of L.link self.new.plug) (A.app self.new.app) (C.readings self.new.clock)) (writes result bytes.now) }
+        ensures in_bytes { IsInBytes result bytes.now }
+        ensures link { LinkWrites result bytes.now (plug_of L.link self.old.plug) (plug_of L.link self.new.plug) }
+        ensures opens { self.new.shelf.open_at ≡ self.old.shelf.open_at }
+        ensures others { self.new ≡ with_link_of self.old self.new }
+    {
+        if self.tape.reserve(&Noted::Wrote(bytes)).is_err() {
+            return WriteTurn::OutOfMemory;
+        }
+        match self.plug.write(bytes) {
+            WriteTurn::Done => {
+                self.tape.note(&Noted::Wrote(bytes));
+                WriteTurn::Done
+            }
+            WriteTurn::Failed(n) => {
+                self.tape.note(&Noted::Wrote(&bytes[..n]));
+                WriteTurn::Failed(n)
+            }
+            WriteTurn::OutOfMemory => WriteTurn::OutOfMemory,
+        }
+    }
+
+    fn keep(&mut self, kept: &Record) -> Result<(), KeepFault>
+        requires payload { IsKeepable kept.now }
+        requires place { HasPlace kept.now self.old.shelf.open_at }
+        ensures noted { Moves (seen_of (T.told self.old.tape) (seen_on D.disk self.old.shelf.device) self.old.shelf.open_at (plug_of L.link self.old.plug) (A.app self.old.app) (C.readings self.old.clock)) (seen_of (T.told self.new.tape) (seen_on D.disk self.new.shelf.device) self.new.shelf.open_at (plug_of L.link self.new.plug) (A.app self.new.app) (C.readings self.new.clock)) (keeps result kept.now) }
+        ensures opens { self.new.shelf.open_at ≡ open_kept result kept.now self.old.shelf.open_at }
+        // A crash at any moment of it leaves the end from before, or with the record, and at Ok the latter.
+        ensures leaves { KeepLeft result kept.now (disk_seen D.disk self.old) (disk_seen D.disk self.new) }
+        ensures none { result ≡ Err TheKeepFault.OutOfMemory → disk_in self.new ≡ disk_in self.old }
+        ensures others { self.new ≡ with_store_of self.old self.new }
+    {
+        if self.tape.reserve(&Noted::Kept(kept)).is_err() {
+            return Err(KeepFault::OutOfMemory);
+        }
+        match self.shelf.keep(kept) {
+            Ok(()) => {
+                self.tape.note(&Noted::Kept(kept));
+                Ok(())
+            }
+            Err(KeepFault::Failed) => {
+                self.tape.note(&Noted::KeepLost(kept));
+                Err(KeepFault::Failed)
+            }
+            Err(KeepFault::OutOfMemory) => Err(KeepFault::OutOfMemory),
+        }
+    }
+
+    fn fetch(&mut self, n: SeqNum, into: &mut Vec<u8>) -> Result<Kind, FetchFault>
+        requires { HasEntry n self.old.shelf.open_at }
+        ensures noted { Moves (seen_of (T.told self.old.tape) (seen_on D.disk self.old.shelf.device) self.old.shelf.open_at (plug_of L.link self.old.plug) (A.app self.old.app) (C.readings self.old.clock)) (seen_of (T.told self.new.tape) (seen_on D.disk self.new.shelf.device) self.new.shelf.open_at (plug_of L.link self.new.plug) (A.app self.new.app) (C.readings self.new.clock)) (fetches result) }
+        ensures answers { FetchAnswers result n into.new.items (seen_of (T.told self.old.tape) (seen_on D.disk self.old.shelf.device) self.old.shelf.open_at (plug_of L.link self.old.plug) (A.app self.old.app) (C.readings self.old.clock)) }
+        ensures opens { self.new.shelf.open_at ≡ open_fetched result self.old.shelf.open_at }
+        ensures others { self.new ≡ with_store_of self.old self.new }
+        ensures tape { tape_in self.new ≡ tape_in self.old }
+    {
+        self.shelf.fetch(n, into)
+    }
+
+    fn hand(&mut self, h: &Handed<'_>) -> Said
+        requires { HasKind h.now }
+        ensures noted { Moves (seen_of (T.told self.old.tape) (seen_on D.disk self.old.shelf.device) self.old.shelf.open_at (plug_of L.link self.old.plug) (A.app self.old.app) (C.readings self.old.clock)) (seen_of (T.told self.new.tape) (seen_on D.disk self.new.shelf.device) self.new.shelf.open_at (plug_of L.link self.new.plug) (A.app self.new.app) (C.readings self.new.clock)) (hands result h.now) }
+        ensures app { AppTakes result h.now (A.app (app_in self.old)) (A.app (app_in self.new)) }
+        ensures opens { self.new.shelf.open_at ≡ self.old.shelf.open_at }
+        ensures others { self.new ≡ with_app_of self.old self.new }
+    {
+        if self.tape.reserve(&Noted::Handed(h)).is_err() {
+            return Said::OutOfMemory;
+        }
+        match self.app.hand(h) {
+            Said::Taken => {
+                self.tape.note(&Noted::Handed(h));
+                Said::Taken
+            }
+            Said::Failed => {
+                self.tape.note(&Noted::HandLost(h));
+                Said::Failed
+            }
+            Said::OutOfMemory => Said::OutOfMemory,
+        }
+    }
+
+    fn ask(&mut self) -> Option<Draft>
+        ensures noted { Moves (seen_of (T.told self.old.tape) (seen_on D.disk self.old.shelf.device) self.old.shelf.open_at (plug_of L.link self.old.plug) (A.app self.old.app) (C.readings self.old.clock)) (seen_of (T.told self.new.tape) (seen_on D.disk self.new.shelf.device) self.new.shelf.open_at (plug_of L.link self.new.plug) (A.app self.new.app) (C.readings self.new.clock)) (Asked (option_map draft_body result) ∷ []) }
+        ensures opens { self.new.shelf.open_at ≡ self.old.shelf.open_at }
+        ensures app { AppAsks (option_map draft_body result) (A.app (app_in self.old)) (A.app (app_in self.new)) }
+        ensures others { self.new ≡ with_app_alone_of self.old self.new }
+    {
+        self.app.ask()
+    }
+}
