@@ -1,5 +1,5 @@
 -- What opening, begin and the run come to, together.
-use Rattle.std.proofs.Common.{◌≡◌, inl, inr, ℕ, List, [], ◌∷◌, ◌++◌, Some, IfNone, Result, Ok, Err, refl, sym, ap, ◌∙◌, subst, arith}
+use Rattle.std.proofs.Common.{◌≡◌, ◌≢◌, inl, inr, ℕ, List, [], ◌∷◌, ◌++◌, Option, Some, None, IfNone, IfSome, Result, Ok, Err, refl, sym, ap, ◌∙◌, subst, arith}
 use Rattle.std.specs.Prelude.{⊤}
 use Rattle.fix_base.specs.declared.identity.Identity.{Identity}
 use Rattle.fix_base.specs.declared.entry.Stored.{Stored}
@@ -20,7 +20,9 @@ use Rattle.fix_rim.specs.declared.outside.LoadFault.TheVariants as load
 use Rattle.fix_engine.specs.declared.state.Phase.TheVariants.{Down}
 use Rattle.fix_engine.specs.Desk.{Desk, no_draft}
 use Rattle.fix_rim.specs.Outside.{LoadAnswers, IsLoaded}
-use Rattle.fix_engine.specs.Run.{Seat, desk_of, seated_at, OpensTo, from_stored, no_store, BeginsTo, opened_to, no_memory, no_memory_to_open, RanTo, RunHasCause}
+use Rattle.fix_engine.specs.declared.stop.StopCause.{StopCause}
+use Rattle.fix_engine.specs.Run as seats
+use Rattle.fix_engine.specs.Run.{Seat, desk_of, seated_at, OpensTo, from_stored, no_store, BeginsTo, opened_to, no_memory, no_memory_to_open, ReopensTo, RanTo, RunHasCause}
 use Rattle.fix_engine.specs.Lawful.{MayHold}
 use Rattle.fix_engine.specs.Restart.{StartsAt}
 use Rattle.fix_engine.proofs.RestartLemmas.{restarts}
@@ -115,3 +117,43 @@ memory_cause a b = record { store = λ e. absurd (omega (arith, e)); link = λ e
 -- a session that was just opened has no connection
 pub opened_down : (id : Identity) (seat : Seat) (loaded : Result Stored LoadFault) (notes : List Note) → OpensTo id (Ok seat) loaded notes → IfNone seat.stopped (seat.live.state.phase ≡ Down)
 opened_down id seat loaded notes (from_stored stored) = refl
+
+-- what is said of a session that goes on, or of one that is stopped
+pub if_goes : (P : Type 0) (stopped : Option StopCause) → stopped ≡ None → P → IfNone stopped P
+if_goes P None e p = p
+if_goes P (Some why) e p = absurd (cc)
+
+pub then_goes : (P : Type 0) (stopped : Option StopCause) → stopped ≡ None → IfNone stopped P → P
+then_goes P None e p = p
+then_goes P (Some why) e p = absurd (cc)
+
+pub if_stopped : (P : Type 0) (stopped : Option StopCause) (why : StopCause) → stopped ≡ Some why → IfNone stopped P
+if_stopped P None why e = absurd (cc)
+if_stopped P (Some x) why e = tt
+
+pub then_stopped : (P : Type 0) (stopped : Option StopCause) (why : StopCause) → stopped ≡ Some why → IfSome stopped (λ x. P) → P
+then_stopped P None why e p = absurd (cc)
+then_stopped P (Some x) why e p = p
+
+-- a session that began a connection goes on, and waits for a Logon
+begun_free : (old : Seat) (x : ⊤) (to : Seat) (notes : List Note) → BeginsTo old (Ok x) to notes → to.stopped ≡ None
+begun_free old x to notes (opened_to t) = refl
+
+begun_waits : (old : Seat) (x : ⊤) (to : Seat) (notes : List Note) → BeginsTo old (Ok x) to notes → to.live.state.phase ≢ Down
+begun_waits old x to notes (opened_to t) = λ e. cc
+
+pub began_goes : (old : Seat) (b c : Seen) (x : ⊤) (to : Seat) → old.stopped ≡ None → IfNone old.stopped (Goes b c (BeginsTo old (Ok x) to)) → to.stopped ≡ None
+began_goes old b c x to free begins = let g = then_goes (Goes b c (BeginsTo old (Ok x) to)) old.stopped free begins in begun_free old x to g.0 g.2
+
+pub began_up : (old : Seat) (b c : Seen) (x : ⊤) (to : Seat) → old.stopped ≡ None → IfNone old.stopped (Goes b c (BeginsTo old (Ok x) to)) → to.live.state.phase ≢ Down
+began_up old b c x to free begins = let g = then_goes (Goes b c (BeginsTo old (Ok x) to)) old.stopped free begins in begun_waits old x to g.0 g.2
+
+pub opened_goes : (id : Identity) (seat : Seat) (loaded : Result Stored LoadFault) (notes : List Note) → OpensTo id (Ok seat) loaded notes → seat.stopped ≡ None
+opened_goes id seat loaded notes (from_stored stored) = refl
+
+-- a session that was opened again goes on, and has no connection
+pub reopened_goes : (old : Seat) (x : ⊤) (loaded : Result Stored LoadFault) (to : Seat) (notes : List Note) → ReopensTo old (Ok x) loaded to notes → to.stopped ≡ None
+reopened_goes old x loaded to notes (seats.again stored) = refl
+
+pub reopened_down : (old : Seat) (x : ⊤) (loaded : Result Stored LoadFault) (to : Seat) (notes : List Note) → ReopensTo old (Ok x) loaded to notes → to.live.state.phase ≡ Down
+reopened_down old x loaded to notes (seats.again stored) = refl

@@ -346,6 +346,28 @@ fn memory_suffices_for_the_sample(rt: HostRuntime) -> Result<(), Fail> {
     Ok(())
 }
 
+// The sample, a message in each piece.
+fn one_by_one(alloc: Global) -> Result<Vec<Bytes>, Fail> {
+    let mut pieces = Vec::new(alloc);
+    for text in [LOGON, ORDER, LOGOUT] {
+        pieces.push(Bytes::from_vec(bytes_of(alloc, &[text])?))?;
+    }
+    Ok(pieces)
+}
+
+#[test]
+fn a_disk_of_78_bytes_is_enough_for_the_sample(rt: HostRuntime) -> Result<(), Fail> {
+    let alloc = rt.alloc();
+    // An empty store takes 10 bytes, each of two entries 19, and each of three expected numbers 10.
+    for (capacity, want) in [(78, 0), (77, 5), (29, 5), (9, 5)] {
+        let disk = MemoryDisk::new(alloc, capacity, 0, Vec::new(alloc), None)?;
+        let pieces = one_by_one(alloc)?;
+        let (status, _) = served_on(alloc, disk, WORDS.as_slice(), pieces, NONE, u64::MAX)?;
+        assert_eq!(rt; status, Status(want));
+    }
+    Ok(())
+}
+
 #[test]
 fn a_process_starts_again_behind_a_store_fault(rt: HostRuntime) -> Result<(), Fail> {
     let alloc = rt.alloc();

@@ -1,4 +1,6 @@
-ghost use Rattle.std.specs.Prelude.{◌≡◌, ◌≢◌, IfOk, if◌then◌else◌, Some, None};
+ghost use Rattle.std.specs.Prelude.{◌≡◌, ◌≢◌, IfNone, IfOk, OnOk, if◌then◌else◌, Some, None};
+ghost use Rattle.fix_engine.specs.Run.{stop_cause, IsDownUnlessSpent};
+ghost use Rattle.fix_engine.specs.Drafted.{send_stop};
 ghost use Rattle.fix_engine.specs.InStep.{StandsInStep};
 
 use super::*;
@@ -12,7 +14,6 @@ use fix_engine::{
 use fix_fields::{Draft, DraftFields};
 use fix_parts::{Handed, KeptTape, MemoryApp, MemoryClock, MemoryLink, ReadTurn, Said, WriteTurn};
 use std::alloc::Global;
-use std::process::Abort;
 use std::test::Fail;
 
 const LOGON: &[u8] =
@@ -77,8 +78,10 @@ fn outside(alloc: Global, texts: &[&[u8]], disk: u64, link: u64) -> Result<Asked
     ))
 }
 
-// A session whose first turn answered the Logon of its connection.
-fn begun<O: Outside>(alloc: Global, o: &mut O) -> Result<Session, Fail>
+// The calls of a session, with what these tests need to know of them.
+
+// A session that was opened, on a connection.
+fn connected<O: Outside>(alloc: Global, o: &mut O) -> Result<Session, Fail>
     ensures goes { IfOk result (λ session. session.stopped ≡ None) }
     ensures up { IfOk result (λ session. session.live.state.phase ≢ Phase.Down) }
     ensures stands { IfOk result (StandsInStep (O.seen o.new)) }
@@ -92,10 +95,71 @@ fn begun<O: Outside>(alloc: Global, o: &mut O) -> Result<Session, Fail>
         Err(_) => return Err(OutOfMemory.into()),
     };
     match session.begin(o) {
-        Ok(()) => {}
-        Err(_) => return Err(OutOfMemory.into()),
+        Ok(()) => Ok(session),
+        Err(_) => Err(OutOfMemory.into()),
     }
-    match session.run_turns(o, 1) {
+}
+
+fn begin<O: Outside>(session: &mut Session, o: &mut O) -> Result<(), Fail>
+    requires goes { session.old.stopped ≡ None }
+    requires down { session.old.live.state.phase ≡ Phase.Down }
+    requires stands { StandsInStep (O.seen o.old) session.old }
+    ensures goes { OnOk result (session.new.stopped ≡ None) }
+    ensures up { OnOk result (session.new.live.state.phase ≢ Phase.Down) }
+    ensures stands { OnOk result (StandsInStep (O.seen o.new) session.new) }
+{
+    match session.begin(o) {
+        Ok(()) => Ok(()),
+        Err(_) => Err(OutOfMemory.into()),
+    }
+}
+
+fn run<O: Outside>(session: &mut Session, o: &mut O, turns: u64) -> RunEnd
+    requires goes { session.old.stopped ≡ None }
+    requires up { session.old.live.state.phase ≢ Phase.Down }
+    requires stands { StandsInStep (O.seen o.old) session.old }
+    ensures stops { session.new.stopped ≡ stop_cause result }
+    ensures phase { IsDownUnlessSpent result session.old.live.state.phase session.new.live.state.phase }
+    ensures stands { IfNone session.new.stopped (StandsInStep (O.seen o.new) session.new) }
+{
+    session.run_turns(o, turns)
+}
+
+fn run_stopped<O: Outside>(session: &mut Session, o: &mut O) -> RunEnd
+    requires stopped { session.old.stopped ≡ Some StopCause.StoreFault }
+    ensures stopped { session.new.stopped ≡ Some StopCause.StoreFault }
+{
+    session.run_turns(o, 1)
+}
+
+fn send<O: Outside>(session: &mut Session, o: &mut O, draft: &Draft) -> Result<SeqNum, SendFault>
+    requires goes { session.old.stopped ≡ None }
+    requires stands { StandsInStep (O.seen o.old) session.old }
+    ensures stops { session.new.stopped ≡ send_stop result }
+{
+    session.send(o, draft)
+}
+
+fn reopen<O: Outside>(session: &mut Session, o: &mut O) -> Result<(), Fail>
+    requires stopped { session.old.stopped ≡ Some StopCause.StoreFault }
+    ensures goes { OnOk result (session.new.stopped ≡ None) }
+    ensures down { OnOk result (session.new.live.state.phase ≡ Phase.Down) }
+    ensures stands { OnOk result (StandsInStep (O.seen o.new) session.new) }
+{
+    match session.reopen(o) {
+        Ok(()) => Ok(()),
+        Err(_) => Err(OutOfMemory.into()),
+    }
+}
+
+// A session whose first turn answered the Logon of its connection.
+fn begun<O: Outside>(alloc: Global, o: &mut O) -> Result<Session, Fail>
+    ensures goes { IfOk result (λ session. session.stopped ≡ None) }
+    ensures up { IfOk result (λ session. session.live.state.phase ≢ Phase.Down) }
+    ensures stands { IfOk result (StandsInStep (O.seen o.new)) }
+{
+    let mut session = connected(alloc, o)?;
+    match run(&mut session, o, 1) {
         RunEnd::TurnsSpent => Ok(session),
         _ => Err(OutOfMemory.into()),
     }
@@ -129,16 +193,20 @@ fn written(o: &Asked) -> &[u8] {
     }
 }
 
+// Two turns behind the Logon.
+fn two_turns<O: Outside>(alloc: Global, o: &mut O) -> Result<Session, Fail> {
+    let mut session = begun(alloc, o)?;
+    match run(&mut session, o, 2) {
+        RunEnd::TurnsSpent => Ok(session),
+        _ => Err(OutOfMemory.into()),
+    }
+}
+
 #[test]
 fn a_draft_goes_out_in_the_next_turn(rt: HostRuntime) -> Result<(), Fail> {
     let alloc = rt.alloc();
     let mut o = outside(alloc, &[LOGON, b"", b""], 0, 0)?;
-    let mut session = begun(alloc, &mut o)?;
-    assert!(rt; o.app().asked().is_empty());
-    match session.run_turns(&mut o, 2) {
-        RunEnd::TurnsSpent => {}
-        _ => return Err(OutOfMemory.into()),
-    }
+    let session = two_turns(alloc, &mut o)?;
     let mut expected = Bytes::copy(alloc, LOGON_ANSWER)?.into_vec();
     expected.extend_from_slice(ORDER_OUT)?;
     assert!(rt; written(&o) == expected.as_slice());
@@ -161,27 +229,28 @@ fn a_draft_goes_out_in_the_next_turn(rt: HostRuntime) -> Result<(), Fail> {
     Ok(())
 }
 
-// Opens the store again, serves a second connection, and says whether the order was stored before.
-fn served_again(rt: &impl Abort, o: &mut Asked, session: &mut Session) -> Result<bool, Fail>
-    requires stopped { session.old.stopped ≡ Some StopCause.StoreFault }
-{
-    match session.reopen(o) {
-        Ok(()) => {}
-        Err(_) => return Err(OutOfMemory.into()),
-    }
-    let stored = session.last() == 2;
-    assert!(rt; session.in_hand() != stored);
-    match session.begin(o) {
-        Ok(()) => {}
-        Err(_) => return Err(OutOfMemory.into()),
-    }
-    match session.run_turns(o, 3) {
-        RunEnd::TurnsSpent => {}
+// The store fails in the turn behind the Logon. It is opened again, and a second connection served:
+// whether the order was stored before that, and the session then.
+fn stored_again<O: Outside>(alloc: Global, o: &mut O) -> Result<(bool, Session), Fail> {
+    let mut session = begun(alloc, o)?;
+    match run(&mut session, o, 1) {
+        RunEnd::StoreFault => {}
         _ => return Err(OutOfMemory.into()),
     }
-    assert!(rt; !session.in_hand());
-    assert_eq!(rt; session.last(), 3);
-    Ok(stored)
+    match run_stopped(&mut session, o) {
+        RunEnd::Stopped(StopCause::StoreFault) => {}
+        _ => return Err(OutOfMemory.into()),
+    }
+    reopen(&mut session, o)?;
+    let stored = session.last() == 2;
+    if session.in_hand() == stored {
+        return Err(OutOfMemory.into());
+    }
+    begin(&mut session, o)?;
+    match run(&mut session, o, 3) {
+        RunEnd::TurnsSpent => Ok((stored, session)),
+        _ => Err(OutOfMemory.into()),
+    }
 }
 
 #[test]
@@ -192,16 +261,9 @@ fn a_draft_that_the_store_failed_at_is_stored_once(rt: HostRuntime) -> Result<()
     // the order four each.
     for disk in 17..=20 {
         let mut o = outside(alloc, &[LOGON, SECOND_LOGON, b"", b""], disk, 0)?;
-        let mut session = begun(alloc, &mut o)?;
-        match session.run_turns(&mut o, 1) {
-            RunEnd::StoreFault => {}
-            _ => return Err(OutOfMemory.into()),
-        }
-        let acts = o.tape().acts().len();
-        let stopped = RunEnd::Stopped(StopCause::StoreFault);
-        assert_eq!(rt; session.run_turns(&mut o, 1), stopped);
-        assert_eq!(rt; o.tape().acts().len(), acts);
-        let stored = served_again(&rt, &mut o, &mut session)?;
+        let (stored, session) = stored_again(alloc, &mut o)?;
+        assert!(rt; !session.in_hand());
+        assert_eq!(rt; session.last(), 3);
         assert_eq!(rt; times_kept(alloc, &o)?, if stored { 0 } else { 1 });
         assert_eq!(rt; written(&o).ends_with(THIRD_OUT), !stored);
         assert_eq!(rt; o.app().asked().len(), 1);
@@ -212,52 +274,61 @@ fn a_draft_that_the_store_failed_at_is_stored_once(rt: HostRuntime) -> Result<()
     Ok(())
 }
 
+// The connection fails in the turn behind the Logon, and a second one is served.
+fn connected_again<O: Outside>(alloc: Global, o: &mut O) -> Result<Session, Fail> {
+    let mut session = begun(alloc, o)?;
+    match run(&mut session, o, 1) {
+        RunEnd::LinkFault => {}
+        _ => return Err(OutOfMemory.into()),
+    }
+    if session.in_hand() || session.last() != 2 {
+        return Err(OutOfMemory.into());
+    }
+    begin(&mut session, o)?;
+    match run(&mut session, o, 2) {
+        RunEnd::TurnsSpent => Ok(session),
+        _ => Err(OutOfMemory.into()),
+    }
+}
+
 #[test]
 fn a_draft_that_the_connection_lost_is_not_sent_again(rt: HostRuntime) -> Result<(), Fail> {
     let alloc = rt.alloc();
     // The third call of the connection writes the order.
     let mut o = outside(alloc, &[LOGON, SECOND_LOGON, b""], 0, 3)?;
-    let mut session = begun(alloc, &mut o)?;
-    match session.run_turns(&mut o, 1) {
-        RunEnd::LinkFault => {}
-        _ => return Err(OutOfMemory.into()),
-    }
-    assert!(rt; !session.in_hand());
-    assert_eq!(rt; session.last(), 2);
-    assert!(rt; matches!(o.tape().acts(), [.., Act::Cut]));
-    match session.begin(&mut o) {
-        Ok(()) => {}
-        Err(_) => return Err(OutOfMemory.into()),
-    }
-    assert_eq!(rt; session.run_turns(&mut o, 2), RunEnd::TurnsSpent);
+    let session = connected_again(alloc, &mut o)?;
     assert_eq!(rt; session.last(), 3);
     assert_eq!(rt; times_kept(alloc, &o)?, 1);
+    assert_eq!(rt; o.app().asked().len(), 1);
     Ok(())
 }
 
-#[test]
-fn a_send_that_the_store_failed_at_stops_the_session(rt: HostRuntime) -> Result<(), Fail> {
-    let alloc = rt.alloc();
+// The store fails at the sending of a draft, and is opened again: its last number then.
+fn sent_again<O: Outside>(alloc: Global, o: &mut O) -> Result<u32, Fail> {
     let draft = order(alloc)?;
+    let mut session = begun(alloc, o)?;
+    match send(&mut session, o, &draft) {
+        Err(SendFault::StoreFault) => {}
+        _ => return Err(OutOfMemory.into()),
+    }
+    match run_stopped(&mut session, o) {
+        RunEnd::Stopped(StopCause::StoreFault) => {}
+        _ => return Err(OutOfMemory.into()),
+    }
+    reopen(&mut session, o)?;
+    Ok(session.last())
+}
+
+#[test]
+fn a_send_that_the_store_failed_at_is_stored_or_not(rt: HostRuntime) -> Result<(), Fail> {
+    let alloc = rt.alloc();
     let mut found: u64 = 0;
     for disk in 17..=20 {
         let mut o = outside(alloc, &[LOGON], disk, 0)?;
-        let mut session = begun(alloc, &mut o)?;
-        match session.send(&mut o, &draft) {
-            Err(SendFault::StoreFault) => {}
-            _ => return Err(OutOfMemory.into()),
-        }
-        let acts = o.tape().acts().len();
-        let again = session.send(&mut o, &draft).map(|number| number.get());
-        assert_eq!(rt; again, Err(SendFault::Stopped(StopCause::StoreFault)));
-        assert_eq!(rt; o.tape().acts().len(), acts);
+        let last = sent_again(alloc, &mut o)?;
+        assert!(rt; last == 1 || last == 2);
         assert!(rt; written(&o) == LOGON_ANSWER);
-        match session.reopen(&mut o) {
-            Ok(()) => {}
-            Err(_) => return Err(OutOfMemory.into()),
-        }
-        assert!(rt; session.last() == 1 || session.last() == 2);
-        found = found.saturating_add(u64::from(session.last() == 2));
+        found = found.saturating_add(u64::from(last == 2));
     }
     assert!(rt; 0 < found && found < 4);
     Ok(())
