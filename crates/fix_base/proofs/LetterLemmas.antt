@@ -22,12 +22,14 @@ use Rattle.fix_base.specs.End.{Caller, Entry, App, Push, new_end, folded}
 use Rattle.fix_base.specs.Payload.{field, IsBodyOf, IsPersistentEntry}
 use Rattle.fix_base.specs.Wrote as wrote
 use Rattle.fix_base.specs.Wrote.{IsSealed, original_fields, Wrote}
+use Rattle.fix_base.proofs.Told as told
+use Rattle.fix_base.proofs.Told.{SaysEach}
 use Rattle.fix_base.proofs.Digits.{numerals, digits_no_soh}
 use Rattle.fix_base.proofs.PlainFields.{IsPlainField, plain_fields}
 use Rattle.fix_base.proofs.ShortFields.{clear_of, comp_id_clear, comp_id_short, IsShortField, short_fields}
 use Rattle.fix_base.proofs.TimeTexts.{any_time_text_no_soh}
 use Rattle.fix_base.proofs.Seals.{sealed_is_frame}
-use Rattle.fix_base.proofs.ListLemmas.{prefix_of_nothing}
+use Rattle.fix_base.proofs.WholeLemmas.{push_grows}
 use Rattle.fix_base.proofs.WrittenLemmas.{original_is, app_original}
 
 pub number_clear : HasNoSoh (decimal 1)
@@ -147,10 +149,11 @@ pub record Letter (id : Identity) (body : List ℕ) : Type 0 where
   pub kept : IsPersistentEntry (App 0 Caller body)
   pub lawful : Wrote id new_end (folded new_end (Push (App 0 Caller body))) text
   pub shows : Shows text (message.App 1 false body ∷ [])
+  pub says : SaysEach (text ∷ []) (message.App 1 false body ∷ [])
 
 lawful : (id : Identity) → IsValidIdentity id → Wrote id new_end (folded new_end (Push entry)) (frame id)
 lawful id valid = record {
-  grew = prefix_of_nothing (entry ∷ []);
+  grew = push_grows new_end entry;
   texts = frame id ∷ [];
   last = 1;
   writes = wrote.original 1 entry (lit≤ tt) (lit< tt) (record { before = []; after = []; is = refl; place = refl }) (record { type = order; at = at; rest = []; carries = wrote.app body_is; sent_at = at_epoch; sealed_so = frame_sealed id valid }) wrote.done;
@@ -173,4 +176,5 @@ letter id valid = record {
   kept = entry_keepable;
   lawful = lawful id valid;
   shows = shown (frame id) (sealed_is_frame id (fields id) (frame id) (original_is id (decimal 1) at order [] tt) (frame_sealed id valid)) _ (app_original id 1 (frame id) at order [] (lit≤ tt) (lit≤ tt) body_is.app tt (frame_sealed id valid));
+  says = told.one (sealed_is_frame id (fields id) (frame id) (original_is id (decimal 1) at order [] tt) (frame_sealed id valid)) (app_original id 1 (frame id) at order [] (lit≤ tt) (lit≤ tt) body_is.app tt (frame_sealed id valid)) told.done;
 }

@@ -11,14 +11,17 @@ pub mod Sealed
 pub mod Times
 pub mod Message
 pub mod Says
+pub mod Logon
 pub mod End
 pub mod Payload
 pub mod Act
 pub mod Line
 pub mod Parts
 pub mod Wrote
+pub mod Resend
 pub mod EndStep
 pub mod Agrees
 pub mod Reader
 pub mod World
+pub mod Resets
 pub mod Seen
