@@ -84,8 +84,10 @@ pub fn resets_are_shared()
     ensures { (id : Identity) (w : EpochPeers) (events : List ResetEvent) → ResetsRun id new_epoch_peers events w → ResetsAgree w }
 {}
 
-/// A reset is shared at times: the initiator asks for one, the acceptor reads the Logon (35=A) with
-/// ResetSeqNumFlag (141) = Y, resets and answers with one, and the initiator confirms.
+/// A reset may be shared: between any two CompIDs there is a run in which the initiator asks for a reset,
+/// the acceptor reads the Logon (35=A) with ResetSeqNumFlag (141) = Y, resets and answers with one, and the
+/// initiator confirms. Then the initiator keeps and writes a NewOrderSingle (35=D), the acceptor hands it
+/// over and expects the number after it, and the two agree.
 pub fn a_reset_is_shared()
     ensures { (id : Identity) → IsValidIdentity id → SharesReset id }
 {}
