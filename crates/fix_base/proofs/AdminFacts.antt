@@ -1,5 +1,5 @@
 -- Worked examples of administrative messages: which fields an original of each type has, and which it has not.
-use Rattle.std.proofs.Common.{◌≡◌, inl, inr, ℕ, codes, List, [], ◌∷◌, true, false, Option, Some, None, refl, ap, lit<, lit≤, arith}
+use Rattle.std.proofs.Common.{◌≡◌, inl, ℕ, codes, List, [], ◌∷◌, true, false, Some, None, refl, ap, lit<, lit≤, arith}
 use Rattle.std.specs.Fmt.{decimal}
 use Rattle.std.proofs.lemmas.Fmt.{decimal_injective}
 use Rattle.fix_base.specs.Fields.{Field}

@@ -1,5 +1,5 @@
 -- A message arrives after a reset that is shared.
-use Rattle.std.proofs.Common.{◌≡◌, inl, ℕ, codes, List, [], ◌∷◌, ◌++◌, length, length-append, append_assoc, true, false, Option, Some, None, refl, sym, ap, ◌∙◌, subst, lit<, lit≤, arith}
+use Rattle.std.proofs.Common.{◌≡◌, inl, ℕ, List, [], ◌∷◌, ◌++◌, length, length-append, append_assoc, true, false, Option, Some, None, refl, sym, ap, ◌∙◌, subst, lit<, lit≤, arith}
 use Rattle.std.specs.Fmt.{decimal}
 use Rattle.std.proofs.lemmas.List.{append-nil}
 use Rattle.fix_base.specs.Lists.{Among, here, there, IsPrefixOf}
@@ -10,7 +10,7 @@ use Rattle.fix_base.specs.Message.{Message}
 use Rattle.fix_base.specs.Says.{Says, Shows, joined}
 use Rattle.fix_base.specs.Logon.{IsResetLogon, Begun, Completes}
 use Rattle.fix_base.specs.Session.{Identity, IsValidIdentity, mirrored}
-use Rattle.fix_base.specs.End.{Entry, Record, Push, Expect, Confirm, End, folded}
+use Rattle.fix_base.specs.End.{Record, Push, Expect, Confirm, End, folded}
 use Rattle.fix_base.specs.Act as act
 use Rattle.fix_base.specs.Wrote as wrote
 use Rattle.fix_base.specs.Wrote.{Wrote}
@@ -21,7 +21,7 @@ use Rattle.fix_base.specs.Agrees.{Agrees}
 use Rattle.fix_base.specs.Payload.{IsPersistentEntry}
 use Rattle.fix_base.specs.Resets as resets
 use Rattle.fix_base.specs.Resets.{EpochPeer, EpochPeers, still, wrote_epoch_peer, gave_epoch_peer, ResetEvent, Initiates, Accepts, ResetsRun, SharesReset}
-use Rattle.fix_base.proofs.ListLemmas.{prefix_refl, some_same, Among-cons_cases}
+use Rattle.fix_base.proofs.ListLemmas.{prefix_refl, some_same}
 use Rattle.fix_base.proofs.FramingLemmas.{front_frames}
 use Rattle.fix_base.proofs.Runs.{frames-append}
 use Rattle.fix_base.proofs.Told as told
@@ -32,7 +32,7 @@ use Rattle.fix_base.proofs.Seals.{sealed_is_frame}
 use Rattle.fix_base.proofs.WrittenLemmas.{original_is, app_original, admin_original}
 use Rattle.fix_base.proofs.LetterLemmas.{at, at_epoch, order, body, body_is, entry, letter}
 use Rattle.fix_base.proofs.HeldLemmas.{next_parts, next, next_sealed}
-use Rattle.fix_base.proofs.SharesLemmas.{rest, logon, carried, frame, is_frame, frame_sealed, is_original, begun, empty, with_logon, link, p6, q5, of_both, resetting, reset_peers, shares_as}
+use Rattle.fix_base.proofs.SharesLemmas.{logon, carried, frame, is_frame, frame_sealed, is_original, begun, empty, with_logon, link, p6, q5, of_both, resetting, reset_peers, shares_as}
 
 -- ---- what the initiator writes: the Logon, and the order under the number after it
 

@@ -1,10 +1,9 @@
 -- A run of two ends in which a message is withheld: its number is passed over by a gap fill, and the
 -- message behind it arrives.
-use Rattle.std.proofs.Common.{◌≡◌, ℕ, ◌≤◌, ◌^◌, ◌<◌, nat_le, codes, List, [], ◌∷◌, length, false, Option, Some, None, refl, subst, lit<, lit≤, arith}
+use Rattle.std.proofs.Common.{◌≡◌, ℕ, ◌≤◌, ◌<◌, nat_le, codes, List, [], ◌∷◌, length, false, Option, Some, None, refl, subst, lit<, lit≤, arith}
 use Rattle.std.specs.List.{AllByRecursion}
 use Rattle.std.specs.Fmt.{decimal}
 use Rattle.fix_base.specs.Lists.{here, there, IsPrefixOf}
-use Rattle.fix_base.specs.Frame.{HasNoSoh}
 use Rattle.fix_base.specs.Fields.{Field}
 use Rattle.fix_base.specs.Sealed.{sealed}
 use Rattle.fix_base.specs.Message as message
