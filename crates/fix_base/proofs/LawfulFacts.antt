@@ -125,6 +125,15 @@ nothing_is_handed_over_while_asking id s s' n marked body asking step = handed_f
 pub nothing_is_handed_over_before_the_answer : (id : Identity) (s s' : EndState) (c : Connection) (n : ℕ) (marked : Bool) (body : List ℕ) → s.connection ≡ Some c → c.kept ≡ [] → Begun IsResetLogon c.read → EndStep id s (act.Handed n marked body) s' → ⊥
 nothing_is_handed_over_before_the_answer id s s' c n marked body o kept begun step = handed_free step.row (steps.waits c o kept begun)
 
+-- nor is any number passed until then
+pub nothing_is_passed_before_the_answer : (s s' : EndState) → IsBlocked s → s.doubt ≡ None → Move s s' → ⊥
+nothing_is_passed_before_the_answer s s' blocked none (steps.settles_without r e) = cc
+nothing_is_passed_before_the_answer s s' blocked none (steps.settles_with r e) = cc
+nothing_is_passed_before_the_answer s s' blocked none (steps.past_admin c x free o read at) = free blocked
+nothing_is_passed_before_the_answer s s' blocked none (steps.past_app c n marked body free o read at grew) = free blocked
+nothing_is_passed_before_the_answer s s' blocked none (steps.past_gap c n m free o read at lt) = free blocked
+nothing_is_passed_before_the_answer s s' blocked none (steps.reset_to c n m free o read le) = free blocked
+
 -- an end that was never asked confirms nothing
 confirms_asking : {id : Identity} {s s' : EndState} → Row id s (act.Kept Confirm) s' → IsAsking s
 confirms_asking (steps.kept_confirm c o asking begun) = asking
