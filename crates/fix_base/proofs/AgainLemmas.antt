@@ -19,6 +19,7 @@ use Rattle.fix_base.specs.EndStep.{Connection, EndState, Handling, WasRead, Move
 use Rattle.fix_base.specs.World as world
 use Rattle.fix_base.specs.World.{Side, World, new_side, new_world, rested, opened_side, wrote_side, gave_side, First, Second, Event, Does, SideStep, WorldRun, handed_over, ComesAgain}
 use Rattle.fix_base.proofs.ListLemmas.{prefix_refl}
+use Rattle.fix_base.proofs.WroteLemmas.{GrowsTo-refl}
 use Rattle.fix_base.proofs.PlainFields.{IsPlainField, plain_fields}
 use Rattle.fix_base.proofs.ShortFields.{clear_of, comp_id_clear, comp_id_short, IsShortField, short_fields}
 use Rattle.fix_base.proofs.Seals.{sealed_is_frame}
@@ -89,10 +90,10 @@ record Repeat (id : Identity) (body : List ℕ) : Type 0 where
 
 lawful : (id : Identity) → IsValidIdentity id → Wrote id (kept_end body) (kept_end body) (frame id)
 lawful id valid = record {
-  grew = prefix_refl (entry body ∷ []);
+  grew = GrowsTo-refl (kept_end body);
   texts = frame id ∷ [];
   last = 1;
-  writes = wrote.again 1 0 Caller body 0 (lit≤ tt) (record { before = []; after = []; is = refl; place = refl }) (record { type = order; at = at; was = at; rest = []; carries = body_is; sent_at = at_epoch; sent_first_at = at_epoch; sealed_so = frame_sealed id valid }) wrote.done;
+  writes = wrote.again 1 0 Caller body 0 (lit≤ tt) (record { before = []; after = []; is = refl; place = refl }) (λ held. elim held [ ]) (record { none = λ gap m. elim m [ ] }) (record { type = order; at = at; was = at; rest = []; carries = body_is; sent_at = at_epoch; sent_first_at = at_epoch; sealed_so = frame_sealed id valid }) wrote.done;
   front = record { rest = []; is = refl };
 }
 
@@ -109,7 +110,7 @@ abbrev w_connection : List ℕ → List ℕ → Connection
 w_connection body written = record { opened = kept_end body; read = []; written = written; base = 0; gave = [] }
 
 abbrev w_state : List ℕ → List ℕ → EndState
-w_state body written = record { end = kept_end body; expected = 1; handled = []; doubt = None; connection = Some (w_connection body written) }
+w_state body written = record { end = kept_end body; expected = 1; handled = []; doubt = None; beside = []; offered = None; connection = Some (w_connection body written) }
 
 -- with what it wrote first, and the repeat
 abbrev w1 : List ℕ → List ℕ → Side
@@ -138,10 +139,10 @@ abbrev r_connection : List ℕ → List ℕ → Connection
 r_connection read gave = record { opened = new_end; read = read; written = []; base = 1; gave = gave }
 
 abbrev r_state : End → ℕ → List Handling → Connection → EndState
-r_state end expected handled connection = record { end = end; expected = expected; handled = handled; doubt = None; connection = Some connection }
+r_state end expected handled connection = record { end = end; expected = expected; handled = handled; doubt = None; beside = []; offered = None; connection = Some connection }
 
 abbrev r0 : List ℕ → List ℕ → Side
-r0 body text = rested (e3 body text) (record { end = new_end; expected = 1; handled = once body; doubt = None; connection = None })
+r0 body text = rested (e3 body text) (record { end = new_end; expected = 1; handled = once body; doubt = None; beside = []; offered = None; connection = None })
 
 abbrev r1 : List ℕ → List ℕ → Side
 r1 body text = opened_side (r0 body text) (r_state new_end 1 (once body) (r_connection [] [])) 2

@@ -28,7 +28,7 @@ connection read written gave = record { opened = new_end; read = read; written =
 
 -- an end that expects this number, with what it handled, on its connection
 abbrev pub state : End → ℕ → List Handling → Connection → EndState
-state end expected handled connection = record { end = end; expected = expected; handled = handled; doubt = None; connection = Some connection }
+state end expected handled connection = record { end = end; expected = expected; handled = handled; doubt = None; beside = []; offered = None; connection = Some connection }
 
 abbrev s1 : EndState
 s1 = state new_end 1 [] (connection [] [] [])
@@ -52,7 +52,7 @@ opens : {id : Identity} (o : Side) → SideStep id new_side o act.Opened a1
 opens o = world.opens 1 (lit< tt) (record { certain = refl; row = steps.opened })
 
 keeps : {id : Identity} (body : List ℕ) (o : Side) → SideStep id a1 o (act.Kept (Push (entry body))) (a2 body)
-keeps body o = world.rests (act.Kept (Push (entry body))) tt (record { certain = refl; row = steps.kept_push (entry body) })
+keeps body o = world.rests (act.Kept (Push (entry body))) tt (record { certain = refl; row = steps.kept_push (entry body) steps.adds })
 
 writes : {id : Identity} (body text : List ℕ) (o : Side) → Wrote id new_end (kept_end body) text → SideStep id (a2 body) o (act.Wrote text) (a3 body text)
 writes body text o lawful = world.writes text (record { certain = refl; row = steps.wrote text (connection [] [] []) refl lawful })

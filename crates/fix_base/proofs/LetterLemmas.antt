@@ -27,7 +27,7 @@ use Rattle.fix_base.proofs.PlainFields.{IsPlainField, plain_fields}
 use Rattle.fix_base.proofs.ShortFields.{clear_of, comp_id_clear, comp_id_short, IsShortField, short_fields}
 use Rattle.fix_base.proofs.TimeTexts.{any_time_text_no_soh}
 use Rattle.fix_base.proofs.Seals.{sealed_is_frame}
-use Rattle.fix_base.proofs.ListLemmas.{prefix_of_nothing}
+use Rattle.fix_base.proofs.WholeLemmas.{push_grows}
 use Rattle.fix_base.proofs.WrittenLemmas.{original_is, app_original}
 
 pub number_clear : HasNoSoh (decimal 1)
@@ -150,7 +150,7 @@ pub record Letter (id : Identity) (body : List ℕ) : Type 0 where
 
 lawful : (id : Identity) → IsValidIdentity id → Wrote id new_end (folded new_end (Push entry)) (frame id)
 lawful id valid = record {
-  grew = prefix_of_nothing (entry ∷ []);
+  grew = push_grows new_end entry;
   texts = frame id ∷ [];
   last = 1;
   writes = wrote.original 1 entry (lit≤ tt) (lit< tt) (record { before = []; after = []; is = refl; place = refl }) (record { type = order; at = at; rest = []; carries = wrote.app body_is; sent_at = at_epoch; sealed_so = frame_sealed id valid }) wrote.done;

@@ -1,72 +1,102 @@
 -- What each act and each move does to the parts of a state.
-use Rattle.std.proofs.Common.{◌≡◌, ◌⊎◌, inl, inr, ℕ, List, [], ◌∷◌, ◌++◌, Bool, Some, None, refl, sym, subst}
-use Rattle.fix_base.specs.Lists.{Among, IsPrefixOf}
-use Rattle.fix_base.specs.End.{Entry, Record, Push, Expect, Reset, End, folded}
+use Rattle.std.proofs.Common.{◌≡◌, inl, inr, ℕ, ◌==◌, if◌then◌else◌, List, [], ◌∷◌, ◌++◌, Bool, true, false, Some, None, refl, sym, ◌∙◌, subst}
+use Rattle.fix_base.specs.Lists.{Among, here, there}
+use Rattle.std.specs.List.{AllByRecursion}
+use Rattle.fix_base.specs.End.{Entry, Record, Push, Expect, Many, Withhold, Reset, End, folded, GrowsTo}
 use Rattle.fix_base.specs.Payload.{IsPersistentEntry, IsPersistent}
 use Rattle.fix_base.specs.Act as act
 use Rattle.fix_base.specs.Act.{Act}
 use Rattle.fix_base.proofs.Told.{WroteMessages}
 use Rattle.fix_base.specs.Session.{Identity}
 use Rattle.fix_base.specs.EndStep as steps
-use Rattle.fix_base.specs.EndStep.{Connection, EndState, MayHand, Row, Move}
+use Rattle.fix_base.specs.EndStep.{Connection, EndState, MayHand, Pushed, Row, Move}
 use Rattle.fix_base.specs.World.{IsPlainRecord, IsPlain, IsQuiet}
-use Rattle.fix_base.proofs.ListLemmas.{some_same, prefix_refl, prefix_append, Among-append_cases, Among-cons_cases}
+use Rattle.fix_base.proofs.ListLemmas.{some_same, Among-append_cases}
+use Rattle.fix_base.proofs.WroteLemmas.{GrowsTo-refl}
 use Rattle.fix_base.proofs.WrittenLemmas.{wrote_of}
+use Rattle.fix_base.proofs.WholeLemmas.{push_grows, expect_grows, many_grows, withhold_grows}
+use Rattle.fix_base.proofs.FollowsLemmas.{pushed_end, pushed_connection, pushed_doubt, linked}
 
 -- a record that is no reset only adds
-pub folded_grows : (e : End) (r : Record) → IsPlainRecord r → IsPrefixOf e.out (folded e r).out
-folded_grows e (Push entry) h = prefix_append e.out (entry ∷ [])
-folded_grows e (Expect k) h = prefix_refl e.out
+pub folded_grows : (e : End) (r : Record) → IsPlainRecord r → GrowsTo e (folded e r)
+folded_grows e (Push entry) h = push_grows e entry
+folded_grows e (Expect k) h = expect_grows e k
+folded_grows e (Many pushes k) h = many_grows e pushes k
+folded_grows e (Withhold n) h = withhold_grows e n
 folded_grows e (Reset t) h = absurd h
 
+each_persistent : (x : Entry) (pushes : List Entry) → AllByRecursion IsPersistentEntry pushes → Among x pushes → IsPersistentEntry x
+each_persistent x [] h m = elim m [ ]
+each_persistent x (e ∷ pushes) h here = h.0
+each_persistent x (e ∷ pushes) h (there m) = each_persistent x pushes h.1 m
+
+-- entries that may be sent again are added
+added_persistent : (e : End) (pushes : List Entry) (x : Entry) → AllByRecursion IsPersistentEntry pushes → IsPersistent e → Among x (e.out ++ pushes) → IsPersistentEntry x
+added_persistent e pushes x h p m = elim (Among-append_cases e.out pushes m) [ inl old ↦ p.each x old | inr new ↦ each_persistent x pushes h new ]
+
+expecting_out : (f : End) (none : Bool) (k : ℕ) → (if none then f else record f { stored = k }).out ≡ f.out
+expecting_out f true k = refl
+expecting_out f false k = refl
+
 pub folded_persistent : (e : End) (r : Record) → IsPlainRecord r → IsPersistent e → IsPersistent (folded e r)
-folded_persistent e (Push entry) h p = record { each = λ x m. one_of x (Among-append_cases e.out (entry ∷ []) m) }
-  where
-    one_of : (x : Entry) → Among x e.out ⊎ Among x (entry ∷ []) → IsPersistentEntry x
-    one_of x (inl m) = p.each x m
-    one_of x (inr m) = elim (Among-cons_cases m) [ inl same ↦ subst IsPersistentEntry (sym same) h | inr none ↦ elim none [ ] ]
+folded_persistent e (Push entry) h p = record { each = λ x m. added_persistent e (entry ∷ []) x (h, tt) p m }
 folded_persistent e (Expect k) h p = record { each = p.each }
+folded_persistent e (Many pushes k) h p = record { each = λ x m. added_persistent e pushes x h p (subst (λ w. Among x w) (expecting_out (record e { out = e.out ++ pushes }) (k == 0) k) m) }
+folded_persistent e (Withhold n) h p = record { each = p.each }
 folded_persistent e (Reset t) h p = absurd h
 
 -- ---- an act
 
-pub row_grows : {id : Identity} {s s' : EndState} {x : Act} → Row id s x s' → IsPlain x → IsPrefixOf s.end.out s'.end.out
-row_grows {s = s} steps.opened h = prefix_refl s.end.out
-row_grows {s = s} (steps.now t) h = prefix_refl s.end.out
-row_grows {s = s} (steps.idle c o) h = prefix_refl s.end.out
-row_grows {s = s} (steps.ended c o) h = prefix_refl s.end.out
-row_grows {s = s} (steps.read b c o) h = prefix_refl s.end.out
-row_grows {s = s} (steps.wrote b c o w) h = prefix_refl s.end.out
-row_grows {s = s} (steps.kept_push e) h = folded_grows s.end (Push e) h
-row_grows {s = s} (steps.kept_reject e item rejects) h = folded_grows s.end (Push e) h
-row_grows {s = s} (steps.kept_expect k at) h = prefix_refl s.end.out
-row_grows {s = s} (steps.kept_reset t) h = absurd h
-row_grows {s = s} (steps.handed c n marked body may) h = prefix_refl s.end.out
-row_grows {s = s} (steps.hand_lost c n marked body may) h = prefix_refl s.end.out
-row_grows {s = s} (steps.lost_push e) h = prefix_refl s.end.out
-row_grows {s = s} (steps.lost_expect k at) h = prefix_refl s.end.out
-row_grows {s = s} (steps.lost_reset t) h = prefix_refl s.end.out
-row_grows {s = s} steps.cut h = prefix_refl s.end.out
-row_grows {s = s} steps.stopped h = prefix_refl s.end.out
+push_of : {s s' : EndState} {e : Entry} → Pushed s e s' → IsPersistentEntry e → GrowsTo s.end s'.end
+push_of {s = s} {e = e} pushed h = subst (λ (f : End). GrowsTo s.end f) (sym (pushed_end pushed)) (push_grows s.end e)
 
-pub row_persistent : {id : Identity} {s s' : EndState} {x : Act} → Row id s x s' → IsPlain x → IsPersistent s.end → IsPersistent s'.end
-row_persistent {s = s} steps.opened h p = p
-row_persistent {s = s} (steps.now t) h p = p
-row_persistent {s = s} (steps.idle c o) h p = p
-row_persistent {s = s} (steps.ended c o) h p = p
-row_persistent {s = s} (steps.read b c o) h p = p
-row_persistent {s = s} (steps.wrote b c o w) h p = p
-row_persistent {s = s} (steps.kept_push e) h p = folded_persistent s.end (Push e) h p
-row_persistent {s = s} (steps.kept_reject e item rejects) h p = folded_persistent s.end (Push e) h p
-row_persistent {s = s} (steps.kept_expect k at) h p = folded_persistent s.end (Expect k) h p
-row_persistent {s = s} (steps.kept_reset t) h p = absurd h
-row_persistent {s = s} (steps.handed c n marked body may) h p = p
-row_persistent {s = s} (steps.hand_lost c n marked body may) h p = p
-row_persistent {s = s} (steps.lost_push e) h p = p
-row_persistent {s = s} (steps.lost_expect k at) h p = p
-row_persistent {s = s} (steps.lost_reset t) h p = p
-row_persistent {s = s} steps.cut h p = p
-row_persistent {s = s} steps.stopped h p = p
+pub row_grows : {id : Identity} {s s' : EndState} {x : Act} → s.doubt ≡ None → Row id s x s' → IsPlain x → GrowsTo s.end s'.end
+row_grows {s = s} none steps.opened h = GrowsTo-refl s.end
+row_grows {s = s} none (steps.now t) h = GrowsTo-refl s.end
+row_grows {s = s} none (steps.idle c o) h = GrowsTo-refl s.end
+row_grows {s = s} none (steps.ended c o) h = GrowsTo-refl s.end
+row_grows {s = s} none (steps.read b c o) h = GrowsTo-refl s.end
+row_grows {s = s} none (steps.wrote b c o w) h = GrowsTo-refl s.end
+row_grows {s = s} none (steps.kept_push e pushed) h = push_of pushed h
+row_grows {s = s} none (steps.kept_expect k at) h = folded_grows s.end (Expect k) h
+row_grows {s = s} none (steps.kept_many pushes k chain) h = subst (λ (f : End). GrowsTo s.end f) (sym (linked chain none).end) (many_grows s.end pushes k)
+row_grows {s = s} none (steps.kept_withhold n offered) h = withhold_grows s.end n
+row_grows {s = s} none (steps.kept_reset t) h = absurd h
+row_grows {s = s} none (steps.handed c n marked body may) h = GrowsTo-refl s.end
+row_grows {s = s} none (steps.hand_lost c n marked body may) h = GrowsTo-refl s.end
+row_grows {s = s} none (steps.allowed n may) h = GrowsTo-refl s.end
+row_grows {s = s} none (steps.offers n may) h = GrowsTo-refl s.end
+row_grows {s = s} none (steps.lost_push e) h = GrowsTo-refl s.end
+row_grows {s = s} none (steps.lost_expect k at) h = GrowsTo-refl s.end
+row_grows {s = s} none (steps.lost_many pushes k chain) h = GrowsTo-refl s.end
+row_grows {s = s} none (steps.lost_withhold n offered) h = GrowsTo-refl s.end
+row_grows {s = s} none (steps.lost_reset t) h = GrowsTo-refl s.end
+row_grows {s = s} none steps.cut h = GrowsTo-refl s.end
+row_grows {s = s} none steps.stopped h = GrowsTo-refl s.end
+
+pub row_persistent : {id : Identity} {s s' : EndState} {x : Act} → s.doubt ≡ None → Row id s x s' → IsPlain x → IsPersistent s.end → IsPersistent s'.end
+row_persistent {s = s} none steps.opened h p = p
+row_persistent {s = s} none (steps.now t) h p = p
+row_persistent {s = s} none (steps.idle c o) h p = p
+row_persistent {s = s} none (steps.ended c o) h p = p
+row_persistent {s = s} none (steps.read b c o) h p = p
+row_persistent {s = s} none (steps.wrote b c o w) h p = p
+row_persistent {s = s} none (steps.kept_push e pushed) h p = subst IsPersistent (sym (pushed_end pushed)) (folded_persistent s.end (Push e) h p)
+row_persistent {s = s} none (steps.kept_expect k at) h p = folded_persistent s.end (Expect k) h p
+row_persistent {s = s} none (steps.kept_many pushes k chain) h p = subst IsPersistent (sym (linked chain none).end) (folded_persistent s.end (Many pushes k) h p)
+row_persistent {s = s} none (steps.kept_withhold n offered) h p = folded_persistent s.end (Withhold n) h p
+row_persistent {s = s} none (steps.kept_reset t) h p = absurd h
+row_persistent {s = s} none (steps.handed c n marked body may) h p = p
+row_persistent {s = s} none (steps.hand_lost c n marked body may) h p = p
+row_persistent {s = s} none (steps.allowed n may) h p = p
+row_persistent {s = s} none (steps.offers n may) h p = p
+row_persistent {s = s} none (steps.lost_push e) h p = p
+row_persistent {s = s} none (steps.lost_expect k at) h p = p
+row_persistent {s = s} none (steps.lost_many pushes k chain) h p = p
+row_persistent {s = s} none (steps.lost_withhold n offered) h p = p
+row_persistent {s = s} none (steps.lost_reset t) h p = p
+row_persistent {s = s} none steps.cut h p = p
+row_persistent {s = s} none steps.stopped h p = p
 
 lost_plain : (r q : Record) → IsPlainRecord r → Some r ≡ Some q → IsPlainRecord q
 lost_plain r q h e = subst IsPlainRecord (some_same r q e) h
@@ -79,37 +109,47 @@ row_plain (steps.idle c o) none h r e = cc
 row_plain (steps.ended c o) none h r e = cc
 row_plain (steps.read b c o) none h r e = cc
 row_plain (steps.wrote b c o w) none h r e = cc
-row_plain (steps.kept_push k) none h r e = cc
-row_plain (steps.kept_reject k item rejects) none h r e = cc
+row_plain (steps.kept_push k pushed) none h r e = (let certain = pushed_doubt pushed in cc)
 row_plain (steps.kept_expect k at) none h r e = cc
+row_plain (steps.kept_many pushes k chain) none h r e = (let certain = (linked chain none).certain in cc)
+row_plain (steps.kept_withhold n offered) none h r e = cc
 row_plain (steps.kept_reset t) none h r e = absurd h
 row_plain (steps.handed c n marked body may) none h r e = cc
 row_plain (steps.hand_lost c n marked body may) none h r e = cc
+row_plain (steps.allowed n may) none h r e = cc
+row_plain (steps.offers n may) none h r e = cc
 row_plain (steps.lost_push k) none h r e = lost_plain (Push k) r h e
 row_plain (steps.lost_expect k at) none h r e = lost_plain (Expect k) r tt e
+row_plain (steps.lost_many pushes k chain) none h r e = lost_plain (Many pushes k) r h e
+row_plain (steps.lost_withhold n offered) none h r e = lost_plain (Withhold n) r tt e
 row_plain (steps.lost_reset t) none h r e = absurd h
 row_plain steps.cut none h r e = cc
 row_plain steps.stopped none h r e = cc
 
 -- a quiet act leaves the connection, or ends it
-pub quiet_connection : {id : Identity} {s s' : EndState} {x : Act} → Row id s x s' → IsQuiet x → (c : Connection) → s'.connection ≡ Some c → s.connection ≡ Some c
-quiet_connection steps.opened q c e = absurd q
-quiet_connection (steps.now t) q c e = e
-quiet_connection (steps.idle k o) q c e = e
-quiet_connection (steps.ended k o) q c e = e
-quiet_connection (steps.read b k o) q c e = absurd q
-quiet_connection (steps.wrote b k o w) q c e = absurd q
-quiet_connection (steps.kept_push k) q c e = e
-quiet_connection (steps.kept_reject k item rejects) q c e = e
-quiet_connection (steps.kept_expect k at) q c e = e
-quiet_connection (steps.kept_reset t) q c e = cc
-quiet_connection (steps.handed k n marked body may) q c e = absurd q
-quiet_connection (steps.hand_lost k n marked body may) q c e = absurd q
-quiet_connection (steps.lost_push k) q c e = cc
-quiet_connection (steps.lost_expect k at) q c e = cc
-quiet_connection (steps.lost_reset t) q c e = cc
-quiet_connection steps.cut q c e = cc
-quiet_connection steps.stopped q c e = cc
+pub quiet_connection : {id : Identity} {s s' : EndState} {x : Act} → s.doubt ≡ None → Row id s x s' → IsQuiet x → (c : Connection) → s'.connection ≡ Some c → s.connection ≡ Some c
+quiet_connection none steps.opened q c e = absurd q
+quiet_connection none (steps.now t) q c e = e
+quiet_connection none (steps.idle k o) q c e = e
+quiet_connection none (steps.ended k o) q c e = e
+quiet_connection none (steps.read b k o) q c e = absurd q
+quiet_connection none (steps.wrote b k o w) q c e = absurd q
+quiet_connection none (steps.kept_push k pushed) q c e = sym (pushed_connection pushed) ∙ e
+quiet_connection none (steps.kept_expect k at) q c e = e
+quiet_connection none (steps.kept_many pushes k chain) q c e = sym (linked chain none).connection ∙ e
+quiet_connection none (steps.kept_withhold n offered) q c e = e
+quiet_connection none (steps.kept_reset t) q c e = cc
+quiet_connection none (steps.handed k n marked body may) q c e = absurd q
+quiet_connection none (steps.hand_lost k n marked body may) q c e = absurd q
+quiet_connection none (steps.allowed n may) q c e = e
+quiet_connection none (steps.offers n may) q c e = e
+quiet_connection none (steps.lost_push k) q c e = cc
+quiet_connection none (steps.lost_expect k at) q c e = cc
+quiet_connection none (steps.lost_many pushes k chain) q c e = cc
+quiet_connection none (steps.lost_withhold n offered) q c e = cc
+quiet_connection none (steps.lost_reset t) q c e = cc
+quiet_connection none steps.cut q c e = cc
+quiet_connection none steps.stopped q c e = cc
 
 -- ---- the acts that do something to the connection
 
@@ -158,13 +198,13 @@ lost_row (steps.hand_lost c n marked body may) = record { was = c; may = may; co
 abbrev pub DoubtIsPlain : EndState → Type 0
 DoubtIsPlain s = (r : Record) → s.doubt ≡ Some r → IsPlainRecord r
 
-pub move_grows : {s s' : EndState} → Move s s' → DoubtIsPlain s → IsPrefixOf s.end.out s'.end.out
-move_grows {s = s} (steps.settles_without r e) plain = prefix_refl s.end.out
+pub move_grows : {s s' : EndState} → Move s s' → DoubtIsPlain s → GrowsTo s.end s'.end
+move_grows {s = s} (steps.settles_without r e) plain = GrowsTo-refl s.end
 move_grows {s = s} (steps.settles_with r e) plain = folded_grows s.end r (plain r e)
-move_grows {s = s} (steps.past_admin c x o read at) plain = prefix_refl s.end.out
-move_grows {s = s} (steps.past_app c n marked body o read at grew) plain = prefix_refl s.end.out
-move_grows {s = s} (steps.past_gap c n m o read at lt) plain = prefix_refl s.end.out
-move_grows {s = s} (steps.reset_to c n m o read le) plain = prefix_refl s.end.out
+move_grows {s = s} (steps.past_admin c x o read at) plain = GrowsTo-refl s.end
+move_grows {s = s} (steps.past_app c n marked body o read at grew) plain = GrowsTo-refl s.end
+move_grows {s = s} (steps.past_gap c n m o read at lt) plain = GrowsTo-refl s.end
+move_grows {s = s} (steps.reset_to c n m o read le) plain = GrowsTo-refl s.end
 
 pub move_persistent : {s s' : EndState} → Move s s' → DoubtIsPlain s → IsPersistent s.end → IsPersistent s'.end
 move_persistent {s = s} (steps.settles_without r e) plain p = p

@@ -1,5 +1,5 @@
 -- What a side does as a reader: it keeps up, and marks are where they must be.
-use Rattle.std.proofs.Common.{◌≡◌, inl, inr, ℕ, ◌<◌, ◌≤◌, ◌==◌, List, [], ◌∷◌, ◌++◌, length, Bool, true, false, Some, None, refl, sym, ap, ◌∙◌, subst, eq-or-lt_of_le, arith}
+use Rattle.std.proofs.Common.{◌≡◌, ◌≢◌, inl, inr, ℕ, ◌<◌, ◌≤◌, ◌==◌, List, [], ◌∷◌, ◌++◌, length, Bool, true, false, Some, None, refl, sym, ap, ◌∙◌, subst, eq-or-lt_of_le, arith}
 use Rattle.std.proofs.lemmas.Bool.{eqb-true}
 use Rattle.fix_base.specs.Lists.{Among, here, there, IsPrefixOf}
 use Rattle.fix_base.specs.Message as message
@@ -8,15 +8,17 @@ use Rattle.fix_base.specs.End.{End}
 use Rattle.fix_base.specs.Act as act
 use Rattle.fix_base.specs.Act.{Act}
 use Rattle.fix_base.specs.Session.{Identity}
-use Rattle.fix_base.specs.EndStep.{Connection, EndState, WasRead, MayHand, EndStep, Move}
+use Rattle.fix_base.specs.EndStep as steps
+use Rattle.fix_base.specs.EndStep.{Connection, EndState, WasRead, MayHand, Row, EndStep, Move}
+use Rattle.fix_base.specs.Agrees.{Agrees}
 use Rattle.fix_base.specs.Reader.{Gives, handed, hand_lost, Follows}
 use Rattle.fix_base.specs.World as world
-use Rattle.fix_base.specs.World.{Logged, Given, Side, wrote_at, rested, SideStep}
+use Rattle.fix_base.specs.World.{Logged, Given, Side, wrote_at, rested, IsQuiet, SideStep}
 use Rattle.fix_base.proofs.ListLemmas.{some_same, Among-cons_cases}
 use Rattle.fix_base.proofs.BytesLemmas.{read_among, spells_nothing}
 use Rattle.fix_base.proofs.WroteLemmas.{Means, front_means, IsEntry-inside}
 use Rattle.fix_base.proofs.HandledLemmas.{test}
-use Rattle.fix_base.proofs.FollowsLemmas.{Hears, row_follows, move_follows}
+use Rattle.fix_base.proofs.FollowsLemmas.{Hears, KeepsBehind, row_follows, move_follows, behind_starts, row_behind, row_certain, move_open_behind, move_certain}
 use Rattle.fix_base.proofs.Ways as ways
 use Rattle.fix_base.proofs.Ways.{Later, Own, Comes, Way}
 use Rattle.fix_base.proofs.RowLemmas.{quiet_connection, opened_row, read_row, wrote_row, handed_row, lost_row, move_connection}
@@ -63,7 +65,7 @@ heard e f own c x (ways.some l m number front) r =
     }
 
 hears : (e f : Side) → Own f → Way e f → (h : End) → Later f e.number h → Hears e.state h
-hears e f own w h later = record { each = λ c o x r. (let k = heard e f own c x (w.read c o) r in record { old = k.logged.opened; means = k.means h later }) }
+hears e f own w h later = record { each = λ c o x r. (let k = heard e f own c x (w.read c o) r in record { old = k.logged.opened; means = k.means h later; behind = w.behind k.logged k.among k.number c o }) }
 
 -- the reader keeps up with each later moment over an act
 follows_on : {id : Identity} (e f : Side) (s' : EndState) (x : Act) → Own f → Way e f → EndStep id e.state x s' → (h : End) → Later f e.number h → Follows s' h
@@ -72,6 +74,13 @@ follows_on e f s' x own w step h later = row_follows e.state s' x h step.certain
 -- a message that is handed over is one of an entry at each later moment
 given_inside : (e f : Side) → Own f → Way e f → (c : Connection) (n : ℕ) (marked : Bool) (body : List ℕ) → MayHand e.state c n marked body → (h : End) → Later f e.number h → n ≤ length h.out
 given_inside e f own w c n marked body may h later = let k = heard e f own c (message.App n marked body) (w.read c may.is_open) may.frame in IsEntry-inside (k.means h later).0.entry
+
+-- a quiet act opens nothing
+not_opened : {x : Act} → IsQuiet x → x ≢ act.Opened
+not_opened quiet e = subst IsQuiet e quiet
+
+opens_behind : {id : Identity} {s s' : EndState} {old : End} → Row id s act.Opened s' → Agrees s.end.stored s.handled old → KeepsBehind old s'
+opens_behind {s = s} steps.opened a = record { each = (behind_starts s.expected a).each }
 
 -- each act of a reader
 pub reader_steps : {id : Identity} (e f e' : Side) (x : Act) → Own f → Way e f → SideStep id e f x e' → Way e' f
@@ -82,6 +91,8 @@ reader_steps e f e' x own w (world.opens {s' = s'} c lt step) =
       told = λ g m. (let old = w.told g m in omega arith);
       known = λ g m h later. w.known g m h (later_lower (omega arith) later);
       before = λ g m l among number below. w.known g m l.opened (ways.opened l among (omega arith));
+      certain = row_certain step.certain step.row;
+      behind = λ l m number d o. opens_behind step.row (w.follows l.opened (ways.opened l m (omega (arith, number, lt)))).now;
       gave = λ d o g m at. (let old = w.told g m in absurd (omega arith));
     }
 reader_steps e f e' x own w (world.reads {s' = s'} b c o front step) =
@@ -93,6 +104,8 @@ reader_steps e f e' x own w (world.reads {s' = s'} b c o front step) =
       told = w.told;
       known = w.known;
       before = w.before;
+      certain = row_certain step.certain step.row;
+      behind = λ l m number. row_behind l.opened (λ e. cc) step.certain step.row (w.behind l m number);
       gave = λ d q g m at. subst (λ (k : Connection). Among g.number k.gave) (some_same _ d (sym r.connection ∙ q)) (w.gave r.was r.is_open g m at);
     }
 reader_steps e f e' x own w (world.writes {s' = s'} b step) =
@@ -103,6 +116,8 @@ reader_steps e f e' x own w (world.writes {s' = s'} b step) =
       told = w.told;
       known = w.known;
       before = w.before;
+      certain = row_certain step.certain step.row;
+      behind = λ l m number. row_behind l.opened (λ e. cc) step.certain step.row (w.behind l m number);
       gave = λ d q g m at. subst (λ (k : Connection). Among g.number k.gave) (some_same _ d (sym r.connection ∙ q)) (w.gave r.was r.is_open g m at);
     }
 reader_steps e f e' x own w (world.hands {s' = s'} n marked body step) =
@@ -113,6 +128,8 @@ reader_steps e f e' x own w (world.hands {s' = s'} n marked body step) =
       told = λ g m. (elim (Among-cons_cases m) [ inl new ↦ le_of_number g (ap (λ (k : Given). k.connection) new) | inr old ↦ w.told g old ]);
       known = λ g m h later. (elim (Among-cons_cases m) [ inl new ↦ subst (λ (k : Given). k.number ≤ length h.out) (sym new) (given_inside e f own w r.was n marked body r.may h later) | inr old ↦ w.known g old h later ]);
       before = λ g m l among number below. (elim (Among-cons_cases m) [ inl new ↦ not_before g (ap (λ (k : Given). k.connection) new) below | inr old ↦ w.before g old l among number below ]);
+      certain = row_certain step.certain step.row;
+      behind = λ l m number. row_behind l.opened (λ e. cc) step.certain step.row (w.behind l m number);
       gave = λ d q g m at. subst (λ (k : Connection). Among g.number k.gave) (some_same _ d (sym r.connection ∙ q)) (elim (Among-cons_cases m) [ inl new ↦ subst (λ (k : Given). Among k.number (n ∷ r.was.gave)) (sym new) here | inr old ↦ there (w.gave r.was r.may.is_open g old at) ]);
     }
   where
@@ -129,6 +146,8 @@ reader_steps e f e' x own w (world.loses {s' = s'} n marked body step) =
       told = λ g m. (elim (Among-cons_cases m) [ inl new ↦ le_of_number g (ap (λ (k : Given). k.connection) new) | inr old ↦ w.told g old ]);
       known = λ g m h later. (elim (Among-cons_cases m) [ inl new ↦ subst (λ (k : Given). k.number ≤ length h.out) (sym new) (given_inside e f own w r.was n marked body r.may h later) | inr old ↦ w.known g old h later ]);
       before = λ g m l among number below. (elim (Among-cons_cases m) [ inl new ↦ not_before g (ap (λ (k : Given). k.connection) new) below | inr old ↦ w.before g old l among number below ]);
+      certain = row_certain step.certain step.row;
+      behind = λ l m number. row_behind l.opened (λ e. cc) step.certain step.row (w.behind l m number);
       gave = λ d q g m at. (let none : None ≡ Some d = sym r.connection ∙ q in cc);
     }
   where
@@ -140,11 +159,13 @@ reader_steps e f e' x own w (world.loses {s' = s'} n marked body step) =
 reader_steps e f e' x own w (world.rests {s' = s'} y quiet step) =
     record {
       follows = follows_on e f s' y own w step;
-      read = λ d q. w.read d (quiet_connection step.row quiet d q);
+      read = λ d q. w.read d (quiet_connection step.certain step.row quiet d q);
       told = w.told;
       known = w.known;
       before = w.before;
-      gave = λ d q. w.gave d (quiet_connection step.row quiet d q);
+      certain = row_certain step.certain step.row;
+      behind = λ l m number. row_behind l.opened (not_opened quiet) step.certain step.row (w.behind l m number);
+      gave = λ d q. w.gave d (quiet_connection step.certain step.row quiet d q);
     }
 
 pub reader_moves : (e f : Side) (s' : EndState) → Own f → Way e f → Move e.state s' → Way (rested e s') f
@@ -155,6 +176,8 @@ reader_moves e f s' own w m =
       told = w.told;
       known = w.known;
       before = w.before;
+      certain = move_certain m w.certain;
+      behind = λ l among number. move_open_behind l.opened m w.certain (w.behind l among number);
       gave = λ d q. w.gave d (move_connection m d q);
     }
 

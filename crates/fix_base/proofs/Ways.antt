@@ -5,6 +5,7 @@ use Rattle.fix_base.specs.End.{Record, End}
 use Rattle.fix_base.specs.Payload.{IsPersistent}
 use Rattle.fix_base.proofs.Told.{WroteMessages}
 use Rattle.fix_base.specs.EndStep.{Connection}
+use Rattle.fix_base.proofs.FollowsLemmas.{OpenCertain, OpenBehind}
 use Rattle.fix_base.specs.Reader.{Follows}
 use Rattle.fix_base.specs.World.{Logged, Given, Side, IsPlainRecord}
 
@@ -48,6 +49,10 @@ pub record Way (e f : Side) : Type 0 where
   pub known : (g : Given) → Among g e.given → (h : End) → Later f e.number h → g.number ≤ length h.out
   -- a number given before is one of an entry at the writer's Opened of this connection
   pub before : (g : Given) → Among g e.given → (l : Logged) → Among l f.log → l.number ≡ e.number → g.connection < e.number → g.number ≤ length l.opened.out
+  -- while a connection is open nothing is in doubt, and the reader has passed only what the writer could
+  -- skip when it opened the connection, or what was handled
+  pub certain : OpenCertain e.state
+  pub behind : (l : Logged) → Among l f.log → l.number ≡ e.number → OpenBehind l.opened e.state
   pub gave : (c : Connection) → e.state.connection ≡ Some c → (g : Given) → Among g e.given → g.connection ≡ e.number → Among g.number c.gave
 
 -- what is true of two ends

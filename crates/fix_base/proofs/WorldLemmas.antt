@@ -7,7 +7,8 @@ use Rattle.fix_base.specs.Act.{Act}
 use Rattle.fix_base.specs.Session.{Identity}
 use Rattle.fix_base.specs.EndStep.{EndState, Move}
 use Rattle.fix_base.specs.World as world
-use Rattle.fix_base.specs.World.{Side, World, new_side, new_world, rested, SideStep, First, Second, Who, identity_of, side_of, other_of, with_side, Event, Does, WorldRun, IsPlain, EachPlain, AgreesWith, GivesBy, gives, MarksRepeats, WorldAgrees}
+use Rattle.fix_base.specs.World.{Side, World, new_side, new_world, rested, SideStep, First, Second, Who, identity_of, side_of, other_of, with_side, Event, Does, WorldRun, IsPlain, EachPlain, AgreesWith, GivesBy, gives, MarksRepeats, WorldAgrees, ComeInOrder}
+use Rattle.fix_base.proofs.StatedLemmas.{in_order}
 use Rattle.fix_base.proofs.FollowsLemmas.{Agrees-new, KeepsUp-more}
 use Rattle.fix_base.proofs.Ways as ways
 use Rattle.fix_base.proofs.Ways.{Later, Own, Way, Pair, swapped}
@@ -43,11 +44,13 @@ new_own = record { below = λ l m. elim m [ ]; last = λ c o. cc; wrote = λ l m
 new_way : Way new_side new_side
 new_way =
     record {
-      follows = λ h later. record { now = Agrees-new h.out; running = λ e. Agrees-new h.out; settled = λ r e. cc };
+      follows = λ h later. record { now = Agrees-new h; running = λ e. Agrees-new h; settled = λ r e. cc };
       read = λ c o. cc;
       told = λ g m. elim m [ ];
       known = λ g m. elim m [ ];
       before = λ g m. elim m [ ];
+      certain = λ c o. refl;
+      behind = λ l m. elim m [ ];
       gave = λ c o. cc;
     }
 
@@ -138,3 +141,9 @@ pub agrees : (id : Identity) (w : World) (events : List Event) → WorldRun id n
 agrees id w events d plain =
     let p = along d plain new_holds in
     record { first = agrees_with w.first w.second p.own_other p.way; second = agrees_with w.second w.first p.own p.back; marks = marks w events d plain }
+
+-- nothing comes behind a later message
+pub come_in_order : (id : Identity) (w : World) (events : List Event) → WorldRun id new_world events w → EachPlain events → ComeInOrder w
+come_in_order id w events d plain =
+    let a = agrees id w events d plain in
+    record { first = in_order w.first.state.end.stored w.first.state.handled w.second.state.end a.first.now.now; second = in_order w.second.state.end.stored w.second.state.handled w.first.state.end a.second.now.now }

@@ -1,7 +1,7 @@
 -- What a side does as a writer: it stays lawful by itself, and its reader keeps up.
 use Rattle.std.proofs.Common.{◌≡◌, ◌⊎◌, inl, inr, ℕ, ◌<◌, ◌≤◌, List, [], ◌∷◌, ◌++◌, length, Some, None, refl, sym, ap, ◌∙◌, subst, arith}
 use Rattle.fix_base.specs.Lists.{Among, here, there, IsPrefixOf}
-use Rattle.fix_base.specs.End.{End}
+use Rattle.fix_base.specs.End.{End, GrowsTo}
 use Rattle.fix_base.specs.Payload.{IsPersistent}
 use Rattle.fix_base.specs.Act as act
 use Rattle.fix_base.specs.Act.{Act}
@@ -11,8 +11,8 @@ use Rattle.fix_base.specs.EndStep.{Connection, EndState, EndStep, Move}
 use Rattle.fix_base.specs.World as world
 use Rattle.fix_base.specs.World.{Logged, Given, Side, grown_log, opened_side, wrote_side, rested, SideStep, IsPlainRecord, IsPlain, IsQuiet}
 use Rattle.fix_base.proofs.ListLemmas.{some_same, length-prefix, Among-cons_cases, prefix_refl, prefix_append, prefix_trans}
-use Rattle.fix_base.proofs.WroteLemmas.{WroteMessages-more, WroteMessages-nothing}
-use Rattle.fix_base.proofs.FollowsLemmas.{KeepsUp-more}
+use Rattle.fix_base.proofs.WroteLemmas.{GrowsTo-refl, WroteMessages-more, WroteMessages-nothing}
+use Rattle.fix_base.proofs.FollowsLemmas.{KeepsUp-more, OpenBehind, behind_starts}
 use Rattle.fix_base.proofs.Ways as ways
 use Rattle.fix_base.proofs.Ways.{Later, IsLast, Own, Comes, Way}
 use Rattle.fix_base.proofs.RowLemmas.{row_grows, row_persistent, row_plain, quiet_connection, opened_row, read_row, WroteRow, wrote_row, handed_row, lost_row, DoubtIsPlain, move_grows, move_persistent, move_plain, move_connection}
@@ -55,7 +55,7 @@ grown_still (k ∷ log) b l (there m) = still_same (there m)
 record Back (f : Side) (c : ℕ) (h : End) : Type 0 where
   was : End
   later : Later f c was
-  grew : IsPrefixOf was.out h.out
+  grew : GrowsTo was h
 
 record Grows (f f' : Side) : Type 0 where
   later : (c : ℕ) (h : End) → Later f' c h → Back f c h
@@ -69,8 +69,10 @@ way_grown e f f' w g =
       follows = λ h later. (let b = g.later e.number h later in KeepsUp-more b.grew (w.follows b.was b.later));
       read = λ c o. comes (w.read c o);
       told = w.told;
-      known = λ n m h later. (let b = g.later e.number h later in let known = w.known n m b.was b.later in let longer = length-prefix b.grew in omega arith);
+      known = λ n m h later. (let b = g.later e.number h later in let known = w.known n m b.was b.later in let longer = length-prefix b.grew.out in omega arith);
       before = λ n m l among number lt. before n m l lt number (g.logged l among);
+      certain = w.certain;
+      behind = λ l m number. behind l number (g.logged l m);
       gave = w.gave;
     }
   where
@@ -82,24 +84,28 @@ way_grown e f f' w g =
     before n m l lt number (inl was) = subst (λ (h : End). n.number ≤ length h.out) was.opened (w.before n m was.was was.among (was.number ∙ number) lt)
     before n m l lt number (inr new) = subst (λ (h : End). n.number ≤ length h.out) (sym new) (w.known n m f.state.end ways.now)
 
+    behind : (l : Logged) → l.number ≡ e.number → WasIn f.log l ⊎ (l.opened ≡ f.state.end) → OpenBehind l.opened e.state
+    behind l number (inl was) = subst (λ h. OpenBehind h e.state) was.opened (w.behind was.was was.among (was.number ∙ number))
+    behind l number (inr new) = subst (λ h. OpenBehind h e.state) (sym new) (λ c o. behind_starts e.state.expected (w.follows f.state.end ways.now).now)
+
 -- where the log stays
-same_log : (f : Side) (s' : EndState) (given : List Given) → IsPrefixOf f.state.end.out s'.end.out → Grows f (record { state = s'; number = f.number; log = f.log; given = given })
+same_log : (f : Side) (s' : EndState) (given : List Given) → GrowsTo f.state.end s'.end → Grows f (record { state = s'; number = f.number; log = f.log; given = given })
 same_log f s' given p = record { later = λ c h l. back c h l; logged = λ l m. inl (was_same m); wrote = λ l m. still_same m }
   where
     back : (c : ℕ) (h : End) → Later (record { state = s'; number = f.number; log = f.log; given = given }) c h → Back f c h
     back c h ways.now = record { was = f.state.end; later = ways.now; grew = p }
-    back c h (ways.opened l m lt) = record { was = l.opened; later = ways.opened l m lt; grew = prefix_refl l.opened.out }
+    back c h (ways.opened l m lt) = record { was = l.opened; later = ways.opened l m lt; grew = GrowsTo-refl l.opened }
 
 -- where a connection was opened
-more_log : (f : Side) (s' : EndState) (n : ℕ) → IsPrefixOf f.state.end.out s'.end.out → Grows f (opened_side f s' n)
+more_log : (f : Side) (s' : EndState) (n : ℕ) → GrowsTo f.state.end s'.end → Grows f (opened_side f s' n)
 more_log f s' n p = record { later = λ c h l. back c h l; logged = λ l m. logged l m; wrote = λ l m. still_same (there m) }
   where
     new : Logged
     new = record { number = n; opened = f.state.end; wrote = [] }
 
     back_log : (c : ℕ) (l : Logged) → Among l (new ∷ f.log) → c < l.number → Back f c l.opened
-    back_log c l here lt = record { was = f.state.end; later = ways.now; grew = prefix_refl f.state.end.out }
-    back_log c l (there m) lt = record { was = l.opened; later = ways.opened l m lt; grew = prefix_refl l.opened.out }
+    back_log c l here lt = record { was = f.state.end; later = ways.now; grew = GrowsTo-refl f.state.end }
+    back_log c l (there m) lt = record { was = l.opened; later = ways.opened l m lt; grew = GrowsTo-refl l.opened }
 
     back : (c : ℕ) (h : End) → Later (opened_side f s' n) c h → Back f c h
     back c h ways.now = record { was = f.state.end; later = ways.now; grew = p }
@@ -110,23 +116,23 @@ more_log f s' n p = record { later = λ c h l. back c h l; logged = λ l m. logg
     logged l (there m) = inl (was_same m)
 
 -- where the last connection's bytes have grown
-grown_log_grows : (f : Side) (s' : EndState) (b : List ℕ) → IsPrefixOf f.state.end.out s'.end.out → Grows f (wrote_side f s' b)
+grown_log_grows : (f : Side) (s' : EndState) (b : List ℕ) → GrowsTo f.state.end s'.end → Grows f (wrote_side f s' b)
 grown_log_grows f s' b p = record { later = λ c h l. back c h l; logged = λ l m. inl (grown_was f.log b l m); wrote = λ l m. grown_still f.log b l m }
   where
     back : (c : ℕ) (h : End) → Later (wrote_side f s' b) c h → Back f c h
     back c h ways.now = record { was = f.state.end; later = ways.now; grew = p }
     back c h (ways.opened l m lt) =
         let was = grown_was f.log b l m in
-        record { was = was.was.opened; later = ways.opened was.was was.among (omega (arith, was.number)); grew = subst (λ (k : End). IsPrefixOf was.was.opened.out k.out) was.opened (prefix_refl was.was.opened.out) }
+        record { was = was.was.opened; later = ways.opened was.was was.among (omega (arith, was.number)); grew = subst (λ (k : End). GrowsTo was.was.opened k) was.opened (GrowsTo-refl was.was.opened) }
 
 -- each act of a writer
 step_grows : {id : Identity} (f o f' : Side) (x : Act) → SideStep id f o x f' → IsPlain x → Grows f f'
-step_grows f o f' x (world.opens {s' = s'} c lt step) h = more_log f s' c (row_grows step.row h)
-step_grows f o f' x (world.reads {s' = s'} b c open_at front step) h = same_log f s' f.given (row_grows step.row h)
-step_grows f o f' x (world.writes {s' = s'} b step) h = grown_log_grows f s' b (row_grows step.row h)
-step_grows f o f' x (world.hands {s' = s'} n marked body step) h = same_log f s' (record { number = n; connection = f.number } ∷ f.given) (row_grows step.row h)
-step_grows f o f' x (world.loses {s' = s'} n marked body step) h = same_log f s' (record { number = n; connection = f.number } ∷ f.given) (row_grows step.row h)
-step_grows f o f' x (world.rests {s' = s'} y quiet step) h = same_log f s' f.given (row_grows step.row h)
+step_grows f o f' x (world.opens {s' = s'} c lt step) h = more_log f s' c (row_grows step.certain step.row h)
+step_grows f o f' x (world.reads {s' = s'} b c open_at front step) h = same_log f s' f.given (row_grows step.certain step.row h)
+step_grows f o f' x (world.writes {s' = s'} b step) h = grown_log_grows f s' b (row_grows step.certain step.row h)
+step_grows f o f' x (world.hands {s' = s'} n marked body step) h = same_log f s' (record { number = n; connection = f.number } ∷ f.given) (row_grows step.certain step.row h)
+step_grows f o f' x (world.loses {s' = s'} n marked body step) h = same_log f s' (record { number = n; connection = f.number } ∷ f.given) (row_grows step.certain step.row h)
+step_grows f o f' x (world.rests {s' = s'} y quiet step) h = same_log f s' f.given (row_grows step.certain step.row h)
 
 pub writer_steps : {id : Identity} (e f o f' : Side) (x : Act) → Way e f → SideStep id f o x f' → IsPlain x → Way e f'
 writer_steps e f o f' x w step h = way_grown e f f' w (step_grows f o f' x step h)
@@ -147,7 +153,7 @@ carries_same : {a : Side} {c : Connection} → a.state.connection ≡ Some c →
 carries_same {c = c} o = record { was = c; is_open = o; opened = refl; written = refl }
 
 -- where the log stays
-own_rests : (a : Side) (s' : EndState) (given : List Given) → Own a → IsPrefixOf a.state.end.out s'.end.out → IsPersistent s'.end → DoubtIsPlain s' → ((c : Connection) → s'.connection ≡ Some c → Carries a c) → Own (record { state = s'; number = a.number; log = a.log; given = given })
+own_rests : (a : Side) (s' : EndState) (given : List Given) → Own a → GrowsTo a.state.end s'.end → IsPersistent s'.end → DoubtIsPlain s' → ((c : Connection) → s'.connection ≡ Some c → Carries a c) → Own (record { state = s'; number = a.number; log = a.log; given = given })
 own_rests a s' given own p kept plain carries =
     let grows = same_log a s' given p in
     record {
@@ -173,8 +179,8 @@ own_opens a s' n own above step =
       persistent = λ c f later. persistent c f later;
     }
   where
-    p : IsPrefixOf a.state.end.out s'.end.out
-    p = row_grows step.row tt
+    p : GrowsTo a.state.end s'.end
+    p = row_grows step.certain step.row tt
 
     below : (l : Logged) → Among l (record { number = n; opened = a.state.end; wrote = [] } ∷ a.log) → l.number ≤ n
     below l here = omega arith
@@ -199,7 +205,7 @@ own_opens a s' n own above step =
     persistent_log c l (there m) lt = own.persistent c l.opened (ways.opened l m lt)
 
     persistent : (c : ℕ) (f : End) → Later (opened_side a s' n) c f → IsPersistent f
-    persistent c f ways.now = row_persistent step.row tt (own.persistent c a.state.end ways.now)
+    persistent c f ways.now = row_persistent step.certain step.row tt (own.persistent c a.state.end ways.now)
     persistent c f (ways.opened l m lt) = persistent_log c l m lt
 
 -- where something is written
@@ -223,8 +229,8 @@ own_writes a s' b own step =
       persistent = λ c f later. persistent c f later;
     }
   where
-    p : IsPrefixOf a.state.end.out s'.end.out
-    p = row_grows step.row tt
+    p : GrowsTo a.state.end s'.end
+    p = row_grows step.certain step.row tt
 
     grows : Grows a (wrote_side a s' b)
     grows = grown_log_grows a s' b p
@@ -246,7 +252,7 @@ own_writes a s' b own step =
     wrote_last l e = subst (λ (z : Logged). (f : End) → Later (wrote_side a s' b) z.number f → WroteMessages z.opened f z.wrote) (sym e) wrote_new
 
     persistent : (c : ℕ) (f : End) → Later (wrote_side a s' b) c f → IsPersistent f
-    persistent c f ways.now = row_persistent step.row tt (own.persistent c a.state.end ways.now)
+    persistent c f ways.now = row_persistent step.certain step.row tt (own.persistent c a.state.end ways.now)
     persistent c f (ways.opened l m lt) = let was = grown_was a.log b l m in subst IsPersistent was.opened (own.persistent c was.was.opened (ways.opened was.was was.among (omega (arith, was.number))))
 
 pub own_steps : {id : Identity} (a o a' : Side) (x : Act) → Own a → SideStep id a o x a' → IsPlain x → Own a'
@@ -254,19 +260,19 @@ own_steps a o a' x own (world.opens {s' = s'} c lt step) h = own_opens a s' c ow
 own_steps a o a' x own (world.writes {s' = s'} b step) h = own_writes a s' b own step
 own_steps a o a' x own (world.reads {s' = s'} b c open_at front step) h =
     let r = read_row step.row in
-    own_rests a s' a.given own (row_grows step.row h) (row_persistent step.row h (own.persistent 0 a.state.end ways.now)) (row_plain step.row step.certain h)
+    own_rests a s' a.given own (row_grows step.certain step.row h) (row_persistent step.certain step.row h (own.persistent 0 a.state.end ways.now)) (row_plain step.row step.certain h)
     (λ d e. let same = some_same _ d (sym r.connection ∙ e) in record { was = r.was; is_open = r.is_open; opened = ap (λ (k : Connection). k.opened) same; written = ap (λ (k : Connection). k.written) same })
 own_steps a o a' x own (world.hands {s' = s'} n marked body step) h =
     let r = handed_row step.row in
-    own_rests a s' (record { number = n; connection = a.number } ∷ a.given) own (row_grows step.row h) (row_persistent step.row h (own.persistent 0 a.state.end ways.now)) (row_plain step.row step.certain h)
+    own_rests a s' (record { number = n; connection = a.number } ∷ a.given) own (row_grows step.certain step.row h) (row_persistent step.certain step.row h (own.persistent 0 a.state.end ways.now)) (row_plain step.row step.certain h)
     (λ d e. let same = some_same _ d (sym r.connection ∙ e) in record { was = r.was; is_open = r.may.is_open; opened = ap (λ (k : Connection). k.opened) same; written = ap (λ (k : Connection). k.written) same })
 own_steps a o a' x own (world.loses {s' = s'} n marked body step) h =
     let r = lost_row step.row in
-    own_rests a s' (record { number = n; connection = a.number } ∷ a.given) own (row_grows step.row h) (row_persistent step.row h (own.persistent 0 a.state.end ways.now)) (row_plain step.row step.certain h)
+    own_rests a s' (record { number = n; connection = a.number } ∷ a.given) own (row_grows step.certain step.row h) (row_persistent step.certain step.row h (own.persistent 0 a.state.end ways.now)) (row_plain step.row step.certain h)
     (λ d e. let none : None ≡ Some d = sym r.connection ∙ e in cc)
 own_steps a o a' x own (world.rests {s' = s'} y quiet step) h =
-    own_rests a s' a.given own (row_grows step.row h) (row_persistent step.row h (own.persistent 0 a.state.end ways.now)) (row_plain step.row step.certain h)
-    (λ d e. carries_same (quiet_connection step.row quiet d e))
+    own_rests a s' a.given own (row_grows step.certain step.row h) (row_persistent step.certain step.row h (own.persistent 0 a.state.end ways.now)) (row_plain step.row step.certain h)
+    (λ d e. carries_same (quiet_connection step.certain step.row quiet d e))
 
 pub own_moves : (a : Side) (s' : EndState) → Own a → Move a.state s' → Own (rested a s')
 own_moves a s' own m =

@@ -18,7 +18,8 @@ use Rattle.fix_base.specs.Says.{value_of, times_of, field_text, fields_text, bod
 use Rattle.fix_base.specs.End.{Entry, End, IsEntry}
 use Rattle.fix_base.specs.Payload.{field, IsEntryField, IsAppType}
 use Rattle.fix_base.specs.Wrote as wrote
-use Rattle.fix_base.specs.Wrote.{IsSealed, original_fields, repeat_fields, gap_fields, Carries, IsOriginal, AdminsBetween, Writes, Wrote}
+use Rattle.fix_base.specs.Wrote.{IsSealed, original_fields, repeat_fields, gap_fields, Carries, IsOriginal, IsRepeat, SkipsBetween, Gap, Writes, Wrote}
+use Rattle.fix_base.proofs.WroteLemmas.{IsSkipped-some}
 use Rattle.fix_base.proofs.HandledLemmas.{test}
 use Rattle.fix_base.proofs.Seals.{AreOfMessage, sealed_is_frame, sealed_has_fields}
 use Rattle.fix_base.proofs.Told as told
@@ -125,7 +126,7 @@ repeat_is id number at was type rest each =
       each = (body_field 35 type (lit< tt), (body_field 34 number (lit< tt), (body_field 43 _ (lit< tt), (body_field 49 id.sender (lit< tt), (body_field 52 at (lit< tt), (body_field 56 id.target (lit< tt), (body_field 122 was (lit< tt), body_fields rest each)))))));
     }
 
-gap_is : (id : Identity) (number next at : List ℕ) → AreOfMessage (gap_fields id number next at)
+pub gap_is : (id : Identity) (number next at : List ℕ) → AreOfMessage (gap_fields id number next at)
 gap_is id number next at =
     let fields = gap_fields id number next at in
     record {
@@ -177,11 +178,11 @@ gap_says id number next n m at is next_is =
 -- ---- the frames
 
 -- an original, and what it says
-record Original (n : ℕ) (e : Entry) (text : List ℕ) : Type 0 where
-  message : Message
-  is : OriginalSays n e message
-  frame : IsFrame text
-  says : Says text message
+pub record Original (n : ℕ) (e : Entry) (text : List ℕ) : Type 0 where
+  pub message : Message
+  pub is : OriginalSays n e message
+  pub frame : IsFrame text
+  pub says : Says text message
 
 says_of : (id : Identity) (fields : List Field) (text : List ℕ) (x : Message) → AreOfMessage fields → IsSealed id fields text → message_of fields ≡ Some x → Says text x
 says_of id fields text x are s e = record { fields = fields; has = sealed_has_fields id fields text are s; says = e }
@@ -201,7 +202,11 @@ pub app_repeat : (id : Identity) (n : ℕ) (text at was type : List ℕ) (rest :
 app_repeat id n text at was type rest some le app each sealed_so =
     says_of id (repeat_fields id (decimal n) at was type rest) text _ (repeat_is id (decimal n) at was type rest each) sealed_so (repeat_app id (decimal n) n at was type rest (seq_num_decimal n some le) app each)
 
-original_of : (id : Identity) (n : ℕ) (e : Entry) (text at type : List ℕ) (rest : List Field) → 1 ≤ n → n ≤ 999999999 → Carries e type rest → IsSealed id (original_fields id (decimal n) at type rest) text → Original n e text
+pub gap_fill_says : (id : Identity) (n m : ℕ) (text at : List ℕ) → 1 ≤ n → n ≤ 999999999 → 1 ≤ m → m ≤ 1000000000 → IsSealed id (gap_fields id (decimal n) (decimal m) at) text → Says text (message.GapFill n m)
+gap_fill_says id n m text at some le more fits sealed_so =
+    says_of id (gap_fields id (decimal n) (decimal m) at) text _ (gap_is id (decimal n) (decimal m) at) sealed_so (gap_says id (decimal n) (decimal m) n m at (seq_num_decimal n some le) (new_seq_no_decimal m more fits))
+
+pub original_of : (id : Identity) (n : ℕ) (e : Entry) (text at type : List ℕ) (rest : List Field) → 1 ≤ n → n ≤ 999999999 → Carries e type rest → IsSealed id (original_fields id (decimal n) at type rest) text → Original n e text
 original_of id n e text at type rest some le (wrote.app {time = time} {by = by} {body = body} is) sealed_so =
     record {
       message = message.App n false body;
@@ -217,47 +222,49 @@ original_of id n e text at type rest some le (wrote.admin {time = time} {kind = 
       frame = sealed_is_frame id (original_fields id (decimal n) at (kind ∷ []) rest) text are sealed_so;
       says = says_of id (original_fields id (decimal n) at (kind ∷ []) rest) text _ are sealed_so (original_admin id (decimal n) n at (kind ∷ []) rest (seq_num_decimal n some le) (no_reset_type (kind ∷ []) admin) admin each);
     }
-original_of id n e text at type rest some le (wrote.withheld {time = time} {kind = kind} {about = about} is app each) sealed_so =
+original_of id n e text at type rest some le (wrote.once {time = time} {kind = kind} {about = about} is app each) sealed_so =
     record {
       message = message.App n false (fields_text (field 35 type ∷ rest));
-      is = told.withheld time kind about (fields_text (field 35 type ∷ rest)) is;
+      is = told.once time kind about (fields_text (field 35 type ∷ rest)) is;
       frame = sealed_is_frame id (original_fields id (decimal n) at type rest) text (original_is id (decimal n) at type rest each) sealed_so;
       says = app_original id n text at type rest some le app each sealed_so;
     }
 
 -- an entry's number is 1 or more
-entry_some : {out : List Entry} {n : ℕ} {e : Entry} → IsEntry out n e → 1 ≤ n
+pub entry_some : {out : List Entry} {n : ℕ} {e : Entry} → IsEntry out n e → 1 ≤ n
 entry_some h = let at = h.place in omega arith
 
-gap_some : {out : List Entry} {n m : ℕ} → n < m → AdminsBetween out n m → 1 ≤ n
-gap_some {n = n} lt h = entry_some (h.each n (le_refl n) lt).entry
+gap_some : {e : End} {n m : ℕ} → n < m → SkipsBetween e n m → 1 ≤ n
+gap_some {n = n} lt h = IsSkipped-some (h.each n (le_refl n) lt)
+
+pub repeat_says : (id : Identity) (n time : ℕ) (body : List ℕ) (t : ℕ) (text : List ℕ) → 1 ≤ n → n ≤ 999999999 → IsRepeat id n time body t text → Says text (message.App n true body)
+repeat_says id n time body t text some le is = subst (λ w. Says text (message.App n true w)) (sym is.carries.spelled) (app_repeat id n text is.at is.was is.type is.rest some le is.carries.app is.carries.each is.sealed_so)
 
 -- what the frames say, and that it may be written
-record Tells (out : List Entry) (last : ℕ) (texts : List (List ℕ)) (to : ℕ) : Type 0 where
+record Tells (old new : End) (last : ℕ) (texts : List (List ℕ)) (to : ℕ) : Type 0 where
   messages : List Message
   says : SaysEach texts messages
-  writes : WritesMessages out last messages to
+  writes : WritesMessages old new last messages to
 
-tells : {id : Identity} {out : List Entry} {last to : ℕ} {texts : List (List ℕ)} → Writes id out last texts to → Tells out last texts to
+tells : {id : Identity} {old new : End} {last to : ℕ} {gaps : List Gap} {texts : List (List ℕ)} → Writes id old new last gaps texts to → Tells old new last texts to
 tells wrote.done = record { messages = []; says = told.done; writes = told.done }
 tells {id = id} (wrote.original {text = text} n e le above entry is others) =
     let o = original_of id n e text is.at is.type is.rest (entry_some entry) le is.carries is.sealed_so in
     let t = tells others in
     record { messages = o.message ∷ t.messages; says = told.one o.frame o.says t.says; writes = told.original n e above entry o.is t.writes }
-tells {id = id} (wrote.again {text = text} n time by body t le entry is others) =
+tells {id = id} (wrote.again {text = text} n time by body t le entry free uncovered is others) =
     let fields = repeat_fields id (decimal n) is.at is.was is.type is.rest in
     let are = repeat_is id (decimal n) is.at is.was is.type is.rest is.carries.each in
-    let whole = app_repeat id n text is.at is.was is.type is.rest (entry_some entry) le is.carries.app is.carries.each is.sealed_so in
-    let s = subst (λ w. Says text (message.App n true w)) (sym is.carries.spelled) whole in
+    let s = repeat_says id n time body t text (entry_some entry) le is in
     let o = tells others in
-    record { messages = message.App n true body ∷ o.messages; says = told.one (sealed_is_frame id fields text are is.sealed_so) s o.says; writes = told.again n body (record { time = time; by = by; entry = entry }) o.writes }
-tells {id = id} (wrote.gap_fill {text = text} n m t le some inside admins is others) =
+    record { messages = message.App n true body ∷ o.messages; says = told.one (sealed_is_frame id fields text are is.sealed_so) s o.says; writes = told.again n body (record { time = time; by = by; entry = entry }) free o.writes }
+tells {id = id} (wrote.gap_fill {text = text} n m t le some inside skips is others) =
     let fields = gap_fields id (decimal n) (decimal m) is.at in
     let are = gap_is id (decimal n) (decimal m) is.at in
-    let above = gap_some some admins in
+    let above = gap_some some skips in
     let s = says_of id fields text _ are is.sealed_so (gap_says id (decimal n) (decimal m) n m is.at (seq_num_decimal n above (omega arith)) (new_seq_no_decimal m (omega arith) le)) in
     let o = tells others in
-    record { messages = message.GapFill n m ∷ o.messages; says = told.one (sealed_is_frame id fields text are is.sealed_so) s o.says; writes = told.gap_fill n m some inside admins o.writes }
+    record { messages = message.GapFill n m ∷ o.messages; says = told.one (sealed_is_frame id fields text are is.sealed_so) s o.says; writes = told.gap_fill n m some inside skips o.writes }
 
 -- what may have been written, as messages
 pub wrote_of : (id : Identity) (old new : End) (w : List ℕ) → Wrote id old new w → WroteMessages old new w

@@ -1,13 +1,15 @@
 -- The world of two ends of a session: what each does, in which order, over connections that may break
 -- at any byte; and what is promised of the two.
 use Rattle.std.specs.Prelude.{◌≡◌, ℕ, ◌<◌, ◌==◌, if◌then◌else◌, List, [], ◌∷◌, ◌++◌, length, Bool, true, false, Some}
+use Rattle.std.specs.List.{AllByRecursion}
 use Rattle.fix_base.specs.Lists.{Among, IsPrefixOf}
 use Rattle.fix_base.specs.Session.{Identity, mirrored}
-use Rattle.fix_base.specs.End.{Record, Push, Expect, Reset, End, folded}
+use Rattle.fix_base.specs.End.{Record, Push, Expect, Many, Withhold, Reset, End, folded, app_entries}
 use Rattle.fix_base.specs.Payload.{IsPersistentEntry}
 use Rattle.fix_base.specs.Act as act
 use Rattle.fix_base.specs.Act.{Act}
 use Rattle.fix_base.specs.EndStep.{Handling, Connection, EndState, new_state, EndStep, Move}
+use Rattle.fix_base.specs.Agrees.{ComesInOrder}
 use Rattle.fix_base.specs.Reader.{Follows, Gives}
 
 -- what an end did on one connection. A connection has a number that both ends know it by
@@ -76,6 +78,8 @@ IsQuiet (act.Kept r) = Unit {0}
 IsQuiet (act.KeepLost r) = Unit {0}
 IsQuiet (act.Handed n marked body) = ⊥
 IsQuiet (act.HandLost n marked body) = ⊥
+IsQuiet (act.Withheld n) = Unit {0}
+IsQuiet (act.Allowed n) = Unit {0}
 IsQuiet act.Cut = Unit {0}
 IsQuiet act.Stop = Unit {0}
 
@@ -121,10 +125,12 @@ pub data WorldRun (id : Identity) : World → List Event → World → Type 0 wh
   step : {w w' : World} {events : List Event} {a' : Side} (who : Who) (x : Act) → SideStep (identity_of who id) (side_of who w) (other_of who w) x a' → WorldRun id (with_side who w a') events w' → WorldRun id w (Does who x ∷ events) w'
   move : {w w' : World} {events : List Event} {s' : EndState} (who : Who) → Move (side_of who w).state s' → WorldRun id (with_side who w (rested (side_of who w) s')) events w' → WorldRun id w events w'
 
--- the record is no reset, and its entry may be sent again
+-- the record is no reset, and its entries may be sent again
 abbrev pub IsPlainRecord : Record → Type 0
 IsPlainRecord (Push e) = IsPersistentEntry e
 IsPlainRecord (Expect k) = Unit {0}
+IsPlainRecord (Many pushes k) = AllByRecursion IsPersistentEntry pushes
+IsPlainRecord (Withhold n) = Unit {0}
 IsPlainRecord (Reset t) = ⊥
 
 abbrev pub IsPlain : Act → Type 0
@@ -138,6 +144,8 @@ IsPlain act.Ended = Unit {0}
 IsPlain (act.Wrote b) = Unit {0}
 IsPlain (act.Handed n marked body) = Unit {0}
 IsPlain (act.HandLost n marked body) = Unit {0}
+IsPlain (act.Withheld n) = Unit {0}
+IsPlain (act.Allowed n) = Unit {0}
 IsPlain act.Cut = Unit {0}
 IsPlain act.Stop = Unit {0}
 
@@ -190,3 +198,21 @@ pub record ComesAgain (id : Identity) : Type 0 where
   pub body : List ℕ
   pub handled : world.first.state.handled ≡ handed_over false body ∷ handed_over true body ∷ []
   pub expected : world.first.state.end.stored ≡ 2
+
+-- a message that one end withholds is passed over by the other, which hands over the one behind it and
+-- expects the next number
+pub record PassesWithheld (id : Identity) : Type 0 where
+  pub events : List Event
+  pub world : World
+  pub run : WorldRun id new_world events world
+  pub plain : EachPlain events
+  pub stored : length (app_entries world.second.state.end.out) ≡ 2
+  pub withheld : world.second.state.end.withheld ≡ 1 ∷ []
+  pub body : List ℕ
+  pub handled : world.first.state.handled ≡ record { number = 2; body = body; marked = false; rejected = false } ∷ []
+  pub expected : world.first.state.end.stored ≡ 3
+
+-- at each end a message that comes for its first time comes with a number above all before
+pub record ComeInOrder (w : World) : Type 0 where
+  pub first : ComesInOrder w.first.state.handled
+  pub second : ComesInOrder w.second.state.handled

@@ -32,6 +32,10 @@ pub enum Act {
         marked: bool,
         body: Bytes,
     },
+    /// The application doesn't want the message of this MsgSeqNum (34) sent again.
+    Withheld(u32),
+    /// The application lets the message of this MsgSeqNum (34) be sent again.
+    Allowed(u32),
     /// The connection was given up.
     Cut,
     /// The process starts again from what is stored.

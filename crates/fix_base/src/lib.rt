@@ -25,10 +25,10 @@ mod world_laws;
 pub use act::Act;
 pub use bytes::{Bytes, OutOfMemory};
 pub use end_laws::{
-    a_front_of_a_run_is_a_run, agreement_in_plain_words, no_message_is_passed_over,
-    records_fold_in_order, what_was_handled_is_a_prefix,
+    a_front_of_a_run_is_a_run, agreement_in_plain_words, no_message_comes_late,
+    no_message_is_passed_over, records_fold_in_order, what_was_handled_is_a_prefix,
 };
-pub use entry::{By, Entry, Record, Stored};
+pub use entry::{By, Entries, Entry, Record, Stored};
 pub use fault::Fault;
 pub use front::Stop;
 pub use identity::{Begin, Identity};
@@ -42,6 +42,6 @@ pub use stream_laws::{
 };
 pub use tags::{DATA_PAIRS, ENGINE_TAGS, HEADER_TAGS, SESSION_TAGS, TRAILER_TAGS};
 pub use world_laws::{
-    a_message_arrives, a_message_comes_again, a_reader_keeps_up, what_a_writer_keeps_true,
-    world_agrees,
+    a_message_arrives, a_message_comes_again, a_message_is_withheld, a_reader_keeps_up,
+    no_withheld_message_comes_late, what_a_writer_keeps_true, world_agrees,
 };
