@@ -91,7 +91,7 @@ pub shows_frame : (read : List ℕ) (xs : List Message) (x : Message) (h : Shows
 shows_frame read xs x h skipped at after text skips none takes so = shows_next read xs (x ∷ []) h skipped at after text skips none takes (says.says so says.none)
 
 -- frames one after the other show what they say
-each_frame : {texts : List (List ℕ)} {xs : List Message} → SaysEach texts xs → (text : List ℕ) → Among text texts → IsFrame text
+pub each_frame : {texts : List (List ℕ)} {xs : List Message} → SaysEach texts xs → (text : List ℕ) → Among text texts → IsFrame text
 each_frame told.done text m = elim m [ ]
 each_frame (told.one frame s others) text here = frame
 each_frame (told.one frame s others) text (there m) = each_frame others text m

@@ -4,7 +4,7 @@ use Rattle.std.proofs.Common.{◌≡◌, ℕ, ◌≤◌, ◌^◌, ◌<◌, nat_l
 use Rattle.std.specs.List.{AllByRecursion}
 use Rattle.std.specs.Fmt.{decimal}
 use Rattle.std.proofs.lemmas.Fmt.{digits_decimal, length-decimal-le}
-use Rattle.fix_base.specs.Lists.{here, there}
+use Rattle.fix_base.specs.Lists.{here, there, IsPrefixOf}
 use Rattle.fix_base.specs.Frame.{HasNoSoh}
 use Rattle.fix_base.specs.Fields.{Field}
 use Rattle.fix_base.specs.Sealed.{sealed}
@@ -18,13 +18,14 @@ use Rattle.fix_base.specs.Payload.{IsPersistentEntry}
 use Rattle.fix_base.specs.Wrote as wrote
 use Rattle.fix_base.specs.Wrote.{IsSealed, original_fields, gap_fields, Wrote}
 use Rattle.fix_base.specs.EndStep as steps
-use Rattle.fix_base.specs.EndStep.{Connection, EndState, Handling, WasRead, Move}
+use Rattle.fix_base.specs.EndStep.{Role, Initiator, Acceptor, IsBlocked, LogonRule, Connection, EndState, Handling, WasRead, Move}
 use Rattle.fix_base.specs.World as world
 use Rattle.fix_base.specs.World.{Side, World, new_side, new_world, rested, opened_side, wrote_side, gave_side, First, Second, Event, Does, SideStep, WorldRun, PassesWithheld}
 use Rattle.fix_base.proofs.Told as told
 use Rattle.fix_base.proofs.Told.{SaysEach}
 use Rattle.fix_base.proofs.ListLemmas.{prefix_refl}
 use Rattle.fix_base.proofs.BytesLemmas.{shows_each}
+use Rattle.fix_base.proofs.OrderLemmas.{orders_rule, orders_free}
 use Rattle.fix_base.proofs.Digits.{numerals, digits_no_soh}
 use Rattle.fix_base.proofs.PlainFields.{IsPlainField, plain_fields}
 use Rattle.fix_base.proofs.ShortFields.{clear_of, comp_id_clear, comp_id_short, IsShortField, short_fields}
@@ -153,6 +154,9 @@ record Written (id : Identity) (body : List ℕ) : Type 0 where
   text : List ℕ
   lawful : Wrote id (kept_end body) (both_end body) text
   shows : Shows text (message.GapFill 1 2 ∷ message.App 2 false body ∷ [])
+  texts : List (List ℕ)
+  says : SaysEach texts (message.GapFill 1 2 ∷ message.App 2 false body ∷ [])
+  front : IsPrefixOf text (joined texts)
 
 first_app : IsAppAt (both_end body).out 1 body
 first_app = record { time = 0; by = Caller; entry = record { before = []; after = entry body ∷ []; is = refl; place = refl } }
@@ -176,16 +180,16 @@ says id valid =
     (told.one (sealed_is_frame id (next_parts id) (next id) (original_is id (decimal 2) at order [] tt) (next_sealed id valid)) (app_original id 2 (next id) at order [] (lit≤ tt) (lit≤ tt) body_is.app tt (next_sealed id valid)) told.done)
 
 written : (id : Identity) → IsValidIdentity id → Written id body
-written id valid = record { text = joined (gap id ∷ next id ∷ []); lawful = lawful id valid; shows = shows_each (says id valid) }
+written id valid = record { text = joined (gap id ∷ next id ∷ []); lawful = lawful id valid; shows = shows_each (says id valid); texts = gap id ∷ next id ∷ []; says = says id valid; front = prefix_refl (joined (gap id ∷ next id ∷ [])) }
 
 -- ---- the writer: it keeps order 1 on a connection on which nothing goes out. On the next one the
 -- application withholds it; it writes the gap fill, and order 2
 
 abbrev connection : End → List ℕ → List ℕ → List ℕ → Connection
-connection end read written gave = record { opened = end; read = read; written = written; base = 0; gave = gave }
+connection end read written gave = record { opened = end; read = read; written = written; base = 0; gave = gave; kept = [] }
 
-abbrev state : End → ℕ → List Handling → Option ℕ → Connection → EndState
-state end expected handled offered connection = record { end = end; expected = expected; handled = handled; doubt = None; beside = []; offered = offered; connection = Some connection }
+abbrev state : Role → End → ℕ → List Handling → Option ℕ → Connection → EndState
+state role end expected handled offered connection = record { role = role; end = end; expected = expected; handled = handled; doubt = None; beside = []; offered = offered; connection = Some connection }
 
 abbrev c1 : Connection
 c1 = connection new_end [] [] []
@@ -194,34 +198,34 @@ abbrev c2 : List ℕ → List ℕ → Connection
 c2 body written = connection (kept_end body) [] written []
 
 abbrev w1 : Side
-w1 = opened_side new_side (state new_end 1 [] None c1) 1
+w1 = opened_side (new_side Acceptor) (state Acceptor new_end 1 [] None c1) 1
 
 abbrev w2 : List ℕ → Side
-w2 body = rested w1 (state (kept_end body) 1 [] None c1)
+w2 body = rested w1 (state Acceptor (kept_end body) 1 [] None c1)
 
 abbrev w3 : List ℕ → Side
-w3 body = opened_side (w2 body) (state (kept_end body) 1 [] None (c2 body [])) 2
+w3 body = opened_side (w2 body) (state Acceptor (kept_end body) 1 [] None (c2 body [])) 2
 
 abbrev w4 : List ℕ → Side
-w4 body = rested (w3 body) (state (kept_end body) 1 [] (Some 1) (c2 body []))
+w4 body = rested (w3 body) (state Acceptor (kept_end body) 1 [] (Some 1) (c2 body []))
 
 abbrev w5 : List ℕ → Side
-w5 body = rested (w4 body) (state (held_end body) 1 [] None (c2 body []))
+w5 body = rested (w4 body) (state Acceptor (held_end body) 1 [] None (c2 body []))
 
 abbrev w6 : List ℕ → Side
-w6 body = rested (w5 body) (state (both_end body) 1 [] None (c2 body []))
+w6 body = rested (w5 body) (state Acceptor (both_end body) 1 [] None (c2 body []))
 
 abbrev w7 : List ℕ → List ℕ → Side
-w7 body text = wrote_side (w6 body) (state (both_end body) 1 [] None (c2 body text)) text
+w7 body text = wrote_side (w6 body) (state Acceptor (both_end body) 1 [] None (c2 body text)) text
 
-opens : {id : Identity} (o : Side) → SideStep id new_side o act.Opened w1
-opens o = world.opens 1 (lit< tt) (record { certain = refl; row = steps.opened })
+opens : {id : Identity} (o : Side) → SideStep id (new_side Acceptor) o act.Opened w1
+opens o = world.opens 1 (lit< tt) (record { certain = refl; row = steps.opened (λ h. (let wrong = h.1 in cc)) })
 
 keeps : {id : Identity} (body : List ℕ) (o : Side) → SideStep id w1 o (act.Kept (Push (entry body))) (w2 body)
 keeps body o = world.rests (act.Kept (Push (entry body))) tt (record { certain = refl; row = steps.kept_push (entry body) steps.adds })
 
 reopens : {id : Identity} (body : List ℕ) (o : Side) → SideStep id (w2 body) o act.Opened (w3 body)
-reopens body o = world.opens 2 (lit< tt) (record { certain = refl; row = steps.opened })
+reopens body o = world.opens 2 (lit< tt) (record { certain = refl; row = steps.opened (λ h. (let wrong = h.1 in cc)) })
 
 holds : {id : Identity} (body : List ℕ) (o : Side) → SideStep id (w3 body) o (act.Withheld 1) (w4 body)
 holds body o =
@@ -234,8 +238,8 @@ keeps_held body o = world.rests (act.Kept (Withhold 1)) tt (record { certain = r
 keeps_next : {id : Identity} (body : List ℕ) (o : Side) → SideStep id (w5 body) o (act.Kept (Push (entry body))) (w6 body)
 keeps_next body o = world.rests (act.Kept (Push (entry body))) tt (record { certain = refl; row = steps.kept_push (entry body) steps.adds })
 
-writes : {id : Identity} (body text : List ℕ) (o : Side) → Wrote id (kept_end body) (both_end body) text → SideStep id (w6 body) o (act.Wrote text) (w7 body text)
-writes body text o lawful = world.writes text (record { certain = refl; row = steps.wrote text (c2 body []) refl lawful })
+writes : {id : Identity} (body text : List ℕ) (o : Side) → LogonRule id (w6 body).state (c2 body []) text → Wrote id (kept_end body) (both_end body) text → SideStep id (w6 body) o (act.Wrote text) (w7 body text)
+writes body text o rule lawful = world.writes text (record { certain = refl; row = steps.wrote text (c2 body []) refl lawful rule })
 
 -- ---- the reader: it opens its connection with the second number, reads, passes the gap, hands order 2
 -- over, passes it and keeps the number that it then expects
@@ -244,74 +248,74 @@ abbrev order_2 : List ℕ → Handling
 order_2 body = record { number = 2; body = body; marked = false; rejected = false }
 
 abbrev r1 : Side
-r1 = opened_side new_side (state new_end 1 [] None c1) 2
+r1 = opened_side (new_side Initiator) (state Initiator new_end 1 [] None c1) 2
 
 abbrev r2 : List ℕ → Side
-r2 text = rested r1 (state new_end 1 [] None (connection new_end text [] []))
+r2 text = rested r1 (state Initiator new_end 1 [] None (connection new_end text [] []))
 
 abbrev r3 : List ℕ → Side
-r3 text = rested (r2 text) (state new_end 2 [] None (connection new_end text [] []))
+r3 text = rested (r2 text) (state Initiator new_end 2 [] None (connection new_end text [] []))
 
 abbrev r4 : List ℕ → List ℕ → Side
-r4 body text = gave_side (r3 text) (state new_end 2 (order_2 body ∷ []) None (connection new_end text [] (2 ∷ []))) 2
+r4 body text = gave_side (r3 text) (state Initiator new_end 2 (order_2 body ∷ []) None (connection new_end text [] (2 ∷ []))) 2
 
 abbrev r5 : List ℕ → List ℕ → Side
-r5 body text = rested (r4 body text) (state new_end 3 (order_2 body ∷ []) None (connection new_end text [] (2 ∷ [])))
+r5 body text = rested (r4 body text) (state Initiator new_end 3 (order_2 body ∷ []) None (connection new_end text [] (2 ∷ [])))
 
 abbrev r6 : List ℕ → List ℕ → Side
-r6 body text = rested (r5 body text) (state (folded new_end (Expect 3)) 3 (order_2 body ∷ []) None (connection new_end text [] (2 ∷ [])))
+r6 body text = rested (r5 body text) (state Initiator (folded new_end (Expect 3)) 3 (order_2 body ∷ []) None (connection new_end text [] (2 ∷ [])))
 
 abbrev shown : List ℕ → List Message
 shown body = message.GapFill 1 2 ∷ message.App 2 false body ∷ []
 
-opens_second : {id : Identity} (o : Side) → SideStep id new_side o act.Opened r1
-opens_second o = world.opens 2 (lit< tt) (record { certain = refl; row = steps.opened })
+opens_second : {id : Identity} (o : Side) → SideStep id (new_side Initiator) o act.Opened r1
+opens_second o = world.opens 2 (lit< tt) (record { certain = refl; row = steps.opened (λ h. (let wrong = h.1 in cc)) })
 
 reads : {id : Identity} (body text : List ℕ) → SideStep id r1 (w7 body text) (act.Read text) (r2 text)
 reads body text = world.reads text c1 refl (prefix_refl text) (record { certain = refl; row = steps.read text c1 refl })
 
-passes_gap : (body text : List ℕ) → Shows text (shown body) → Move (r2 text).state (r3 text).state
-passes_gap body text shows = steps.past_gap (connection new_end text [] []) 1 2 refl (record { messages = shown body; shows = shows; among = here }) refl (lit< tt)
+passes_gap : (body text : List ℕ) → (IsBlocked (r2 text).state → ⊥) → Shows text (shown body) → Move (r2 text).state (r3 text).state
+passes_gap body text free shows = steps.past_gap (connection new_end text [] []) 1 2 free refl (record { messages = shown body; shows = shows; among = here }) refl (lit< tt)
 
-hands : {id : Identity} (body text : List ℕ) (o : Side) → Shows text (shown body) → SideStep id (r3 text) o (act.Handed 2 false body) (r4 body text)
-hands body text o shows =
+hands : {id : Identity} (body text : List ℕ) (o : Side) → (IsBlocked (r3 text).state → ⊥) → Shows text (shown body) → SideStep id (r3 text) o (act.Handed 2 false body) (r4 body text)
+hands body text o free shows =
     world.hands 2 false body
-    (record { certain = refl; row = steps.handed (connection new_end text [] []) 2 false body (record { is_open = refl; expected = refl; frame = record { messages = shown body; shows = shows; among = there here }; unseen = λ m. elim m [ ] }) })
+    (record { certain = refl; row = steps.handed (connection new_end text [] []) 2 false body free (record { is_open = refl; expected = refl; frame = record { messages = shown body; shows = shows; among = there here }; unseen = λ m. elim m [ ] }) })
 
-passes : (body text : List ℕ) → Shows text (shown body) → Move (r4 body text).state (r5 body text).state
-passes body text shows = steps.past_app (connection new_end text [] (2 ∷ [])) 2 false body refl (record { messages = shown body; shows = shows; among = there here }) refl (record { item = order_2 body; among = here; is = refl })
+passes : (body text : List ℕ) → (IsBlocked (r4 body text).state → ⊥) → Shows text (shown body) → Move (r4 body text).state (r5 body text).state
+passes body text free shows = steps.past_app (connection new_end text [] (2 ∷ [])) 2 false body free refl (record { messages = shown body; shows = shows; among = there here }) refl (record { item = order_2 body; among = here; is = refl })
 
 expects : {id : Identity} (body text : List ℕ) (o : Side) → SideStep id (r5 body text) o (act.Kept (Expect 3)) (r6 body text)
 expects body text o = world.rests (act.Kept (Expect 3)) tt (record { certain = refl; row = steps.kept_expect 3 refl })
 
 -- ---- both
 
-late : {id : Identity} (body text : List ℕ) → Shows text (shown body) → WorldRun id (of_both new_side (w7 body text)) (Does First act.Opened ∷ Does First (act.Read text) ∷ Does First (act.Handed 2 false body) ∷ Does First (act.Kept (Expect 3)) ∷ []) (of_both (r6 body text) (w7 body text))
-late body text shows =
+late : {id : Identity} (body text : List ℕ) {texts : List (List ℕ)} → SaysEach texts (shown body) → IsPrefixOf text (joined texts) → Shows text (shown body) → WorldRun id (of_both (new_side Initiator) (w7 body text)) (Does First act.Opened ∷ Does First (act.Read text) ∷ Does First (act.Handed 2 false body) ∷ Does First (act.Kept (Expect 3)) ∷ []) (of_both (r6 body text) (w7 body text))
+late body text each front shows =
     let other = w7 body text in
-    world.step {w = of_both new_side other} {a' = r1} First act.Opened (opens_second other)
+    world.step {w = of_both (new_side Initiator) other} {a' = r1} First act.Opened (opens_second other)
     (world.step {w = of_both r1 other} {a' = r2 text} First (act.Read text) (reads body text)
-    (world.move {w = of_both (r2 text) other} {s' = (r3 text).state} First (passes_gap body text shows)
-    (world.step {w = of_both (r3 text) other} {a' = r4 body text} First (act.Handed 2 false body) (hands body text other shows)
-    (world.move {w = of_both (r4 body text) other} {s' = (r5 body text).state} First (passes body text shows)
+    (world.move {w = of_both (r2 text) other} {s' = (r3 text).state} First (passes_gap body text (orders_free (r2 text).state (connection new_end text [] []) refl (λ h. (let wrong = h.1 in cc)) each (tt, (tt, tt)) front) shows)
+    (world.step {w = of_both (r3 text) other} {a' = r4 body text} First (act.Handed 2 false body) (hands body text other (orders_free (r3 text).state (connection new_end text [] []) refl (λ h. (let wrong = h.1 in cc)) each (tt, (tt, tt)) front) shows)
+    (world.move {w = of_both (r4 body text) other} {s' = (r5 body text).state} First (passes body text (orders_free (r4 body text).state (connection new_end text [] (2 ∷ [])) refl (λ h. (let wrong = h.1 in cc)) each (tt, (tt, tt)) front) shows)
     (world.step {w = of_both (r5 body text) other} {a' = r6 body text} First (act.Kept (Expect 3)) (expects body text other) world.stop)))))
 
-early : {id : Identity} (body text : List ℕ) {events : List Event} {w : World} → Wrote (mirrored id) (kept_end body) (both_end body) text → WorldRun id (of_both new_side (w7 body text)) events w → WorldRun id new_world (Does Second act.Opened ∷ Does Second (act.Kept (Push (entry body))) ∷ Does Second act.Opened ∷ Does Second (act.Withheld 1) ∷ Does Second (act.Kept (Withhold 1)) ∷ Does Second (act.Kept (Push (entry body))) ∷ Does Second (act.Wrote text) ∷ events) w
-early body text lawful d =
-    world.step {w = new_world} {a' = w1} Second act.Opened (opens new_side)
-    (world.step {w = of_both new_side w1} {a' = w2 body} Second (act.Kept (Push (entry body))) (keeps body new_side)
-    (world.step {w = of_both new_side (w2 body)} {a' = w3 body} Second act.Opened (reopens body new_side)
-    (world.step {w = of_both new_side (w3 body)} {a' = w4 body} Second (act.Withheld 1) (holds body new_side)
-    (world.step {w = of_both new_side (w4 body)} {a' = w5 body} Second (act.Kept (Withhold 1)) (keeps_held body new_side)
-    (world.step {w = of_both new_side (w5 body)} {a' = w6 body} Second (act.Kept (Push (entry body))) (keeps_next body new_side)
-    (world.step {w = of_both new_side (w6 body)} {a' = w7 body text} Second (act.Wrote text) (writes body text new_side lawful) d))))))
+early : {id : Identity} (body text : List ℕ) {events : List Event} {texts : List (List ℕ)} {w : World} → SaysEach texts (shown body) → IsPrefixOf text (joined texts) → Wrote (mirrored id) (kept_end body) (both_end body) text → WorldRun id (of_both (new_side Initiator) (w7 body text)) events w → WorldRun id new_world (Does Second act.Opened ∷ Does Second (act.Kept (Push (entry body))) ∷ Does Second act.Opened ∷ Does Second (act.Withheld 1) ∷ Does Second (act.Kept (Withhold 1)) ∷ Does Second (act.Kept (Push (entry body))) ∷ Does Second (act.Wrote text) ∷ events) w
+early body text each front lawful d =
+    world.step {w = new_world} {a' = w1} Second act.Opened (opens (new_side Initiator))
+    (world.step {w = of_both (new_side Initiator) w1} {a' = w2 body} Second (act.Kept (Push (entry body))) (keeps body (new_side Initiator))
+    (world.step {w = of_both (new_side Initiator) (w2 body)} {a' = w3 body} Second act.Opened (reopens body (new_side Initiator))
+    (world.step {w = of_both (new_side Initiator) (w3 body)} {a' = w4 body} Second (act.Withheld 1) (holds body (new_side Initiator))
+    (world.step {w = of_both (new_side Initiator) (w4 body)} {a' = w5 body} Second (act.Kept (Withhold 1)) (keeps_held body (new_side Initiator))
+    (world.step {w = of_both (new_side Initiator) (w5 body)} {a' = w6 body} Second (act.Kept (Push (entry body))) (keeps_next body (new_side Initiator))
+    (world.step {w = of_both (new_side Initiator) (w6 body)} {a' = w7 body text} Second (act.Wrote text) (writes body text (new_side Initiator) (orders_rule (w6 body).state (c2 body []) text (λ h. (let wrong = h.1 in cc)) each (tt, (tt, tt)) front) lawful) d))))))
 
 passes_as : (id : Identity) (body : List ℕ) → IsPersistentEntry (entry body) → Written (mirrored id) body → PassesWithheld id
 passes_as id body kept t = record {
   events = Does Second act.Opened ∷ Does Second (act.Kept (Push (entry body))) ∷ Does Second act.Opened ∷ Does Second (act.Withheld 1) ∷ Does Second (act.Kept (Withhold 1)) ∷ Does Second (act.Kept (Push (entry body))) ∷ Does Second (act.Wrote t.text)
       ∷ Does First act.Opened ∷ Does First (act.Read t.text) ∷ Does First (act.Handed 2 false body) ∷ Does First (act.Kept (Expect 3)) ∷ [];
   world = of_both (r6 body t.text) (w7 body t.text);
-  run = early body t.text t.lawful (late body t.text t.shows);
+  run = early body t.text t.says t.front t.lawful (late body t.text t.says t.front t.shows);
   plain = (tt, (kept, (tt, (tt, (tt, (kept, (tt, (tt, (tt, (tt, (tt, tt)))))))))));
   stored = refl;
   withheld = refl;

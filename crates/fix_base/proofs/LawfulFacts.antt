@@ -5,18 +5,19 @@ use Rattle.std.specs.Fmt.{decimal}
 use Rattle.std.proofs.lemmas.List.{append-nil}
 use Rattle.fix_base.specs.Lists.{Among, here}
 use Rattle.fix_base.specs.Session.{Identity, IsValidIdentity}
+use Rattle.fix_base.specs.Logon.{IsResetLogon, Begun}
 use Rattle.fix_base.specs.Fields.{Field}
 use Rattle.fix_base.specs.Sealed.{sealed}
 use Rattle.fix_base.specs.Message as message
 use Rattle.fix_base.specs.Says.{fields_text, Says, Shows}
 use Rattle.fix_base.specs.Payload.{IsKeepable, record_size, IsPersistent}
-use Rattle.fix_base.specs.End.{Caller, Entry, App, Admin, Record, Push, Expect, Many, Withhold, Reset, End, new_end, folded, folded_all, Sent, app_entries, IsSkipped, admin, withheld, MayComeAgain}
+use Rattle.fix_base.specs.End.{Caller, Entry, App, Admin, Record, Push, Expect, Many, Withhold, Reset, ResetAsk, Confirm, End, new_end, folded, folded_all, Sent, app_entries, IsSkipped, admin, withheld, MayComeAgain}
 use Rattle.fix_base.specs.Act as act
 use Rattle.fix_base.specs.Act.{Act}
 use Rattle.fix_base.specs.Wrote as wrote
 use Rattle.fix_base.specs.Wrote.{IsSealed, original_fields, SkipsBetween, Gap, Writes, Wrote}
 use Rattle.fix_base.specs.EndStep as steps
-use Rattle.fix_base.specs.EndStep.{Handling, Connection, EndState, new_state, WasRead, MayHand, Chain, Row, EndStep, Move}
+use Rattle.fix_base.specs.EndStep.{Initiator, Acceptor, IsAsking, IsBlocked, Handling, Connection, EndState, new_state, WasRead, MayHand, Chain, Row, EndStep, Move}
 use Rattle.fix_base.specs.Resend as resend
 use Rattle.fix_base.specs.Resend.{resend_list}
 use Rattle.fix_base.specs.Agrees as agrees
@@ -37,21 +38,28 @@ use Rattle.fix_base.proofs.StatedLemmas.{stated}
 
 -- an order, the expected number 5, and then a reset
 pub a_fold : (order : List ℕ) (t u : ℕ) →
-    (folded_all new_end (Push (App t Caller order) ∷ Expect 5 ∷ []) ≡ record { out = App t Caller order ∷ []; stored = 5; since = None; withheld = [] })
-    × (folded_all new_end (Push (App t Caller order) ∷ Expect 5 ∷ Reset u ∷ []) ≡ record { out = []; stored = 1; since = Some u; withheld = [] })
+    (folded_all new_end (Push (App t Caller order) ∷ Expect 5 ∷ []) ≡ record { out = App t Caller order ∷ []; stored = 5; since = None; withheld = []; asked = false })
+    × (folded_all new_end (Push (App t Caller order) ∷ Expect 5 ∷ Reset u ∷ []) ≡ record { out = []; stored = 1; since = Some u; withheld = []; asked = false })
 a_fold order t u = (refl, refl)
 
 -- two entries and the expected number 3 in one record; and with nothing to expect
 pub a_fold_of_many : (order : List ℕ) →
-    (folded_all new_end (Many (App 0 Caller order ∷ Admin 0 48 0 ∷ []) 3 ∷ []) ≡ record { out = App 0 Caller order ∷ Admin 0 48 0 ∷ []; stored = 3; since = None; withheld = [] })
-    × (folded_all new_end (Expect 2 ∷ Many (App 0 Caller order ∷ Admin 0 48 0 ∷ []) 0 ∷ []) ≡ record { out = App 0 Caller order ∷ Admin 0 48 0 ∷ []; stored = 2; since = None; withheld = [] })
+    (folded_all new_end (Many (App 0 Caller order ∷ Admin 0 48 0 ∷ []) 3 ∷ []) ≡ record { out = App 0 Caller order ∷ Admin 0 48 0 ∷ []; stored = 3; since = None; withheld = []; asked = false })
+    × (folded_all new_end (Expect 2 ∷ Many (App 0 Caller order ∷ Admin 0 48 0 ∷ []) 0 ∷ []) ≡ record { out = App 0 Caller order ∷ Admin 0 48 0 ∷ []; stored = 2; since = None; withheld = []; asked = false })
 a_fold_of_many order = (refl, refl)
 
 -- a number that is withheld stays so, until the store is reset
 pub a_fold_of_withheld : (order : List ℕ) (u : ℕ) →
-    (folded_all new_end (Push (App 0 Caller order) ∷ Withhold 1 ∷ Expect 4 ∷ []) ≡ record { out = App 0 Caller order ∷ []; stored = 4; since = None; withheld = 1 ∷ [] })
+    (folded_all new_end (Push (App 0 Caller order) ∷ Withhold 1 ∷ Expect 4 ∷ []) ≡ record { out = App 0 Caller order ∷ []; stored = 4; since = None; withheld = 1 ∷ []; asked = false })
     × ((folded_all new_end (Push (App 0 Caller order) ∷ Withhold 1 ∷ Reset u ∷ [])).withheld ≡ [])
 a_fold_of_withheld order u = (refl, refl)
+
+-- an end that asks for a reset has it asked until it is confirmed, whatever it keeps in between
+pub a_fold_of_asking : (order : List ℕ) (u : ℕ) →
+    (folded_all new_end (Push (App 0 Caller order) ∷ ResetAsk u ∷ Expect 2 ∷ []) ≡ record { out = []; stored = 2; since = Some u; withheld = []; asked = true })
+    × ((folded_all new_end (ResetAsk u ∷ Confirm ∷ [])).asked ≡ false)
+    × ((folded_all new_end (ResetAsk u ∷ Reset u ∷ [])).asked ≡ true)
+a_fold_of_asking order u = (refl, refl, refl)
 
 -- a record of several takes the bytes that its entries take, with a length for each
 pub sizes_of_records : (record_size (Many (Admin 0 48 0 ∷ []) 3) ≡ 32) × (record_size (Withhold 2) ≡ 10) × (record_size (Push (Admin 0 48 0)) ≡ 19)
@@ -75,7 +83,7 @@ expected_only : {id : Identity} {s s' : EndState} {k : ℕ} → Row id s (act.Ke
 expected_only (steps.kept_expect k same) = same
 
 -- and no other number
-pub no_other_number_may_be_kept : (id : Identity) (s' : EndState) → EndStep id new_state (act.Kept (Expect 2)) s' → ⊥
+pub no_other_number_may_be_kept : (id : Identity) (s' : EndState) → EndStep id (new_state Initiator) (act.Kept (Expect 2)) s' → ⊥
 no_other_number_may_be_kept id s' step = let same = expected_only step.row in omega (arith, same)
 
 -- nothing was shown by no bytes
@@ -83,14 +91,14 @@ no_message : (c : Connection) (x : message.Message) → c.read ≡ [] → WasRea
 no_message c x nothing was = elim (read_among spells_nothing (record { rest = []; is = sym (append-nil c.read ∙ nothing) }) was.shows was.among) [ ]
 
 handed_may : {id : Identity} {s s' : EndState} {n : ℕ} {marked : Bool} {body : List ℕ} → Row id s (act.Handed n marked body) s' → (c : Connection) × MayHand s c n marked body
-handed_may (steps.handed c n marked body may) = (c, may)
+handed_may (steps.handed c n marked body free may) = (c, may)
 
 -- on a connection with nothing read
 abbrev opened_with : List ℕ → Connection
-opened_with gave = record { opened = new_end; read = []; written = []; base = 0; gave = gave }
+opened_with gave = record { opened = new_end; read = []; written = []; base = 0; gave = gave; kept = [] }
 
 abbrev just_opened : List ℕ → EndState
-just_opened gave = record { end = new_end; expected = 1; handled = []; doubt = None; beside = []; offered = None; connection = Some (opened_with gave) }
+just_opened gave = record { role = Initiator; end = new_end; expected = 1; handled = []; doubt = None; beside = []; offered = None; connection = Some (opened_with gave) }
 
 -- a message that wasn't read is not handed over
 pub nothing_unread_is_handed_over : (id : Identity) (s' : EndState) (n : ℕ) (marked : Bool) (body : List ℕ) → EndStep id (just_opened []) (act.Handed n marked body) s' → ⊥
@@ -105,6 +113,24 @@ nothing_is_handed_over_twice id s' marked body step =
     let h = handed_may step.row in
     let same : opened_with (1 ∷ []) ≡ h.0 = some_same (opened_with (1 ∷ [])) h.0 h.1.is_open in
     h.1.unseen (subst (λ (c : Connection). Among 1 c.gave) same here)
+
+-- nothing is handed over by an end that asks for a reset
+handed_free : {id : Identity} {s s' : EndState} {n : ℕ} {marked : Bool} {body : List ℕ} → Row id s (act.Handed n marked body) s' → IsBlocked s → ⊥
+handed_free (steps.handed c n marked body free may) = free
+
+pub nothing_is_handed_over_while_asking : (id : Identity) (s s' : EndState) (n : ℕ) (marked : Bool) (body : List ℕ) → IsAsking s → EndStep id s (act.Handed n marked body) s' → ⊥
+nothing_is_handed_over_while_asking id s s' n marked body asking step = handed_free step.row (steps.asks asking)
+
+-- nor on a connection that begins with a Logon that tells of a reset, until that is answered
+pub nothing_is_handed_over_before_the_answer : (id : Identity) (s s' : EndState) (c : Connection) (n : ℕ) (marked : Bool) (body : List ℕ) → s.connection ≡ Some c → c.kept ≡ [] → Begun IsResetLogon c.read → EndStep id s (act.Handed n marked body) s' → ⊥
+nothing_is_handed_over_before_the_answer id s s' c n marked body o kept begun step = handed_free step.row (steps.waits c o kept begun)
+
+-- an end that was never asked confirms nothing
+confirms_asking : {id : Identity} {s s' : EndState} → Row id s (act.Kept Confirm) s' → IsAsking s
+confirms_asking (steps.kept_confirm c o asking begun) = asking
+
+pub nothing_is_confirmed_unasked : (id : Identity) (s s' : EndState) → s.end.asked ≡ false → EndStep id s (act.Kept Confirm) s' → ⊥
+nothing_is_confirmed_unasked id s s' unasked step = let asking = (confirms_asking step.row).1 in cc
 
 -- while a record is in doubt nothing is done
 pub nothing_is_done_in_doubt : (id : Identity) (s s' : EndState) (r : Record) (a : Act) → s.doubt ≡ Some r → EndStep id s a s' → ⊥
@@ -121,32 +147,37 @@ reject = Admin 0 51 1
 
 -- an end that expects 1, on a connection on which it read these bytes
 abbrev read_state : List ℕ → End → ℕ → List Handling → EndState
-read_state read end expected handled = record { end = end; expected = expected; handled = handled; doubt = None; beside = []; offered = None; connection = Some (record { opened = new_end; read = read; written = []; base = 0; gave = [] }) }
+read_state read end expected handled = record { role = Acceptor; end = end; expected = expected; handled = handled; doubt = None; beside = []; offered = None; connection = Some (record { opened = new_end; read = read; written = []; base = 0; gave = []; kept = [] }) }
 
 abbrev rejected_one : List ℕ → Handling
 rejected_one body = record { number = 1; body = body; marked = false; rejected = true }
 
 -- the Reject of an order that was read, a Heartbeat, and the number that is expected then
-reject_and_beat : (read body : List ℕ) → Shows read (message.App 1 false body ∷ []) → Chain (read_state read new_end 1 []) (reject ∷ beat ∷ []) 2 (read_state read (folded new_end (Many (reject ∷ beat ∷ []) 2)) 2 (rejected_one body ∷ []))
-reject_and_beat read body shows =
-    let c : Connection = record { opened = new_end; read = read; written = []; base = 0; gave = [] } in
-    steps.push {mid = read_state read (folded new_end (Push reject)) 1 (rejected_one body ∷ [])} (steps.rejects (rejected_one body) (record { time = 0; is = refl; connection = c; is_open = refl; messages = message.App 1 false body ∷ []; shows = shows; first = refl }))
-    (steps.pass {mid = read_state read (folded new_end (Push reject)) 2 (rejected_one body ∷ [])} (steps.past_app c 1 false body refl (record { messages = message.App 1 false body ∷ []; shows = shows; among = here }) refl (record { item = rejected_one body; among = here; is = refl }))
+-- where the first frame that was read tells of no reset, messages count
+read_free : (read : List ℕ) (end : End) (expected : ℕ) (handled : List Handling) → (Begun IsResetLogon read → ⊥) → IsBlocked (read_state read end expected handled) → ⊥
+read_free read end expected handled free (steps.asks h) = let wrong = h.1 in cc
+read_free read end expected handled free (steps.waits c o kept begun) = free (subst (λ (k : Connection). Begun IsResetLogon k.read) (sym (some_same _ c o)) begun)
+
+reject_and_beat : (read body : List ℕ) → (Begun IsResetLogon read → ⊥) → Shows read (message.App 1 false body ∷ []) → Chain (read_state read new_end 1 []) (reject ∷ beat ∷ []) 2 (read_state read (folded new_end (Many (reject ∷ beat ∷ []) 2)) 2 (rejected_one body ∷ []))
+reject_and_beat read body free shows =
+    let c : Connection = record { opened = new_end; read = read; written = []; base = 0; gave = []; kept = [] } in
+    steps.push {mid = read_state read (folded new_end (Push reject)) 1 (rejected_one body ∷ [])} (steps.rejects (rejected_one body) (read_free read new_end 1 [] free) (record { time = 0; is = refl; connection = c; is_open = refl; messages = message.App 1 false body ∷ []; shows = shows; first = refl }))
+    (steps.pass {mid = read_state read (folded new_end (Push reject)) 2 (rejected_one body ∷ [])} (steps.past_app c 1 false body (read_free read (folded new_end (Push reject)) 1 (rejected_one body ∷ []) free) refl (record { messages = message.App 1 false body ∷ []; shows = shows; among = here }) refl (record { item = rejected_one body; among = here; is = refl }))
     (steps.push {mid = read_state read (folded (folded new_end (Push reject)) (Push beat)) 2 (rejected_one body ∷ [])} steps.adds (steps.expects 2 (lit< tt) refl)))
 
 -- kept in one record, they leave the order rejected, and 2 expected
-pub a_reject_among_many : (id : Identity) (read body : List ℕ) → Shows read (message.App 1 false body ∷ []) → EndStep id (read_state read new_end 1 []) (act.Kept (Many (reject ∷ beat ∷ []) 2)) (read_state read (folded new_end (Many (reject ∷ beat ∷ []) 2)) 2 (rejected_one body ∷ []))
-a_reject_among_many id read body shows = record { certain = refl; row = steps.kept_many (reject ∷ beat ∷ []) 2 (reject_and_beat read body shows) }
+pub a_reject_among_many : (id : Identity) (read body : List ℕ) → (Begun IsResetLogon read → ⊥) → Shows read (message.App 1 false body ∷ []) → EndStep id (read_state read new_end 1 []) (act.Kept (Many (reject ∷ beat ∷ []) 2)) (read_state read (folded new_end (Many (reject ∷ beat ∷ []) 2)) 2 (rejected_one body ∷ []))
+a_reject_among_many id read body free shows = record { certain = refl; row = steps.kept_many (reject ∷ beat ∷ []) 2 (reject_and_beat read body free shows) }
 
 -- where it isn't known whether the record was kept, the rejected order is kept beside it
 abbrev lost_state : List ℕ → List ℕ → EndState
-lost_state read body = record { end = new_end; expected = 1; handled = []; doubt = Some (Many (reject ∷ beat ∷ []) 2); beside = rejected_one body ∷ []; offered = None; connection = None }
+lost_state read body = record { role = Acceptor; end = new_end; expected = 1; handled = []; doubt = Some (Many (reject ∷ beat ∷ []) 2); beside = rejected_one body ∷ []; offered = None; connection = None }
 
-pub a_lost_many : (id : Identity) (read body : List ℕ) → Shows read (message.App 1 false body ∷ []) → EndStep id (read_state read new_end 1 []) (act.KeepLost (Many (reject ∷ beat ∷ []) 2)) (lost_state read body)
-a_lost_many id read body shows = record { certain = refl; row = steps.lost_many (reject ∷ beat ∷ []) 2 (reject_and_beat read body shows) }
+pub a_lost_many : (id : Identity) (read body : List ℕ) → (Begun IsResetLogon read → ⊥) → Shows read (message.App 1 false body ∷ []) → EndStep id (read_state read new_end 1 []) (act.KeepLost (Many (reject ∷ beat ∷ []) 2)) (lost_state read body)
+a_lost_many id read body free shows = record { certain = refl; row = steps.lost_many (reject ∷ beat ∷ []) 2 (reject_and_beat read body free shows) }
 
 -- and where it turns out to be kept, the order was handled
-pub a_lost_many_settles : (read body : List ℕ) → Move (lost_state read body) (record { end = folded new_end (Many (reject ∷ beat ∷ []) 2); expected = 2; handled = rejected_one body ∷ []; doubt = None; beside = rejected_one body ∷ []; offered = None; connection = None })
+pub a_lost_many_settles : (read body : List ℕ) → Move (lost_state read body) (record { role = Acceptor; end = folded new_end (Many (reject ∷ beat ∷ []) 2); expected = 2; handled = rejected_one body ∷ []; doubt = None; beside = rejected_one body ∷ []; offered = None; connection = None })
 a_lost_many_settles read body = steps.settles_with (Many (reject ∷ beat ∷ []) 2) refl
 
 -- with no connection no number is passed
@@ -154,19 +185,19 @@ chain_expects : {s s' : EndState} {pushes : List Entry} {k : ℕ} → Chain s pu
 chain_expects steps.ends none alone = inl refl
 chain_expects (steps.expects k some at) none alone = inr at
 chain_expects (steps.push steps.adds chain) none alone = chain_expects chain none alone
-chain_expects (steps.push (steps.rejects h r) chain) none alone = let is_open = r.is_open in cc
+chain_expects (steps.push (steps.rejects h free r) chain) none alone = let is_open = r.is_open in cc
 chain_expects (steps.pass (steps.settles_without r e) chain) none alone = cc
 chain_expects (steps.pass (steps.settles_with r e) chain) none alone = cc
-chain_expects (steps.pass (steps.past_admin c x o read at) chain) none alone = cc
-chain_expects (steps.pass (steps.past_app c n marked body o read at grew) chain) none alone = cc
-chain_expects (steps.pass (steps.past_gap c n m o read at lt) chain) none alone = cc
-chain_expects (steps.pass (steps.reset_to c n m o read le) chain) none alone = cc
+chain_expects (steps.pass (steps.past_admin c x free o read at) chain) none alone = cc
+chain_expects (steps.pass (steps.past_app c n marked body free o read at grew) chain) none alone = cc
+chain_expects (steps.pass (steps.past_gap c n m free o read at lt) chain) none alone = cc
+chain_expects (steps.pass (steps.reset_to c n m free o read le) chain) none alone = cc
 
 many_chain : {id : Identity} {s s' : EndState} {pushes : List Entry} {k : ℕ} → Row id s (act.Kept (Many pushes k)) s' → Chain s pushes k s'
 many_chain (steps.kept_many pushes k chain) = chain
 
 -- no other number than the running one is kept with them
-pub no_other_number_with_many : (id : Identity) (s' : EndState) → EndStep id new_state (act.Kept (Many (beat ∷ beat ∷ []) 2)) s' → ⊥
+pub no_other_number_with_many : (id : Identity) (s' : EndState) → EndStep id (new_state Initiator) (act.Kept (Many (beat ∷ beat ∷ []) 2)) s' → ⊥
 no_other_number_with_many id s' step = elim (chain_expects (many_chain step.row) refl refl) [ inl e ↦ omega (arith, e) | inr e ↦ omega (arith, e) ]
 
 -- ---- what is withheld
@@ -252,7 +283,7 @@ order_alone body (x ∷ before) after time kind about e = omega (arith, ap lengt
 
 -- an end with these entries, of which these are withheld
 abbrev end_of : List Entry → List ℕ → End
-end_of out held = record { out = out; stored = 1; since = None; withheld = held }
+end_of out held = record { out = out; stored = 1; since = None; withheld = held; asked = false }
 
 -- no gap fill passes over an order that isn't withheld
 no_skip : (body : List ℕ) → IsSkipped (end_of (App 0 Caller body ∷ []) []) 1 → ⊥

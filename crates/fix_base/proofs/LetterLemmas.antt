@@ -22,6 +22,8 @@ use Rattle.fix_base.specs.End.{Caller, Entry, App, Push, new_end, folded}
 use Rattle.fix_base.specs.Payload.{field, IsBodyOf, IsPersistentEntry}
 use Rattle.fix_base.specs.Wrote as wrote
 use Rattle.fix_base.specs.Wrote.{IsSealed, original_fields, Wrote}
+use Rattle.fix_base.proofs.Told as told
+use Rattle.fix_base.proofs.Told.{SaysEach}
 use Rattle.fix_base.proofs.Digits.{numerals, digits_no_soh}
 use Rattle.fix_base.proofs.PlainFields.{IsPlainField, plain_fields}
 use Rattle.fix_base.proofs.ShortFields.{clear_of, comp_id_clear, comp_id_short, IsShortField, short_fields}
@@ -147,6 +149,7 @@ pub record Letter (id : Identity) (body : List ℕ) : Type 0 where
   pub kept : IsPersistentEntry (App 0 Caller body)
   pub lawful : Wrote id new_end (folded new_end (Push (App 0 Caller body))) text
   pub shows : Shows text (message.App 1 false body ∷ [])
+  pub says : SaysEach (text ∷ []) (message.App 1 false body ∷ [])
 
 lawful : (id : Identity) → IsValidIdentity id → Wrote id new_end (folded new_end (Push entry)) (frame id)
 lawful id valid = record {
@@ -173,4 +176,5 @@ letter id valid = record {
   kept = entry_keepable;
   lawful = lawful id valid;
   shows = shown (frame id) (sealed_is_frame id (fields id) (frame id) (original_is id (decimal 1) at order [] tt) (frame_sealed id valid)) _ (app_original id 1 (frame id) at order [] (lit≤ tt) (lit≤ tt) body_is.app tt (frame_sealed id valid));
+  says = told.one (sealed_is_frame id (fields id) (frame id) (original_is id (decimal 1) at order [] tt) (frame_sealed id valid)) (app_original id 1 (frame id) at order [] (lit≤ tt) (lit≤ tt) body_is.app tt (frame_sealed id valid)) told.done;
 }

@@ -30,19 +30,22 @@ reads_same : (w : List ℕ) (s : EndState) (acts : List Act) (c : Connection) (k
 reads_same w s acts c k is_open same p d e = subst (λ z. IsPrefixOf (z ++ bytes_read acts) w) (sym same ∙ ap (λ (z : Connection). z.read) (some_same k d e)) p
 
 row_reads : {id : Identity} (w : List ℕ) (s s' : EndState) (x : Act) (acts : List Act) → x ≢ act.Opened → Row id s x s' → s.doubt ≡ None → Reads w s (x ∷ acts) → Reads w s' acts
-row_reads w s s' x acts further steps.opened none r = absurd (further refl)
+row_reads w s s' x acts further (steps.opened empty) none r = absurd (further refl)
 row_reads w s s' x acts further (steps.now t) none r = record { front = r.front }
 row_reads w s s' x acts further (steps.idle c o) none r = record { front = r.front }
 row_reads w s s' x acts further (steps.ended c o) none r = record { front = r.front }
 row_reads w s s' x acts further (steps.read b c o) none r = record { front = λ d e. subst (λ (k : Connection). IsPrefixOf (k.read ++ bytes_read acts) w) (some_same _ d e) (subst (λ z. IsPrefixOf z w) (sym (append_assoc c.read b (bytes_read acts))) (r.front c o)) }
-row_reads w s s' x acts further (steps.wrote b c o h) none r = record { front = reads_same w s acts c _ o refl (r.front c o) }
+row_reads w s s' x acts further (steps.wrote b c o h rule) none r = record { front = reads_same w s acts c _ o refl (r.front c o) }
 row_reads w s s' x acts further (steps.kept_push e pushed) none r = record { front = λ d o. r.front d (sym (pushed_connection pushed) ∙ o) }
 row_reads w s s' x acts further (steps.kept_expect n h) none r = record { front = r.front }
 row_reads w s s' x acts further (steps.kept_many pushes n chain) none r = record { front = λ d o. r.front d (sym (linked chain none).connection ∙ o) }
 row_reads w s s' x acts further (steps.kept_withhold n h) none r = record { front = r.front }
-row_reads w s s' x acts further (steps.kept_reset t) none r = record { front = λ d e. cc }
-row_reads w s s' x acts further (steps.handed c n marked body may) none r = record { front = reads_same w s acts c _ may.is_open refl (r.front c may.is_open) }
-row_reads w s s' x acts further (steps.hand_lost c n marked body may) none r = record { front = λ d e. cc }
+row_reads w s s' x acts further (steps.kept_reset t c answer o stay asks) none r = record { front = reads_same w s acts c _ o refl (r.front c o) }
+row_reads w s s' x acts further (steps.cut_reset t gone) none r = record { front = λ d e. cc }
+row_reads w s s' x acts further (steps.kept_ask t alone) none r = record { front = r.front }
+row_reads w s s' x acts further (steps.kept_confirm c o asking begun) none r = record { front = reads_same w s acts c _ o refl (r.front c o) }
+row_reads w s s' x acts further (steps.handed c n marked body free may) none r = record { front = reads_same w s acts c _ may.is_open refl (r.front c may.is_open) }
+row_reads w s s' x acts further (steps.hand_lost c n marked body free may) none r = record { front = λ d e. cc }
 row_reads w s s' x acts further (steps.allowed n may) none r = record { front = r.front }
 row_reads w s s' x acts further (steps.offers n may) none r = record { front = r.front }
 row_reads w s s' x acts further (steps.lost_push e) none r = record { front = λ d e. cc }
@@ -50,6 +53,8 @@ row_reads w s s' x acts further (steps.lost_expect n h) none r = record { front 
 row_reads w s s' x acts further (steps.lost_many pushes n chain) none r = record { front = λ d e. cc }
 row_reads w s s' x acts further (steps.lost_withhold n h) none r = record { front = λ d e. cc }
 row_reads w s s' x acts further (steps.lost_reset t) none r = record { front = λ d e. cc }
+row_reads w s s' x acts further (steps.lost_ask t alone) none r = record { front = λ d e. cc }
+row_reads w s s' x acts further (steps.lost_confirm c o asking begun) none r = record { front = λ d e. cc }
 row_reads w s s' x acts further steps.cut none r = record { front = λ d e. cc }
 row_reads w s s' x acts further steps.stopped none r = record { front = λ d e. cc }
 
@@ -57,14 +62,14 @@ row_reads w s s' x acts further steps.stopped none r = record { front = λ d e. 
 move_reads : (w : List ℕ) (s s' : EndState) (acts : List Act) → Move s s' → Reads w s acts → Reads w s' acts
 move_reads w s s' acts (steps.settles_without q e) r = record { front = r.front }
 move_reads w s s' acts (steps.settles_with q e) r = record { front = r.front }
-move_reads w s s' acts (steps.past_admin c x o read at) r = record { front = r.front }
-move_reads w s s' acts (steps.past_app c n marked body o read at grew) r = record { front = r.front }
-move_reads w s s' acts (steps.past_gap c n m o read at lt) r = record { front = r.front }
-move_reads w s s' acts (steps.reset_to c n m o read le) r = record { front = r.front }
+move_reads w s s' acts (steps.past_admin c x free o read at) r = record { front = r.front }
+move_reads w s s' acts (steps.past_app c n marked body free o read at grew) r = record { front = r.front }
+move_reads w s s' acts (steps.past_gap c n m free o read at lt) r = record { front = r.front }
+move_reads w s s' acts (steps.reset_to c n m free o read le) r = record { front = r.front }
 
 -- what was read means what the writer wrote
 hears_of : (f0 f1 : End) (w : List ℕ) → IsPersistent f1 → WroteMessages f0 f1 w → (s : EndState) (acts : List Act) → Reads w s acts → OpenBehind f0 s → Hears s f1
-hears_of f0 f1 w kept wrote s acts r b = record { each = λ c o x read. record { old = f0; means = front_means f0 f1 x kept wrote (prefix_front c.read (bytes_read acts) (r.front c o)) read.shows read.among; behind = b c o } }
+hears_of f0 f1 w kept wrote s acts r b = record { each = λ free c o x read. record { old = f0; means = front_means f0 f1 x kept wrote (prefix_front c.read (bytes_read acts) (r.front c o)) read.shows read.among; behind = b c o } }
 
 unmarked_is_above : (f0 f1 : End) (w : List ℕ) → IsPersistent f1 → WroteMessages f0 f1 w → (s : EndState) (acts : List Act) → Reads w s acts → (c : Connection) (n : ℕ) (marked : Bool) (body : List ℕ) → s.connection ≡ Some c → WasRead c (message.App n marked body) → n ≤ length f0.out → marked ≡ true
 unmarked_is_above f0 f1 w kept wrote s acts r c n marked body o read low =
@@ -73,8 +78,8 @@ unmarked_is_above f0 f1 w kept wrote s acts r c n marked body o read low =
 
 -- a Handed or HandLost of a number that the writer had at its Opened is marked
 row_marks : {id : Identity} (f0 f1 : End) (w : List ℕ) → IsPersistent f1 → WroteMessages f0 f1 w → (s s' : EndState) (x : Act) (acts : List Act) (n : ℕ) (marked : Bool) → Gives n marked x → Row id s x s' → Reads w s acts → n ≤ length f0.out → marked ≡ true
-row_marks f0 f1 w kept wrote s s' x acts n marked (handed body) (steps.handed c k m b may) r low = unmarked_is_above f0 f1 w kept wrote s acts r c k m b may.is_open may.frame low
-row_marks f0 f1 w kept wrote s s' x acts n marked (hand_lost body) (steps.hand_lost c k m b may) r low = unmarked_is_above f0 f1 w kept wrote s acts r c k m b may.is_open may.frame low
+row_marks f0 f1 w kept wrote s s' x acts n marked (handed body) (steps.handed c k m b free may) r low = unmarked_is_above f0 f1 w kept wrote s acts r c k m b may.is_open may.frame low
+row_marks f0 f1 w kept wrote s s' x acts n marked (hand_lost body) (steps.hand_lost c k m b free may) r low = unmarked_is_above f0 f1 w kept wrote s acts r c k m b may.is_open may.frame low
 
 -- what a reader holds by while it reads what was written
 record Holds (f0 f1 : End) (w : List ℕ) (s : EndState) (acts : List Act) : Type 0 where
@@ -108,7 +113,7 @@ run_keeps_up f0 f1 w kept wrote {s = s} {s' = s'} (steps.step {mid = mid} {a = x
     first_or_later y (there m) n marked gives low later = later y m n marked gives low
 
 opened_starts : {id : Identity} (f0 f1 : End) (w : List ℕ) (s s' : EndState) (acts : List Act) → WroteMessages f0 f1 w → s.doubt ≡ None → Row id s act.Opened s' → IsPrefixOf (bytes_read acts) w → Agrees s.end.stored s.handled f0 → Agrees s.expected s.handled f0 → Holds f0 f1 w s' acts
-opened_starts f0 f1 w s s' acts wrote none steps.opened front a b =
+opened_starts f0 f1 w s s' acts wrote none (steps.opened empty) front a b =
     record {
       reads = record { front = λ d e. subst (λ (k : Connection). IsPrefixOf (k.read ++ bytes_read acts) w) (some_same _ d e) front };
       certain = λ c o. none;

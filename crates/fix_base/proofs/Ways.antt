@@ -1,13 +1,18 @@
 -- What stays true of the world of two ends.
-use Rattle.std.proofs.Common.{◌≡◌, ℕ, ◌<◌, ◌≤◌, List, [], ◌∷◌, length, Some}
+use Rattle.std.proofs.Common.{◌≡◌, ◌⊎◌, ℕ, ◌<◌, ◌≤◌, List, [], ◌∷◌, length, Bool, Some}
 use Rattle.fix_base.specs.Lists.{Among, IsPrefixOf}
 use Rattle.fix_base.specs.End.{Record, End}
 use Rattle.fix_base.specs.Payload.{IsPersistent}
 use Rattle.fix_base.proofs.Told.{WroteMessages}
-use Rattle.fix_base.specs.EndStep.{Connection}
+use Rattle.fix_base.specs.Act as act
+use Rattle.fix_base.specs.Act.{Act}
+use Rattle.fix_base.specs.Session.{Identity}
+use Rattle.fix_base.specs.Message.{Message}
+use Rattle.fix_base.specs.Logon.{IsResetLogon, Begun}
+use Rattle.fix_base.specs.EndStep.{Connection, EndState, EndStep, IsAsking, WasRead}
 use Rattle.fix_base.proofs.FollowsLemmas.{OpenCertain, OpenBehind}
 use Rattle.fix_base.specs.Reader.{Follows}
-use Rattle.fix_base.specs.World.{Logged, Given, Side, IsPlainRecord}
+use Rattle.fix_base.specs.World.{Logged, Given, Side, rested, opened_side, wrote_side, gave_side, IsQuiet, IsPlainRecord}
 
 -- an end as it is, or as it was when a connection with a number above this one was opened: all that it
 -- may still write where a reader at this number or beyond can read it is kept by each of these, or
@@ -39,11 +44,30 @@ pub data Comes (f : Side) (n : ℕ) (bytes : List ℕ) : Type 0 where
   nothing : bytes ≡ [] → Comes f n bytes
   some : (l : Logged) → Among l f.log → l.number ≡ n → IsPrefixOf bytes l.wrote → Comes f n bytes
 
+-- whatever this connection has read, no message counts: a reset is asked for, or what was read begins
+-- with a Logon that tells of one that isn't answered
+pub data Deaf (s : EndState) (c : Connection) : Type 0 where
+  asks : IsAsking s → Deaf s c
+  waits : c.kept ≡ [] → ((x : Message) → WasRead c x → Begun IsResetLogon c.read) → Deaf s c
+
+-- the connection has read what was written with this number, or is deaf
+abbrev pub Heeds : Side → ℕ → EndState → Connection → Type 0
+Heeds f n s c = Comes f n c.read ⊎ Deaf s c
+
+-- one act of a side, beside the other as far as it matters: what is read counts where it was written
+pub data ViewStep (id : Identity) (a o : Side) : Act → Side → Type 0 where
+  opens : {s' : EndState} (c : ℕ) → a.number < c → EndStep id a.state act.Opened s' → ViewStep id a o act.Opened (opened_side a s' c)
+  reads : {s' : EndState} (b : List ℕ) → ((d : Connection) → s'.connection ≡ Some d → Heeds o a.number s' d) → EndStep id a.state (act.Read b) s' → ViewStep id a o (act.Read b) (rested a s')
+  writes : {s' : EndState} (b : List ℕ) → EndStep id a.state (act.Wrote b) s' → ViewStep id a o (act.Wrote b) (wrote_side a s' b)
+  hands : {s' : EndState} (n : ℕ) (marked : Bool) (body : List ℕ) → EndStep id a.state (act.Handed n marked body) s' → ViewStep id a o (act.Handed n marked body) (gave_side a s' n)
+  loses : {s' : EndState} (n : ℕ) (marked : Bool) (body : List ℕ) → EndStep id a.state (act.HandLost n marked body) s' → ViewStep id a o (act.HandLost n marked body) (gave_side a s' n)
+  rests : {s' : EndState} (x : Act) → IsQuiet x → EndStep id a.state x s' → ViewStep id a o x (rested a s')
+
 -- what is true of a reader e beside a writer f
 pub record Way (e f : Side) : Type 0 where
   -- the reader keeps up with each later moment of the writer
   pub follows : (h : End) → Later f e.number h → Follows e.state h
-  pub read : (c : Connection) → e.state.connection ≡ Some c → Comes f e.number c.read
+  pub read : (c : Connection) → e.state.connection ≡ Some c → Heeds f e.number e.state c
   pub told : (g : Given) → Among g e.given → g.connection ≤ e.number
   -- each number that was given is one of an entry at each later moment
   pub known : (g : Given) → Among g e.given → (h : End) → Later f e.number h → g.number ≤ length h.out

@@ -8,43 +8,42 @@ use Rattle.fix_base.specs.Act.{Act}
 use Rattle.fix_base.proofs.Told.{WroteMessages}
 use Rattle.fix_base.specs.Session.{Identity}
 use Rattle.fix_base.specs.EndStep.{Connection, EndState, EndStep, Move}
-use Rattle.fix_base.specs.World as world
-use Rattle.fix_base.specs.World.{Logged, Given, Side, grown_log, opened_side, wrote_side, rested, SideStep, IsPlainRecord, IsPlain, IsQuiet}
+use Rattle.fix_base.specs.World.{Logged, Given, Side, grown_log, opened_side, wrote_side, rested, IsPlain}
 use Rattle.fix_base.proofs.ListLemmas.{some_same, length-prefix, Among-cons_cases, prefix_refl, prefix_append, prefix_trans}
 use Rattle.fix_base.proofs.WroteLemmas.{GrowsTo-refl, WroteMessages-more, WroteMessages-nothing}
 use Rattle.fix_base.proofs.FollowsLemmas.{KeepsUp-more, OpenBehind, behind_starts}
 use Rattle.fix_base.proofs.Ways as ways
-use Rattle.fix_base.proofs.Ways.{Later, IsLast, Own, Comes, Way}
+use Rattle.fix_base.proofs.Ways.{Later, IsLast, Own, Comes, Way, ViewStep}
 use Rattle.fix_base.proofs.RowLemmas.{row_grows, row_persistent, row_plain, quiet_connection, opened_row, read_row, WroteRow, wrote_row, handed_row, lost_row, DoubtIsPlain, move_grows, move_persistent, move_plain, move_connection}
 
 -- ---- the log
 
 -- this stood in the log, with less written
-record WasIn (log : List Logged) (l : Logged) : Type 0 where
-  was : Logged
-  among : Among was log
-  number : was.number ≡ l.number
-  opened : was.opened ≡ l.opened
+pub record WasIn (log : List Logged) (l : Logged) : Type 0 where
+  pub was : Logged
+  pub among : Among was log
+  pub number : was.number ≡ l.number
+  pub opened : was.opened ≡ l.opened
 
 -- this stands in the log, with more written
-record StillIn (log : List Logged) (l : Logged) : Type 0 where
-  is : Logged
-  among : Among is log
-  number : is.number ≡ l.number
-  wrote : IsPrefixOf l.wrote is.wrote
+pub record StillIn (log : List Logged) (l : Logged) : Type 0 where
+  pub is : Logged
+  pub among : Among is log
+  pub number : is.number ≡ l.number
+  pub wrote : IsPrefixOf l.wrote is.wrote
 
 was_same : {log : List Logged} {l : Logged} → Among l log → WasIn log l
 was_same {l = l} m = record { was = l; among = m; number = refl; opened = refl }
 
-still_same : {log : List Logged} {l : Logged} → Among l log → StillIn log l
+pub still_same : {log : List Logged} {l : Logged} → Among l log → StillIn log l
 still_same {l = l} m = record { is = l; among = m; number = refl; wrote = prefix_refl l.wrote }
 
-grown_was : (log : List Logged) (b : List ℕ) (l : Logged) → Among l (grown_log log b) → WasIn log l
+pub grown_was : (log : List Logged) (b : List ℕ) (l : Logged) → Among l (grown_log log b) → WasIn log l
 grown_was [] b l m = elim m [ ]
 grown_was (k ∷ log) b l here = record { was = k; among = here; number = refl; opened = refl }
 grown_was (k ∷ log) b l (there m) = was_same (there m)
 
-grown_still : (log : List Logged) (b : List ℕ) (l : Logged) → Among l log → StillIn (grown_log log b) l
+pub grown_still : (log : List Logged) (b : List ℕ) (l : Logged) → Among l log → StillIn (grown_log log b) l
 grown_still [] b l m = elim m [ ]
 grown_still (k ∷ log) b l here = record { is = record { number = k.number; opened = k.opened; wrote = k.wrote ++ b }; among = here; number = refl; wrote = prefix_append k.wrote b }
 grown_still (k ∷ log) b l (there m) = still_same (there m)
@@ -52,22 +51,22 @@ grown_still (k ∷ log) b l (there m) = still_same (there m)
 -- ---- a writer that has grown
 
 -- a later moment is one of before, or has grown from one
-record Back (f : Side) (c : ℕ) (h : End) : Type 0 where
-  was : End
-  later : Later f c was
-  grew : GrowsTo was h
+pub record Back (f : Side) (c : ℕ) (h : End) : Type 0 where
+  pub was : End
+  pub later : Later f c was
+  pub grew : GrowsTo was h
 
-record Grows (f f' : Side) : Type 0 where
-  later : (c : ℕ) (h : End) → Later f' c h → Back f c h
-  logged : (l : Logged) → Among l f'.log → WasIn f.log l ⊎ (l.opened ≡ f.state.end)
-  wrote : (l : Logged) → Among l f.log → StillIn f'.log l
+pub record Grows (f f' : Side) : Type 0 where
+  pub later : (c : ℕ) (h : End) → Later f' c h → Back f c h
+  pub logged : (l : Logged) → Among l f'.log → WasIn f.log l ⊎ (l.opened ≡ f.state.end)
+  pub wrote : (l : Logged) → Among l f.log → StillIn f'.log l
 
 -- its reader keeps up
-way_grown : (e f f' : Side) → Way e f → Grows f f' → Way e f'
+pub way_grown : (e f f' : Side) → Way e f → Grows f f' → Way e f'
 way_grown e f f' w g =
     record {
       follows = λ h later. (let b = g.later e.number h later in KeepsUp-more b.grew (w.follows b.was b.later));
-      read = λ c o. comes (w.read c o);
+      read = λ c o. elim (w.read c o) [ inl k ↦ inl (comes k) | inr deaf ↦ inr deaf ];
       told = w.told;
       known = λ n m h later. (let b = g.later e.number h later in let known = w.known n m b.was b.later in let longer = length-prefix b.grew.out in omega arith);
       before = λ n m l among number lt. before n m l lt number (g.logged l among);
@@ -89,7 +88,7 @@ way_grown e f f' w g =
     behind l number (inr new) = subst (λ h. OpenBehind h e.state) (sym new) (λ c o. behind_starts e.state.expected (w.follows f.state.end ways.now).now)
 
 -- where the log stays
-same_log : (f : Side) (s' : EndState) (given : List Given) → GrowsTo f.state.end s'.end → Grows f (record { state = s'; number = f.number; log = f.log; given = given })
+pub same_log : (f : Side) (s' : EndState) (given : List Given) → GrowsTo f.state.end s'.end → Grows f (record { state = s'; number = f.number; log = f.log; given = given })
 same_log f s' given p = record { later = λ c h l. back c h l; logged = λ l m. inl (was_same m); wrote = λ l m. still_same m }
   where
     back : (c : ℕ) (h : End) → Later (record { state = s'; number = f.number; log = f.log; given = given }) c h → Back f c h
@@ -126,15 +125,15 @@ grown_log_grows f s' b p = record { later = λ c h l. back c h l; logged = λ l 
         record { was = was.was.opened; later = ways.opened was.was was.among (omega (arith, was.number)); grew = subst (λ (k : End). GrowsTo was.was.opened k) was.opened (GrowsTo-refl was.was.opened) }
 
 -- each act of a writer
-step_grows : {id : Identity} (f o f' : Side) (x : Act) → SideStep id f o x f' → IsPlain x → Grows f f'
-step_grows f o f' x (world.opens {s' = s'} c lt step) h = more_log f s' c (row_grows step.certain step.row h)
-step_grows f o f' x (world.reads {s' = s'} b c open_at front step) h = same_log f s' f.given (row_grows step.certain step.row h)
-step_grows f o f' x (world.writes {s' = s'} b step) h = grown_log_grows f s' b (row_grows step.certain step.row h)
-step_grows f o f' x (world.hands {s' = s'} n marked body step) h = same_log f s' (record { number = n; connection = f.number } ∷ f.given) (row_grows step.certain step.row h)
-step_grows f o f' x (world.loses {s' = s'} n marked body step) h = same_log f s' (record { number = n; connection = f.number } ∷ f.given) (row_grows step.certain step.row h)
-step_grows f o f' x (world.rests {s' = s'} y quiet step) h = same_log f s' f.given (row_grows step.certain step.row h)
+step_grows : {id : Identity} (f o f' : Side) (x : Act) → ViewStep id f o x f' → IsPlain x → Grows f f'
+step_grows f o f' x (ways.opens {s' = s'} c lt step) h = more_log f s' c (row_grows step.certain step.row h)
+step_grows f o f' x (ways.reads {s' = s'} b heeds step) h = same_log f s' f.given (row_grows step.certain step.row h)
+step_grows f o f' x (ways.writes {s' = s'} b step) h = grown_log_grows f s' b (row_grows step.certain step.row h)
+step_grows f o f' x (ways.hands {s' = s'} n marked body step) h = same_log f s' (record { number = n; connection = f.number } ∷ f.given) (row_grows step.certain step.row h)
+step_grows f o f' x (ways.loses {s' = s'} n marked body step) h = same_log f s' (record { number = n; connection = f.number } ∷ f.given) (row_grows step.certain step.row h)
+step_grows f o f' x (ways.rests {s' = s'} y quiet step) h = same_log f s' f.given (row_grows step.certain step.row h)
 
-pub writer_steps : {id : Identity} (e f o f' : Side) (x : Act) → Way e f → SideStep id f o x f' → IsPlain x → Way e f'
+pub writer_steps : {id : Identity} (e f o f' : Side) (x : Act) → Way e f → ViewStep id f o x f' → IsPlain x → Way e f'
 writer_steps e f o f' x w step h = way_grown e f f' w (step_grows f o f' x step h)
 
 pub writer_moves : (e f : Side) (s' : EndState) → Way e f → Own f → Move f.state s' → Way e (rested f s')
@@ -143,17 +142,17 @@ writer_moves e f s' w own m = way_grown e f (rested f s') w (same_log f s' f.giv
 -- ---- a side by itself
 
 -- the connection is that of before, as far as its writing goes
-record Carries (a : Side) (c : Connection) : Type 0 where
-  was : Connection
-  is_open : a.state.connection ≡ Some was
-  opened : was.opened ≡ c.opened
-  written : was.written ≡ c.written
+pub record Carries (a : Side) (c : Connection) : Type 0 where
+  pub was : Connection
+  pub is_open : a.state.connection ≡ Some was
+  pub opened : was.opened ≡ c.opened
+  pub written : was.written ≡ c.written
 
 carries_same : {a : Side} {c : Connection} → a.state.connection ≡ Some c → Carries a c
 carries_same {c = c} o = record { was = c; is_open = o; opened = refl; written = refl }
 
 -- where the log stays
-own_rests : (a : Side) (s' : EndState) (given : List Given) → Own a → GrowsTo a.state.end s'.end → IsPersistent s'.end → DoubtIsPlain s' → ((c : Connection) → s'.connection ≡ Some c → Carries a c) → Own (record { state = s'; number = a.number; log = a.log; given = given })
+pub own_rests : (a : Side) (s' : EndState) (given : List Given) → Own a → GrowsTo a.state.end s'.end → IsPersistent s'.end → DoubtIsPlain s' → ((c : Connection) → s'.connection ≡ Some c → Carries a c) → Own (record { state = s'; number = a.number; log = a.log; given = given })
 own_rests a s' given own p kept plain carries =
     let grows = same_log a s' given p in
     record {
@@ -210,7 +209,7 @@ own_opens a s' n own above step =
 
 -- where something is written
 own_writes : {id : Identity} (a : Side) (s' : EndState) (b : List ℕ) → Own a → EndStep id a.state (act.Wrote b) s' → Own (wrote_side a s' b)
-own_writes a s' b own step =
+own_writes {id = id} a s' b own step =
     record {
       below = λ l m. (let was = grown_was a.log b l m in omega (arith, own.below was.was was.among, was.number));
       last = λ c o. (let same = some_same _ c (sym r.connection ∙ o) in record {
@@ -235,7 +234,7 @@ own_writes a s' b own step =
     grows : Grows a (wrote_side a s' b)
     grows = grown_log_grows a s' b p
 
-    r : WroteRow a.state b s'
+    r : WroteRow id a.state b s'
     r = wrote_row step.row
 
     l0 : IsLast a r.was
@@ -255,24 +254,24 @@ own_writes a s' b own step =
     persistent c f ways.now = row_persistent step.certain step.row tt (own.persistent c a.state.end ways.now)
     persistent c f (ways.opened l m lt) = let was = grown_was a.log b l m in subst IsPersistent was.opened (own.persistent c was.was.opened (ways.opened was.was was.among (omega (arith, was.number))))
 
-pub own_steps : {id : Identity} (a o a' : Side) (x : Act) → Own a → SideStep id a o x a' → IsPlain x → Own a'
-own_steps a o a' x own (world.opens {s' = s'} c lt step) h = own_opens a s' c own lt step
-own_steps a o a' x own (world.writes {s' = s'} b step) h = own_writes a s' b own step
-own_steps a o a' x own (world.reads {s' = s'} b c open_at front step) h =
+pub own_steps : {id : Identity} (a o a' : Side) (x : Act) → Own a → ViewStep id a o x a' → IsPlain x → Own a'
+own_steps a o a' x own (ways.opens {s' = s'} c lt step) h = own_opens a s' c own lt step
+own_steps a o a' x own (ways.writes {s' = s'} b step) h = own_writes a s' b own step
+own_steps a o a' x own (ways.reads {s' = s'} b heeds step) h =
     let r = read_row step.row in
     own_rests a s' a.given own (row_grows step.certain step.row h) (row_persistent step.certain step.row h (own.persistent 0 a.state.end ways.now)) (row_plain step.row step.certain h)
     (λ d e. let same = some_same _ d (sym r.connection ∙ e) in record { was = r.was; is_open = r.is_open; opened = ap (λ (k : Connection). k.opened) same; written = ap (λ (k : Connection). k.written) same })
-own_steps a o a' x own (world.hands {s' = s'} n marked body step) h =
+own_steps a o a' x own (ways.hands {s' = s'} n marked body step) h =
     let r = handed_row step.row in
     own_rests a s' (record { number = n; connection = a.number } ∷ a.given) own (row_grows step.certain step.row h) (row_persistent step.certain step.row h (own.persistent 0 a.state.end ways.now)) (row_plain step.row step.certain h)
     (λ d e. let same = some_same _ d (sym r.connection ∙ e) in record { was = r.was; is_open = r.may.is_open; opened = ap (λ (k : Connection). k.opened) same; written = ap (λ (k : Connection). k.written) same })
-own_steps a o a' x own (world.loses {s' = s'} n marked body step) h =
+own_steps a o a' x own (ways.loses {s' = s'} n marked body step) h =
     let r = lost_row step.row in
     own_rests a s' (record { number = n; connection = a.number } ∷ a.given) own (row_grows step.certain step.row h) (row_persistent step.certain step.row h (own.persistent 0 a.state.end ways.now)) (row_plain step.row step.certain h)
     (λ d e. let none : None ≡ Some d = sym r.connection ∙ e in cc)
-own_steps a o a' x own (world.rests {s' = s'} y quiet step) h =
+own_steps a o a' x own (ways.rests {s' = s'} y quiet step) h =
     own_rests a s' a.given own (row_grows step.certain step.row h) (row_persistent step.certain step.row h (own.persistent 0 a.state.end ways.now)) (row_plain step.row step.certain h)
-    (λ d e. carries_same (quiet_connection step.certain step.row quiet d e))
+    (λ d e. carries_same (quiet_connection step.certain step.row quiet h d e))
 
 pub own_moves : (a : Side) (s' : EndState) → Own a → Move a.state s' → Own (rested a s')
 own_moves a s' own m =

@@ -46,7 +46,7 @@ short_number : (d : List ℕ) (n : ℕ) → length d ≤ 9 → number_in 1 99999
 short_number d n short e = let s : nat_le (length d) 9 ≡ true = le-leb (length d) 9 short in rw s e
 
 -- a MsgSeqNum (34) as it is written is readable
-seq_num_decimal : (n : ℕ) → 1 ≤ n → n ≤ 999999999 → seq_num_in (Some (decimal n)) ≡ Some n
+pub seq_num_decimal : (n : ℕ) → 1 ≤ n → n ≤ 999999999 → seq_num_in (Some (decimal n)) ≡ Some n
 seq_num_decimal n above below =
     let small : n < 2 ^ 64 = omega arith in
     short_number (decimal n) n (length-decimal-le 9 n (lit< tt) (omega arith) small) (number_decimal 1 999999999 n above below (lit< tt))
@@ -150,7 +150,7 @@ admin_from type n fs no_reset admin = rw (no_reset, admin) refl
 one_number : (number : List ℕ) (n times : ℕ) → times ≡ 0 → seq_num_in (Some number) ≡ Some n → (if 1 + times == 1 then seq_num_in (Some number) else None) ≡ Some n
 one_number number n times none is = rw none is
 
-original_number : (id : Identity) (number : List ℕ) (n : ℕ) (at type : List ℕ) (rest : List Field) → seq_num_in (Some number) ≡ Some n → AllByRecursion IsEntryField rest → seq_num_of (original_fields id number at type rest) ≡ Some n
+pub original_number : (id : Identity) (number : List ℕ) (n : ℕ) (at type : List ℕ) (rest : List Field) → seq_num_in (Some number) ≡ Some n → AllByRecursion IsEntryField rest → seq_num_of (original_fields id number at type rest) ≡ Some n
 original_number id number n at type rest is each = one_number number n (times_of 34 rest) (none_of_these 34 refl rest each) is
 
 repeat_number : (id : Identity) (number : List ℕ) (n : ℕ) (at was type : List ℕ) (rest : List Field) → seq_num_in (Some number) ≡ Some n → AllByRecursion IsEntryField rest → seq_num_of (repeat_fields id number at was type rest) ≡ Some n

@@ -1,22 +1,23 @@
 -- An end: what one side of a session stores. It is the fold of the records that were kept.
-use Rattle.std.specs.Prelude.{◌≡◌, ℕ, suc, ◌==◌, if◌then◌else◌, List, [], ◌∷◌, ◌++◌, length, Option, Some}
+use Rattle.std.specs.Prelude.{◌≡◌, ℕ, suc, ◌==◌, if◌then◌else◌, List, [], ◌∷◌, ◌++◌, length, Bool, true, false, Option, Some}
 use Rattle.fix_base.specs.Lists.{Among, IsPrefixOf}
 pub use Rattle.fix_base.specs.declared.entry.By.{By}
 pub use Rattle.fix_base.specs.declared.entry.By.TheVariants.{Caller, Engine}
 pub use Rattle.fix_base.specs.declared.entry.Entry.{Entry}
 pub use Rattle.fix_base.specs.declared.entry.Entry.TheVariants.{App, Admin}
 pub use Rattle.fix_base.specs.declared.entry.Record.{Record}
-pub use Rattle.fix_base.specs.declared.entry.Record.TheVariants.{Push, Expect, Many, Withhold, Reset}
+pub use Rattle.fix_base.specs.declared.entry.Record.TheVariants.{Push, Expect, Many, Withhold, Reset, ResetAsk, Confirm}
 
 pub record End : Type 0 where
   pub out : List Entry  -- the entries, numbered from 1
   pub stored : ℕ  -- the expected number that is kept
   pub since : Option ℕ  -- when it was last reset
   pub withheld : List ℕ  -- the numbers of the application messages that aren't to be sent again
+  pub asked : Bool  -- the counterparty is asked to reset, and hasn't answered
 
 -- a new end
 abbrev pub new_end : End
-new_end = record { out = []; stored = 1; since = Option.None; withheld = [] }
+new_end = record { out = []; stored = 1; since = Option.None; withheld = []; asked = false }
 
 -- the end with this expected number, where it isn't 0
 abbrev pub expecting : End → ℕ → End
@@ -28,7 +29,9 @@ folded e (Push entry) = record e { out = e.out ++ entry ∷ [] }
 folded e (Expect number) = record e { stored = number }
 folded e (Many pushes number) = expecting (record e { out = e.out ++ pushes }) number
 folded e (Withhold number) = record e { withheld = e.withheld ++ number ∷ [] }
-folded e (Reset time) = record { out = []; stored = 1; since = Some time; withheld = [] }
+folded e (Reset time) = record { out = []; stored = 1; since = Some time; withheld = []; asked = e.asked }
+folded e (ResetAsk time) = record { out = []; stored = 1; since = Some time; withheld = []; asked = true }
+folded e Confirm = record e { asked = false }
 
 -- the end after these records, in this order
 abbrev pub folded_all : End → List Record → End

@@ -11,6 +11,7 @@ pub mod Sealed
 pub mod Times
 pub mod Message
 pub mod Says
+pub mod Logon
 pub mod End
 pub mod Payload
 pub mod Act
@@ -22,4 +23,5 @@ pub mod EndStep
 pub mod Agrees
 pub mod Reader
 pub mod World
+pub mod Resets
 pub mod Seen

@@ -5,7 +5,7 @@ use Rattle.fix_base.specs.Lists.{Among}
 use Rattle.fix_base.specs.Tags.{is_session_tag}
 use Rattle.fix_base.specs.Fields.{Field, FieldsAfter}
 use Rattle.fix_base.specs.Says.{fields_text, is_admin_type}
-use Rattle.fix_base.specs.End.{Entry, App, Admin, Record, Push, Expect, Many, Withhold, Reset, End, IsAppAt, ONCE}
+use Rattle.fix_base.specs.End.{Entry, App, Admin, Record, Push, Expect, Many, Withhold, Reset, ResetAsk, Confirm, End, IsAppAt, ONCE}
 
 -- the last microsecond of 2099: a clock reading beyond it counts as this one
 abbrev pub LAST_TIME : ℕ
@@ -92,6 +92,8 @@ IsKeepable (Expect number) = (1 ≤ number) × (number ≤ 1000000000)
 IsKeepable (Many pushes number) = IsManyPayload pushes number
 IsKeepable (Withhold number) = (1 ≤ number) × (number ≤ 999999999)
 IsKeepable (Reset time) = time ≤ LAST_TIME
+IsKeepable (ResetAsk time) = time ≤ LAST_TIME
+IsKeepable Confirm = Unit {0}
 
 -- a record that may be kept in a store of this end: a number that is withheld is one of an App entry
 abbrev pub IsKeepableAt : End → Record → Type 0
@@ -100,6 +102,8 @@ IsKeepableAt e (Expect number) = IsKeepable (Expect number)
 IsKeepableAt e (Many pushes number) = IsManyPayload pushes number
 IsKeepableAt e (Withhold number) = (body : List ℕ) × IsAppAt e.out number body
 IsKeepableAt e (Reset time) = time ≤ LAST_TIME
+IsKeepableAt e (ResetAsk time) = time ≤ LAST_TIME
+IsKeepableAt e Confirm = Unit {0}
 
 -- how many bytes a record takes in a store's file: a gate, its length in four bytes, and what it says
 abbrev pub entry_size : Entry → ℕ
@@ -111,6 +115,8 @@ record_size (Expect number) = 10
 record_size (Many pushes number) = 14 + payloads_size pushes
 record_size (Withhold number) = 10
 record_size (Reset time) = 14
+record_size (ResetAsk time) = 14
+record_size Confirm = 10
 
 -- the entry is no application message that is sent once
 abbrev pub IsSentAgain : Entry → Type 0

@@ -4,11 +4,11 @@ use Rattle.std.specs.Prelude.{◌≡◌, ℕ, ◌<◌, ◌==◌, if◌then◌els
 use Rattle.std.specs.List.{AllByRecursion}
 use Rattle.fix_base.specs.Lists.{Among, IsPrefixOf}
 use Rattle.fix_base.specs.Session.{Identity, mirrored}
-use Rattle.fix_base.specs.End.{Record, Push, Expect, Many, Withhold, Reset, End, folded, app_entries}
+use Rattle.fix_base.specs.End.{Record, Push, Expect, Many, Withhold, Reset, ResetAsk, Confirm, End, folded, app_entries}
 use Rattle.fix_base.specs.Payload.{IsPersistentEntry}
 use Rattle.fix_base.specs.Act as act
 use Rattle.fix_base.specs.Act.{Act}
-use Rattle.fix_base.specs.EndStep.{Handling, Connection, EndState, new_state, EndStep, Move}
+use Rattle.fix_base.specs.EndStep.{Role, Initiator, Acceptor, Handling, Connection, EndState, new_state, EndStep, Move}
 use Rattle.fix_base.specs.Agrees.{ComesInOrder}
 use Rattle.fix_base.specs.Reader.{Follows, Gives}
 
@@ -35,12 +35,12 @@ pub record World : Type 0 where
   pub second : Side
 
 -- a side that never did anything
-abbrev pub new_side : Side
-new_side = record { state = new_state; number = 0; log = []; given = [] }
+abbrev pub new_side : Role → Side
+new_side role = record { state = new_state role; number = 0; log = []; given = [] }
 
 -- both ends are new
 abbrev pub new_world : World
-new_world = record { first = new_side; second = new_side }
+new_world = record { first = new_side Initiator; second = new_side Acceptor }
 
 -- what was written on the connection of this number
 abbrev pub wrote_at : ℕ → List Logged → List ℕ
@@ -132,6 +132,8 @@ IsPlainRecord (Expect k) = Unit {0}
 IsPlainRecord (Many pushes k) = AllByRecursion IsPersistentEntry pushes
 IsPlainRecord (Withhold n) = Unit {0}
 IsPlainRecord (Reset t) = ⊥
+IsPlainRecord (ResetAsk t) = ⊥
+IsPlainRecord Confirm = ⊥
 
 abbrev pub IsPlain : Act → Type 0
 IsPlain (act.Kept r) = IsPlainRecord r

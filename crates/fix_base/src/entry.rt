@@ -96,6 +96,10 @@ pub enum Record {
     Withhold(u32),
     /// The store reset at this time: no entries, and 1 is expected.
     Reset(u64),
+    /// The same, and the counterparty is to be asked by a Logon to reset too (ResetSeqNumFlag 141 = Y).
+    ResetAsk(u64),
+    /// The counterparty's Logon has answered that it reset.
+    Confirm,
 }
 
 /// What a message store tells of itself.
@@ -107,4 +111,6 @@ pub struct Stored {
     pub expected: u32,
     /// When the store was last reset, if ever.
     pub since: Option<u64>,
+    /// Whether the counterparty is asked to reset, and hasn't answered.
+    pub asked: bool,
 }

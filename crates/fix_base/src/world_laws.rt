@@ -11,6 +11,7 @@ ghost use Rattle.fix_base.specs.Wrote.{Wrote, WroteWhole, WritesNext};
 ghost use Rattle.fix_base.specs.EndStep.{EndState, EndStep, EndRun};
 ghost use Rattle.fix_base.specs.Agrees.{Agrees};
 ghost use Rattle.fix_base.specs.Reader.{bytes_read, AreOfOneConnection, ReaderKeepsUp};
+ghost use Rattle.fix_base.specs.Resets.{Parties, By, ResetsRun, ResetsAgree, SharesReset, new_parties};
 ghost use Rattle.fix_base.specs.World.{Event, World, WorldRun, EachPlain, WorldAgrees, Arrives, ComesAgain, PassesWithheld, ComeInOrder, new_world};
 
 /// What a writer has written stays lawful: nothing at the opening of a connection, with more
@@ -71,4 +72,20 @@ pub fn a_message_comes_again()
 /// reader passes the first number, hands the second order over, and expects the third.
 pub fn a_message_is_withheld()
     ensures { (id : Identity) → IsValidIdentity id → PassesWithheld id }
+{}
+
+/// Two ends that reset by Logon (ResetSeqNumFlag 141 = Y): the initiator asks for a reset on its next
+/// connection, and the acceptor answers. Where the last reset is shared, the two agree on all since
+/// then as they do where nothing is reset. Where it isn't, the initiator is ahead: it has asked,
+/// and handled nothing since. In each epoch a message that an application was given before comes
+/// marked (PossDupFlag 43 = Y). A reset of which nobody knows whether it was kept counts for the epoch
+/// where it turns out to be.
+pub fn resets_are_shared()
+    ensures { (id : Identity) (w : Parties) (events : List By) → ResetsRun id new_parties events w → ResetsAgree w }
+{}
+
+/// A reset is shared at times: the initiator asks for one, the acceptor reads the Logon (35=A) with
+/// ResetSeqNumFlag (141) = Y, resets and answers with one, and the initiator confirms.
+pub fn a_reset_is_shared()
+    ensures { (id : Identity) → IsValidIdentity id → SharesReset id }
 {}
