@@ -117,6 +117,8 @@ written-cons (act.Kept r) acts = refl
 written-cons (act.KeepLost r) acts = refl
 written-cons (act.Handed n marked body) acts = refl
 written-cons (act.HandLost n marked body) acts = refl
+written-cons (act.Withheld k) acts = refl
+written-cons (act.Allowed k) acts = refl
 written-cons act.Cut acts = refl
 written-cons act.Stop acts = refl
 
