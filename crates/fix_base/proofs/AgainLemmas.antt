@@ -17,7 +17,7 @@ use Rattle.fix_base.specs.Wrote.{IsSealed, repeat_fields, Wrote}
 use Rattle.fix_base.specs.EndStep as steps
 use Rattle.fix_base.specs.EndStep.{Role, Initiator, Acceptor, Connection, EndState, Handling, WasRead, Move}
 use Rattle.fix_base.specs.World as world
-use Rattle.fix_base.specs.World.{Side, World, new_side, new_world, rested, opened_side, wrote_side, gave_side, First, Second, Event, Does, SideStep, WorldRun, handed_over, ComesAgain}
+use Rattle.fix_base.specs.World.{Peer, World, new_peer, new_world, rested, opened_peer, wrote_peer, gave_peer, First, Second, Event, Does, PeerStep, WorldRun, handed_over, ComesAgain}
 use Rattle.fix_base.proofs.ListLemmas.{prefix_refl}
 use Rattle.fix_base.proofs.WroteLemmas.{GrowsTo-refl}
 use Rattle.fix_base.proofs.PlainFields.{IsPlainField, plain_fields}
@@ -121,16 +121,16 @@ abbrev w_state : List ℕ → List ℕ → EndState
 w_state body written = record { role = Acceptor; end = kept_end body; expected = 1; handled = []; doubt = None; beside = []; offered = None; connection = Some (w_connection body written) }
 
 -- with what it wrote first, and the repeat
-abbrev w1 : List ℕ → List ℕ → Side
-w1 body text = opened_side (a3 body text) (w_state body []) 2
+abbrev w1 : List ℕ → List ℕ → Peer
+w1 body text = opened_peer (a3 body text) (w_state body []) 2
 
-abbrev w2 : List ℕ → List ℕ → List ℕ → Side
-w2 body text again = wrote_side (w1 body text) (w_state body again) again
+abbrev w2 : List ℕ → List ℕ → List ℕ → Peer
+w2 body text again = wrote_peer (w1 body text) (w_state body again) again
 
-reopens : {id : Identity} (body text : List ℕ) (o : Side) → SideStep id (a3 body text) o act.Opened (w1 body text)
+reopens : {id : Identity} (body text : List ℕ) (o : Peer) → PeerStep id (a3 body text) o act.Opened (w1 body text)
 reopens body text o = world.opens 2 (lit< tt) (record { certain = refl; row = steps.opened (λ h. (let wrong = h.1 in cc)) })
 
-repeats : {id : Identity} (body text again : List ℕ) (o : Side) → Says2 body again → Wrote id (kept_end body) (kept_end body) again → SideStep id (w1 body text) o (act.Wrote again) (w2 body text again)
+repeats : {id : Identity} (body text again : List ℕ) (o : Peer) → Says2 body again → Wrote id (kept_end body) (kept_end body) again → PeerStep id (w1 body text) o (act.Wrote again) (w2 body text again)
 repeats body text again o says lawful = world.writes again (record { certain = refl; row = steps.wrote again (w_connection body []) refl lawful (orders_rule (w_state body []) (w_connection body []) again (λ h. (let wrong = h.1 in cc)) says (tt, tt) (front_of again)) })
 
 -- ---- the reader: it stops, opens the next connection, reads the repeat, hands it over, passes it and
@@ -149,13 +149,13 @@ r_connection read gave = record { opened = new_end; read = read; written = []; b
 abbrev r_state : End → ℕ → List Handling → Connection → EndState
 r_state end expected handled connection = record { role = Initiator; end = end; expected = expected; handled = handled; doubt = None; beside = []; offered = None; connection = Some connection }
 
-abbrev r0 : List ℕ → List ℕ → Side
+abbrev r0 : List ℕ → List ℕ → Peer
 r0 body text = rested (e3 body text) (record { role = Initiator; end = new_end; expected = 1; handled = once body; doubt = None; beside = []; offered = None; connection = None })
 
-abbrev r1 : List ℕ → List ℕ → Side
-r1 body text = opened_side (r0 body text) (r_state new_end 1 (once body) (r_connection [] [])) 2
+abbrev r1 : List ℕ → List ℕ → Peer
+r1 body text = opened_peer (r0 body text) (r_state new_end 1 (once body) (r_connection [] [])) 2
 
-abbrev r2 : List ℕ → List ℕ → List ℕ → Side
+abbrev r2 : List ℕ → List ℕ → List ℕ → Peer
 r2 body text again = rested (r1 body text) (r_state new_end 1 (once body) (r_connection again []))
 
 abbrev s3 : List ℕ → List ℕ → EndState
@@ -167,34 +167,34 @@ s4 body again = r_state new_end 2 (twice body) (r_connection again (1 ∷ []))
 abbrev s5 : List ℕ → List ℕ → EndState
 s5 body again = r_state (folded new_end (Expect 2)) 2 (twice body) (r_connection again (1 ∷ []))
 
-abbrev r3 : List ℕ → List ℕ → List ℕ → Side
-r3 body text again = gave_side (r2 body text again) (s3 body again) 1
+abbrev r3 : List ℕ → List ℕ → List ℕ → Peer
+r3 body text again = gave_peer (r2 body text again) (s3 body again) 1
 
-abbrev r4 : List ℕ → List ℕ → List ℕ → Side
+abbrev r4 : List ℕ → List ℕ → List ℕ → Peer
 r4 body text again = rested (r3 body text again) (s4 body again)
 
-abbrev r5 : List ℕ → List ℕ → List ℕ → Side
+abbrev r5 : List ℕ → List ℕ → List ℕ → Peer
 r5 body text again = rested (r4 body text again) (s5 body again)
 
-stops : {id : Identity} (body text : List ℕ) (o : Side) → SideStep id (e3 body text) o act.Stop (r0 body text)
+stops : {id : Identity} (body text : List ℕ) (o : Peer) → PeerStep id (e3 body text) o act.Stop (r0 body text)
 stops body text o = world.rests act.Stop tt (record { certain = refl; row = steps.stopped })
 
-opens_next : {id : Identity} (body text : List ℕ) (o : Side) → SideStep id (r0 body text) o act.Opened (r1 body text)
+opens_next : {id : Identity} (body text : List ℕ) (o : Peer) → PeerStep id (r0 body text) o act.Opened (r1 body text)
 opens_next body text o = world.opens 2 (lit< tt) (record { certain = refl; row = steps.opened (λ h. (let wrong = h.1 in cc)) })
 
 was_read : (body again gave : List ℕ) → Shows again (message.App 1 true body ∷ []) → WasRead (r_connection again gave) (message.App 1 true body)
 was_read body again gave shows = record { messages = message.App 1 true body ∷ []; shows = shows; among = here }
 
-reads : {id : Identity} (body text again : List ℕ) → SideStep id (r1 body text) (w2 body text again) (act.Read again) (r2 body text again)
+reads : {id : Identity} (body text again : List ℕ) → PeerStep id (r1 body text) (w2 body text again) (act.Read again) (r2 body text again)
 reads body text again = world.reads again (r_connection [] []) refl (prefix_refl again) (record { certain = refl; row = steps.read again (r_connection [] []) refl })
 
-hands : {id : Identity} (body text again : List ℕ) (o : Side) → Says2 body again → Shows again (message.App 1 true body ∷ []) → SideStep id (r2 body text again) o (act.Handed 1 true body) (r3 body text again)
+hands : {id : Identity} (body text again : List ℕ) (o : Peer) → Says2 body again → Shows again (message.App 1 true body ∷ []) → PeerStep id (r2 body text again) o (act.Handed 1 true body) (r3 body text again)
 hands body text again o says shows = world.hands 1 true body (record { certain = refl; row = steps.handed (r_connection again []) 1 true body (orders_free (r_state new_end 1 (once body) (r_connection again [])) (r_connection again []) refl (λ h. (let wrong = h.1 in cc)) says (tt, tt) (front_of again)) (record { is_open = refl; expected = refl; frame = was_read body again [] shows; unseen = λ m. elim m [ ] }) })
 
 passes : (body again : List ℕ) → Says2 body again → Shows again (message.App 1 true body ∷ []) → Move (s3 body again) (s4 body again)
 passes body again says shows = steps.past_app (r_connection again (1 ∷ [])) 1 true body (orders_free (s3 body again) (r_connection again (1 ∷ [])) refl (λ h. (let wrong = h.1 in cc)) says (tt, tt) (front_of again)) refl (was_read body again (1 ∷ []) shows) refl (record { item = handed_over true body; among = here; is = refl })
 
-expects : {id : Identity} (body text again : List ℕ) (o : Side) → SideStep id (r4 body text again) o (act.Kept (Expect 2)) (r5 body text again)
+expects : {id : Identity} (body text again : List ℕ) (o : Peer) → PeerStep id (r4 body text again) o (act.Kept (Expect 2)) (r5 body text again)
 expects body text again o = world.rests (act.Kept (Expect 2)) tt (record { certain = refl; row = steps.kept_expect 2 refl })
 
 -- ---- both

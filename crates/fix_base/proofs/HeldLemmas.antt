@@ -3,7 +3,6 @@
 use Rattle.std.proofs.Common.{◌≡◌, ℕ, ◌≤◌, ◌^◌, ◌<◌, nat_le, codes, List, [], ◌∷◌, length, false, Option, Some, None, refl, subst, lit<, lit≤, arith}
 use Rattle.std.specs.List.{AllByRecursion}
 use Rattle.std.specs.Fmt.{decimal}
-use Rattle.std.proofs.lemmas.Fmt.{digits_decimal, length-decimal-le}
 use Rattle.fix_base.specs.Lists.{here, there, IsPrefixOf}
 use Rattle.fix_base.specs.Frame.{HasNoSoh}
 use Rattle.fix_base.specs.Fields.{Field}
@@ -20,29 +19,22 @@ use Rattle.fix_base.specs.Wrote.{IsSealed, original_fields, gap_fields, Wrote}
 use Rattle.fix_base.specs.EndStep as steps
 use Rattle.fix_base.specs.EndStep.{Role, Initiator, Acceptor, IsBlocked, LogonRule, Connection, EndState, Handling, WasRead, Move}
 use Rattle.fix_base.specs.World as world
-use Rattle.fix_base.specs.World.{Side, World, new_side, new_world, rested, opened_side, wrote_side, gave_side, First, Second, Event, Does, SideStep, WorldRun, PassesWithheld}
+use Rattle.fix_base.specs.World.{Peer, World, new_peer, new_world, rested, opened_peer, wrote_peer, gave_peer, First, Second, Event, Does, PeerStep, WorldRun, PassesWithheld}
 use Rattle.fix_base.proofs.Told as told
 use Rattle.fix_base.proofs.Told.{SaysEach}
 use Rattle.fix_base.proofs.ListLemmas.{prefix_refl}
 use Rattle.fix_base.proofs.BytesLemmas.{shows_each}
 use Rattle.fix_base.proofs.OrderLemmas.{orders_rule, orders_free}
-use Rattle.fix_base.proofs.Digits.{numerals, digits_no_soh}
 use Rattle.fix_base.proofs.PlainFields.{IsPlainField, plain_fields}
 use Rattle.fix_base.proofs.ShortFields.{clear_of, comp_id_clear, comp_id_short, IsShortField, short_fields}
 use Rattle.fix_base.proofs.Seals.{sealed_is_frame}
 use Rattle.fix_base.proofs.WrittenLemmas.{original_is, app_original, gap_is, gap_fill_says}
 use Rattle.fix_base.proofs.WroteLemmas.{GrowsTo-trans}
 use Rattle.fix_base.proofs.WholeLemmas.{push_grows, withhold_grows}
-use Rattle.fix_base.proofs.LetterLemmas.{at, at_epoch, at_clear, order, order_field, order_short, body, body_is, letter}
+use Rattle.fix_base.proofs.LetterLemmas.{clear_number, short_number, at, at_epoch, at_clear, order, order_field, order_short, body, body_is, letter}
 use Rattle.fix_base.proofs.ArrivesLemmas.{entry, kept_end, of_both}
 
 -- ---- the two frames: a gap fill from 1 to 2, and the original of entry 2
-
-clear_number : (n : ℕ) → n < 2 ^ 64 → HasNoSoh (decimal n)
-clear_number n small = digits_no_soh (decimal n) (digits_decimal numerals n small)
-
-short_number : (n : ℕ) → n < 10 ^ 1 → length (decimal n) ≤ 64
-short_number n small = let l = length-decimal-le 1 n (lit< tt) small (omega arith) in omega arith
 
 abbrev gap_parts : Identity → List Field
 gap_parts id = gap_fields id (decimal 1) (decimal 2) at
@@ -197,48 +189,48 @@ c1 = connection new_end [] [] []
 abbrev c2 : List ℕ → List ℕ → Connection
 c2 body written = connection (kept_end body) [] written []
 
-abbrev w1 : Side
-w1 = opened_side (new_side Acceptor) (state Acceptor new_end 1 [] None c1) 1
+abbrev w1 : Peer
+w1 = opened_peer (new_peer Acceptor) (state Acceptor new_end 1 [] None c1) 1
 
-abbrev w2 : List ℕ → Side
+abbrev w2 : List ℕ → Peer
 w2 body = rested w1 (state Acceptor (kept_end body) 1 [] None c1)
 
-abbrev w3 : List ℕ → Side
-w3 body = opened_side (w2 body) (state Acceptor (kept_end body) 1 [] None (c2 body [])) 2
+abbrev w3 : List ℕ → Peer
+w3 body = opened_peer (w2 body) (state Acceptor (kept_end body) 1 [] None (c2 body [])) 2
 
-abbrev w4 : List ℕ → Side
+abbrev w4 : List ℕ → Peer
 w4 body = rested (w3 body) (state Acceptor (kept_end body) 1 [] (Some 1) (c2 body []))
 
-abbrev w5 : List ℕ → Side
+abbrev w5 : List ℕ → Peer
 w5 body = rested (w4 body) (state Acceptor (held_end body) 1 [] None (c2 body []))
 
-abbrev w6 : List ℕ → Side
+abbrev w6 : List ℕ → Peer
 w6 body = rested (w5 body) (state Acceptor (both_end body) 1 [] None (c2 body []))
 
-abbrev w7 : List ℕ → List ℕ → Side
-w7 body text = wrote_side (w6 body) (state Acceptor (both_end body) 1 [] None (c2 body text)) text
+abbrev w7 : List ℕ → List ℕ → Peer
+w7 body text = wrote_peer (w6 body) (state Acceptor (both_end body) 1 [] None (c2 body text)) text
 
-opens : {id : Identity} (o : Side) → SideStep id (new_side Acceptor) o act.Opened w1
+opens : {id : Identity} (o : Peer) → PeerStep id (new_peer Acceptor) o act.Opened w1
 opens o = world.opens 1 (lit< tt) (record { certain = refl; row = steps.opened (λ h. (let wrong = h.1 in cc)) })
 
-keeps : {id : Identity} (body : List ℕ) (o : Side) → SideStep id w1 o (act.Kept (Push (entry body))) (w2 body)
+keeps : {id : Identity} (body : List ℕ) (o : Peer) → PeerStep id w1 o (act.Kept (Push (entry body))) (w2 body)
 keeps body o = world.rests (act.Kept (Push (entry body))) tt (record { certain = refl; row = steps.kept_push (entry body) steps.adds })
 
-reopens : {id : Identity} (body : List ℕ) (o : Side) → SideStep id (w2 body) o act.Opened (w3 body)
+reopens : {id : Identity} (body : List ℕ) (o : Peer) → PeerStep id (w2 body) o act.Opened (w3 body)
 reopens body o = world.opens 2 (lit< tt) (record { certain = refl; row = steps.opened (λ h. (let wrong = h.1 in cc)) })
 
-holds : {id : Identity} (body : List ℕ) (o : Side) → SideStep id (w3 body) o (act.Withheld 1) (w4 body)
+holds : {id : Identity} (body : List ℕ) (o : Peer) → PeerStep id (w3 body) o (act.Withheld 1) (w4 body)
 holds body o =
     world.rests (act.Withheld 1) tt
     (record { certain = refl; row = steps.offers 1 (record { body = body; app = record { time = 0; by = Caller; entry = record { before = []; after = []; is = refl; place = refl } }; free = λ m. elim m [ ] }) })
 
-keeps_held : {id : Identity} (body : List ℕ) (o : Side) → SideStep id (w4 body) o (act.Kept (Withhold 1)) (w5 body)
+keeps_held : {id : Identity} (body : List ℕ) (o : Peer) → PeerStep id (w4 body) o (act.Kept (Withhold 1)) (w5 body)
 keeps_held body o = world.rests (act.Kept (Withhold 1)) tt (record { certain = refl; row = steps.kept_withhold 1 refl })
 
-keeps_next : {id : Identity} (body : List ℕ) (o : Side) → SideStep id (w5 body) o (act.Kept (Push (entry body))) (w6 body)
+keeps_next : {id : Identity} (body : List ℕ) (o : Peer) → PeerStep id (w5 body) o (act.Kept (Push (entry body))) (w6 body)
 keeps_next body o = world.rests (act.Kept (Push (entry body))) tt (record { certain = refl; row = steps.kept_push (entry body) steps.adds })
 
-writes : {id : Identity} (body text : List ℕ) (o : Side) → LogonRule id (w6 body).state (c2 body []) text → Wrote id (kept_end body) (both_end body) text → SideStep id (w6 body) o (act.Wrote text) (w7 body text)
+writes : {id : Identity} (body text : List ℕ) (o : Peer) → LogonRule id (w6 body).state (c2 body []) text → Wrote id (kept_end body) (both_end body) text → PeerStep id (w6 body) o (act.Wrote text) (w7 body text)
 writes body text o rule lawful = world.writes text (record { certain = refl; row = steps.wrote text (c2 body []) refl lawful rule })
 
 -- ---- the reader: it opens its connection with the second number, reads, passes the gap, hands order 2
@@ -247,37 +239,37 @@ writes body text o rule lawful = world.writes text (record { certain = refl; row
 abbrev order_2 : List ℕ → Handling
 order_2 body = record { number = 2; body = body; marked = false; rejected = false }
 
-abbrev r1 : Side
-r1 = opened_side (new_side Initiator) (state Initiator new_end 1 [] None c1) 2
+abbrev r1 : Peer
+r1 = opened_peer (new_peer Initiator) (state Initiator new_end 1 [] None c1) 2
 
-abbrev r2 : List ℕ → Side
+abbrev r2 : List ℕ → Peer
 r2 text = rested r1 (state Initiator new_end 1 [] None (connection new_end text [] []))
 
-abbrev r3 : List ℕ → Side
+abbrev r3 : List ℕ → Peer
 r3 text = rested (r2 text) (state Initiator new_end 2 [] None (connection new_end text [] []))
 
-abbrev r4 : List ℕ → List ℕ → Side
-r4 body text = gave_side (r3 text) (state Initiator new_end 2 (order_2 body ∷ []) None (connection new_end text [] (2 ∷ []))) 2
+abbrev r4 : List ℕ → List ℕ → Peer
+r4 body text = gave_peer (r3 text) (state Initiator new_end 2 (order_2 body ∷ []) None (connection new_end text [] (2 ∷ []))) 2
 
-abbrev r5 : List ℕ → List ℕ → Side
+abbrev r5 : List ℕ → List ℕ → Peer
 r5 body text = rested (r4 body text) (state Initiator new_end 3 (order_2 body ∷ []) None (connection new_end text [] (2 ∷ [])))
 
-abbrev r6 : List ℕ → List ℕ → Side
+abbrev r6 : List ℕ → List ℕ → Peer
 r6 body text = rested (r5 body text) (state Initiator (folded new_end (Expect 3)) 3 (order_2 body ∷ []) None (connection new_end text [] (2 ∷ [])))
 
 abbrev shown : List ℕ → List Message
 shown body = message.GapFill 1 2 ∷ message.App 2 false body ∷ []
 
-opens_second : {id : Identity} (o : Side) → SideStep id (new_side Initiator) o act.Opened r1
+opens_second : {id : Identity} (o : Peer) → PeerStep id (new_peer Initiator) o act.Opened r1
 opens_second o = world.opens 2 (lit< tt) (record { certain = refl; row = steps.opened (λ h. (let wrong = h.1 in cc)) })
 
-reads : {id : Identity} (body text : List ℕ) → SideStep id r1 (w7 body text) (act.Read text) (r2 text)
+reads : {id : Identity} (body text : List ℕ) → PeerStep id r1 (w7 body text) (act.Read text) (r2 text)
 reads body text = world.reads text c1 refl (prefix_refl text) (record { certain = refl; row = steps.read text c1 refl })
 
 passes_gap : (body text : List ℕ) → (IsBlocked (r2 text).state → ⊥) → Shows text (shown body) → Move (r2 text).state (r3 text).state
 passes_gap body text free shows = steps.past_gap (connection new_end text [] []) 1 2 free refl (record { messages = shown body; shows = shows; among = here }) refl (lit< tt)
 
-hands : {id : Identity} (body text : List ℕ) (o : Side) → (IsBlocked (r3 text).state → ⊥) → Shows text (shown body) → SideStep id (r3 text) o (act.Handed 2 false body) (r4 body text)
+hands : {id : Identity} (body text : List ℕ) (o : Peer) → (IsBlocked (r3 text).state → ⊥) → Shows text (shown body) → PeerStep id (r3 text) o (act.Handed 2 false body) (r4 body text)
 hands body text o free shows =
     world.hands 2 false body
     (record { certain = refl; row = steps.handed (connection new_end text [] []) 2 false body free (record { is_open = refl; expected = refl; frame = record { messages = shown body; shows = shows; among = there here }; unseen = λ m. elim m [ ] }) })
@@ -285,30 +277,30 @@ hands body text o free shows =
 passes : (body text : List ℕ) → (IsBlocked (r4 body text).state → ⊥) → Shows text (shown body) → Move (r4 body text).state (r5 body text).state
 passes body text free shows = steps.past_app (connection new_end text [] (2 ∷ [])) 2 false body free refl (record { messages = shown body; shows = shows; among = there here }) refl (record { item = order_2 body; among = here; is = refl })
 
-expects : {id : Identity} (body text : List ℕ) (o : Side) → SideStep id (r5 body text) o (act.Kept (Expect 3)) (r6 body text)
+expects : {id : Identity} (body text : List ℕ) (o : Peer) → PeerStep id (r5 body text) o (act.Kept (Expect 3)) (r6 body text)
 expects body text o = world.rests (act.Kept (Expect 3)) tt (record { certain = refl; row = steps.kept_expect 3 refl })
 
 -- ---- both
 
-late : {id : Identity} (body text : List ℕ) {texts : List (List ℕ)} → SaysEach texts (shown body) → IsPrefixOf text (joined texts) → Shows text (shown body) → WorldRun id (of_both (new_side Initiator) (w7 body text)) (Does First act.Opened ∷ Does First (act.Read text) ∷ Does First (act.Handed 2 false body) ∷ Does First (act.Kept (Expect 3)) ∷ []) (of_both (r6 body text) (w7 body text))
+late : {id : Identity} (body text : List ℕ) {texts : List (List ℕ)} → SaysEach texts (shown body) → IsPrefixOf text (joined texts) → Shows text (shown body) → WorldRun id (of_both (new_peer Initiator) (w7 body text)) (Does First act.Opened ∷ Does First (act.Read text) ∷ Does First (act.Handed 2 false body) ∷ Does First (act.Kept (Expect 3)) ∷ []) (of_both (r6 body text) (w7 body text))
 late body text each front shows =
     let other = w7 body text in
-    world.step {w = of_both (new_side Initiator) other} {a' = r1} First act.Opened (opens_second other)
+    world.step {w = of_both (new_peer Initiator) other} {a' = r1} First act.Opened (opens_second other)
     (world.step {w = of_both r1 other} {a' = r2 text} First (act.Read text) (reads body text)
     (world.move {w = of_both (r2 text) other} {s' = (r3 text).state} First (passes_gap body text (orders_free (r2 text).state (connection new_end text [] []) refl (λ h. (let wrong = h.1 in cc)) each (tt, (tt, tt)) front) shows)
     (world.step {w = of_both (r3 text) other} {a' = r4 body text} First (act.Handed 2 false body) (hands body text other (orders_free (r3 text).state (connection new_end text [] []) refl (λ h. (let wrong = h.1 in cc)) each (tt, (tt, tt)) front) shows)
     (world.move {w = of_both (r4 body text) other} {s' = (r5 body text).state} First (passes body text (orders_free (r4 body text).state (connection new_end text [] (2 ∷ [])) refl (λ h. (let wrong = h.1 in cc)) each (tt, (tt, tt)) front) shows)
     (world.step {w = of_both (r5 body text) other} {a' = r6 body text} First (act.Kept (Expect 3)) (expects body text other) world.stop)))))
 
-early : {id : Identity} (body text : List ℕ) {events : List Event} {texts : List (List ℕ)} {w : World} → SaysEach texts (shown body) → IsPrefixOf text (joined texts) → Wrote (mirrored id) (kept_end body) (both_end body) text → WorldRun id (of_both (new_side Initiator) (w7 body text)) events w → WorldRun id new_world (Does Second act.Opened ∷ Does Second (act.Kept (Push (entry body))) ∷ Does Second act.Opened ∷ Does Second (act.Withheld 1) ∷ Does Second (act.Kept (Withhold 1)) ∷ Does Second (act.Kept (Push (entry body))) ∷ Does Second (act.Wrote text) ∷ events) w
+early : {id : Identity} (body text : List ℕ) {events : List Event} {texts : List (List ℕ)} {w : World} → SaysEach texts (shown body) → IsPrefixOf text (joined texts) → Wrote (mirrored id) (kept_end body) (both_end body) text → WorldRun id (of_both (new_peer Initiator) (w7 body text)) events w → WorldRun id new_world (Does Second act.Opened ∷ Does Second (act.Kept (Push (entry body))) ∷ Does Second act.Opened ∷ Does Second (act.Withheld 1) ∷ Does Second (act.Kept (Withhold 1)) ∷ Does Second (act.Kept (Push (entry body))) ∷ Does Second (act.Wrote text) ∷ events) w
 early body text each front lawful d =
-    world.step {w = new_world} {a' = w1} Second act.Opened (opens (new_side Initiator))
-    (world.step {w = of_both (new_side Initiator) w1} {a' = w2 body} Second (act.Kept (Push (entry body))) (keeps body (new_side Initiator))
-    (world.step {w = of_both (new_side Initiator) (w2 body)} {a' = w3 body} Second act.Opened (reopens body (new_side Initiator))
-    (world.step {w = of_both (new_side Initiator) (w3 body)} {a' = w4 body} Second (act.Withheld 1) (holds body (new_side Initiator))
-    (world.step {w = of_both (new_side Initiator) (w4 body)} {a' = w5 body} Second (act.Kept (Withhold 1)) (keeps_held body (new_side Initiator))
-    (world.step {w = of_both (new_side Initiator) (w5 body)} {a' = w6 body} Second (act.Kept (Push (entry body))) (keeps_next body (new_side Initiator))
-    (world.step {w = of_both (new_side Initiator) (w6 body)} {a' = w7 body text} Second (act.Wrote text) (writes body text (new_side Initiator) (orders_rule (w6 body).state (c2 body []) text (λ h. (let wrong = h.1 in cc)) each (tt, (tt, tt)) front) lawful) d))))))
+    world.step {w = new_world} {a' = w1} Second act.Opened (opens (new_peer Initiator))
+    (world.step {w = of_both (new_peer Initiator) w1} {a' = w2 body} Second (act.Kept (Push (entry body))) (keeps body (new_peer Initiator))
+    (world.step {w = of_both (new_peer Initiator) (w2 body)} {a' = w3 body} Second act.Opened (reopens body (new_peer Initiator))
+    (world.step {w = of_both (new_peer Initiator) (w3 body)} {a' = w4 body} Second (act.Withheld 1) (holds body (new_peer Initiator))
+    (world.step {w = of_both (new_peer Initiator) (w4 body)} {a' = w5 body} Second (act.Kept (Withhold 1)) (keeps_held body (new_peer Initiator))
+    (world.step {w = of_both (new_peer Initiator) (w5 body)} {a' = w6 body} Second (act.Kept (Push (entry body))) (keeps_next body (new_peer Initiator))
+    (world.step {w = of_both (new_peer Initiator) (w6 body)} {a' = w7 body text} Second (act.Wrote text) (writes body text (new_peer Initiator) (orders_rule (w6 body).state (c2 body []) text (λ h. (let wrong = h.1 in cc)) each (tt, (tt, tt)) front) lawful) d))))))
 
 passes_as : (id : Identity) (body : List ℕ) → IsPersistentEntry (entry body) → Written (mirrored id) body → PassesWithheld id
 passes_as id body kept t = record {

@@ -272,7 +272,7 @@ a_heartbeat_may_be_written id valid = record {
   grew = push_grows new_end beat;
   texts = sealed id.begin (fields_text (beat_fields id)) ∷ [];
   last = 1;
-  writes = wrote.original 1 beat (lit≤ tt) (lit< tt) (record { before = []; after = []; is = refl; place = refl }) (record { type = codes "0"; at = at; rest = []; carries = wrote.admin refl tt; sent_at = at_epoch; sealed_so = beat_sealed id valid }) wrote.done;
+  writes = wrote.original 1 beat (lit≤ tt) (lit< tt) (record { before = []; after = []; is = refl; place = refl }) (record { type = codes "0"; at = at; rest = []; carries = wrote.admin (wrote.heartbeat None); sent_at = at_epoch; sealed_so = beat_sealed id valid }) wrote.done;
   front = record { rest = []; is = refl };
 }
 

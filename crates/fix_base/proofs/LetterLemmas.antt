@@ -1,5 +1,5 @@
 -- One message that a counterparty keeps and writes: the frame is lawful, and says it.
-use Rattle.std.proofs.Common.{◌≡◌, inl, ℕ, ◌≤◌, nat_le, codes, false, List, [], ◌∷◌, length, refl, sym, ap, lit<, lit≤, arith}
+use Rattle.std.proofs.Common.{◌≡◌, inl, ℕ, ◌<◌, ◌≤◌, ◌^◌, nat_le, codes, false, List, [], ◌∷◌, length, refl, sym, ap, lit<, lit≤, arith}
 use Rattle.std.specs.Prelude.{pos, ◌+ℤ◌, ◌*ℤ◌}
 use Rattle.std.specs.List.{AllByRecursion}
 use Rattle.std.specs.Fmt.{decimal}
@@ -32,8 +32,14 @@ use Rattle.fix_base.proofs.Seals.{sealed_is_frame}
 use Rattle.fix_base.proofs.WholeLemmas.{push_grows}
 use Rattle.fix_base.proofs.WrittenLemmas.{original_is, app_original}
 
+pub clear_number : (n : ℕ) → n < 2 ^ 64 → HasNoSoh (decimal n)
+clear_number n small = digits_no_soh (decimal n) (digits_decimal numerals n small)
+
+pub short_number : (n : ℕ) → n < 10 ^ 2 → length (decimal n) ≤ 64
+short_number n small = let l = length-decimal-le 2 n (lit< tt) small (omega arith) in omega arith
+
 pub number_clear : HasNoSoh (decimal 1)
-number_clear = digits_no_soh (decimal 1) (digits_decimal numerals 1 (lit< tt))
+number_clear = clear_number 1 (lit< tt)
 
 -- ---- the time 0
 
@@ -79,7 +85,7 @@ abbrev pub body : List ℕ
 body = fields_text (field 35 order ∷ [])
 
 pub body_is : IsBodyOf body order []
-body_is = record { spelled = refl; fields = plain_fields (field 35 order ∷ []) (order_field, tt); app = record { no_reset = refl; no_admin = refl }; each = tt }
+body_is = record { spelled = refl; fields = plain_fields (field 35 order ∷ []) (order_field, tt); app = record { no_admin = refl }; each = tt }
 
 some_type : order ≡ [] → ⊥
 some_type e = cc
@@ -121,7 +127,7 @@ plain id valid = (
 )
 
 pub number_short : length (decimal 1) ≤ 64
-number_short = let l = length-decimal-le 1 1 (lit< tt) (lit< tt) (lit< tt) in omega arith
+number_short = short_number 1 (lit< tt)
 
 short : (id : Identity) → IsValidIdentity id → AllByRecursion IsShortField (fields id)
 short id valid = (

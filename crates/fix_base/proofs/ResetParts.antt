@@ -1,4 +1,4 @@
--- What stays true of the two parties of a world that resets by Logon, each by itself.
+-- What stays true of the two peers of a world that resets by Logon, each by itself.
 use Rattle.std.proofs.Common.{◌≡◌, inl, inr, ℕ, ◌<◌, ◌≤◌, List, [], ◌∷◌, ◌++◌, true, Some, None, refl, sym, ap, ◌∙◌, subst, arith}
 use Rattle.std.proofs.lemmas.List.{append-nil}
 use Rattle.fix_base.specs.Lists.{Among, here, there, IsPrefixOf}
@@ -17,8 +17,8 @@ use Rattle.fix_base.specs.EndStep.{Role, Initiator, Acceptor, Answer, AskedReset
 use Rattle.fix_base.specs.Agrees as agrees
 use Rattle.fix_base.specs.Agrees.{fresh, Less}
 use Rattle.fix_base.specs.Reader.{Follows}
-use Rattle.fix_base.specs.World.{Logged, Given, Side, grown_log}
-use Rattle.fix_base.specs.Resets.{Handover, Party, MarksSince}
+use Rattle.fix_base.specs.World.{Logged, Given, Peer, grown_log}
+use Rattle.fix_base.specs.Resets.{Handover, EpochPeer, MarksSince}
 use Rattle.fix_base.proofs.ListLemmas.{prefix_trans, Among-append_right, Among-cons_cases}
 use Rattle.fix_base.proofs.FramingLemmas.{front_frames}
 use Rattle.fix_base.proofs.BytesLemmas.{read_among, spells_nothing}
@@ -141,20 +141,20 @@ grown_parts l xs ys b = refl
 pub grown_split : (log first rest before : List Logged) (l : Logged) (b : List ℕ) → log ≡ first ++ rest → first ≡ l ∷ before → grown_log log b ≡ grown_log first b ++ rest
 grown_split log first rest before l b e f = ap (λ w. grown_log w b) (e ∙ ap (λ w. w ++ rest) f) ∙ ap (λ w. grown_log w b ++ rest) (sym f)
 
--- a party as a side with all its connections
-abbrev pub whole : Party → Side
+-- a peer of an epoch as a peer with all its connections
+abbrev pub whole : EpochPeer → Peer
 whole p = record { state = p.state; number = p.number; log = p.log; given = [] }
 
--- a party as a side of an epoch, with these connections and these messages given
-abbrev pub seen_as : Party → List Logged → List Given → Side
+-- a peer as a peer of an epoch, with these connections and these messages given
+abbrev pub seen_as : EpochPeer → List Logged → List Given → Peer
 seen_as p log given = record { state = p.state; number = p.number; log = log; given = given }
 
-pub comes_on : {f f' : Side} {n : ℕ} {bytes : List ℕ} → ((l : Logged) → Among l f.log → StillIn f'.log l) → Comes f n bytes → Comes f' n bytes
+pub comes_on : {f f' : Peer} {n : ℕ} {bytes : List ℕ} → ((l : Logged) → Among l f.log → StillIn f'.log l) → Comes f n bytes → Comes f' n bytes
 comes_on still (ways.nothing e) = ways.nothing e
 comes_on still (ways.some l m number front) = let s = still l m in ways.some s.is s.among (s.number ∙ number) (prefix_trans front s.wrote)
 
 -- what is read on an open connection is a front of what the other has written there
-abbrev pub OpenReads : Party → Party → Type 0
+abbrev pub OpenReads : EpochPeer → EpochPeer → Type 0
 OpenReads p o = (c : Connection) → p.state.connection ≡ Some c → Comes (whole o) p.number c.read
 
 -- ---- what was given

@@ -15,35 +15,33 @@ use Rattle.fix_base.specs.End.{Entry, Admin, Push, Reset, ResetAsk, Confirm, End
 use Rattle.fix_base.specs.Act as act
 use Rattle.fix_base.specs.Payload.{field, IsEntryField, IsPersistentEntry}
 use Rattle.fix_base.specs.Wrote as wrote
-use Rattle.fix_base.specs.Wrote.{IsSealed, original_fields, IsOriginal, Wrote}
+use Rattle.fix_base.specs.Wrote.{IsSealed, original_fields, AdminFields, IsOriginal, Wrote}
 use Rattle.fix_base.specs.EndStep as steps
 use Rattle.fix_base.specs.EndStep.{Role, Initiator, Acceptor, Answer, AskedReset, Confirmed, Connection, EndState, new_state, IsAsking, IsAskedReset, LogonRule}
 use Rattle.fix_base.specs.Resets as resets
-use Rattle.fix_base.specs.Resets.{Party, Parties, new_party, new_parties, still, opened_party, wrote_party, reset_party, asking_party, PartyStep, By, Initiates, Accepts, ResetsRun, SharesReset}
+use Rattle.fix_base.specs.Resets.{EpochPeer, EpochPeers, new_epoch_peer, new_epoch_peers, still, opened_epoch_peer, wrote_epoch_peer, reset_epoch_peer, asking_epoch_peer, EpochStep, ResetEvent, Initiates, Accepts, ResetsRun, SharesReset}
 use Rattle.fix_base.proofs.ListLemmas.{prefix_refl, Among-cons_cases}
 use Rattle.fix_base.proofs.FramingLemmas.{front_frames}
 use Rattle.fix_base.proofs.Runs.{frames-append}
 use Rattle.fix_base.proofs.PlainFields.{IsPlainField, plain_fields}
 use Rattle.fix_base.proofs.ShortFields.{clear_of, comp_id_clear, comp_id_short, IsShortField, short_fields}
 use Rattle.fix_base.proofs.Seals.{sealed_is_frame, sealed_has_fields}
-use Rattle.fix_base.proofs.WrittenLemmas.{original_is, original_number, seq_num_decimal}
+use Rattle.fix_base.proofs.WrittenLemmas.{original_is, original_number, seq_num_decimal, admin_fields}
 use Rattle.fix_base.proofs.WholeLemmas.{push_grows}
-use Rattle.fix_base.proofs.LetterLemmas.{number_clear, number_short, at, at_epoch, at_clear}
+use Rattle.fix_base.proofs.LetterLemmas.{clear_number, short_number, number_clear, number_short, at, at_epoch, at_clear}
 use Rattle.fix_base.proofs.ResetLemmas.{confirm_state, ask_state, stays}
 
 -- ---- the Logon (35=A) of entry 1, with EncryptMethod (98), HeartBtInt (108) and ResetSeqNumFlag (141) = Y
 
 abbrev rest : List Field
-rest = field 98 (codes "0") ∷ field 108 (codes "30") ∷ field 141 (codes "Y") ∷ []
+rest = field 98 (codes "0") ∷ field 108 (decimal 30) ∷ field 141 (codes "Y") ∷ []
+
+-- entry 1 carries them
+carried : AdminFields 0 65 rest
+carried = wrote.logon 30 true
 
 rest_fields : AllByRecursion IsEntryField rest
-rest_fields = (
-  record { no_begin = λ e. omega (arith, e); no_length = λ e. omega (arith, e); no_sum = λ e. omega (arith, e); no_type = λ e. omega (arith, e); no_header = refl },
-  (
-    record { no_begin = λ e. omega (arith, e); no_length = λ e. omega (arith, e); no_sum = λ e. omega (arith, e); no_type = λ e. omega (arith, e); no_header = refl },
-    (record { no_begin = λ e. omega (arith, e); no_length = λ e. omega (arith, e); no_sum = λ e. omega (arith, e); no_type = λ e. omega (arith, e); no_header = refl }, tt),
-  ),
-)
+rest_fields = admin_fields carried
 
 abbrev logon : Entry
 logon = Admin 0 65 0
@@ -68,7 +66,7 @@ plain id valid = (
           (
             record { first = lit≤ tt; last = lit≤ tt; no_soh = clear_of (λ b. nat_le 2 b) (codes "0") refl refl; no_length = refl },
             (
-              record { first = lit≤ tt; last = lit≤ tt; no_soh = clear_of (λ b. nat_le 2 b) (codes "30") refl refl; no_length = refl },
+              record { first = lit≤ tt; last = lit≤ tt; no_soh = clear_number 30 (lit< tt); no_length = refl },
               (record { first = lit≤ tt; last = lit≤ tt; no_soh = clear_of (λ b. nat_le 2 b) (codes "Y") refl refl; no_length = refl }, tt),
             ),
           ),
@@ -89,7 +87,7 @@ short id valid = (
         record { last = lit≤ tt; short = lit≤ tt },
         (
           record { last = lit≤ tt; short = comp_id_short id.target valid.target },
-          (record { last = lit≤ tt; short = lit≤ tt }, (record { last = lit≤ tt; short = lit≤ tt }, (record { last = lit≤ tt; short = lit≤ tt }, tt))),
+          (record { last = lit≤ tt; short = lit≤ tt }, (record { last = lit≤ tt; short = short_number 30 (lit< tt) }, (record { last = lit≤ tt; short = lit≤ tt }, tt))),
         ),
       ),
     ),
@@ -117,7 +115,7 @@ is_first id valid = record {
 }
 
 is_original : (id : Identity) → IsValidIdentity id → IsOriginal id 1 logon (frame id)
-is_original id valid = record { type = codes "A"; at = at; rest = rest; carries = wrote.admin refl rest_fields; sent_at = at_epoch; sealed_so = frame_sealed id valid }
+is_original id valid = record { type = codes "A"; at = at; rest = rest; carries = wrote.admin carried; sent_at = at_epoch; sealed_so = frame_sealed id valid }
 
 begun : (id : Identity) → IsValidIdentity id → Begun IsFirstLogon (frame id)
 begun id valid =
@@ -152,22 +150,22 @@ link opened read written kept = record { opened = opened; read = read; written =
 abbrev asks_state : Connection → End → EndState
 asks_state c end = record { role = Initiator; end = end; expected = 1; handled = []; doubt = None; beside = []; offered = None; connection = Some c }
 
-abbrev p1 : Party
-p1 = asking_party (new_party Initiator) (ask_state (new_state Initiator) 0)
+abbrev p1 : EpochPeer
+p1 = asking_epoch_peer (new_epoch_peer Initiator) (ask_state (new_state Initiator) 0)
 
-abbrev p2 : Party
-p2 = opened_party p1 (asks_state (link (empty true) [] [] []) (empty true)) 1 (Some 1)
+abbrev p2 : EpochPeer
+p2 = opened_epoch_peer p1 (asks_state (link (empty true) [] [] []) (empty true)) 1 (Some 1)
 
-abbrev p3 : Party
+abbrev p3 : EpochPeer
 p3 = still p2 (asks_state (link (empty true) [] [] []) (with_logon true))
 
-abbrev p4 : List ℕ → Party
-p4 mine = wrote_party p3 (asks_state (link (empty true) [] mine []) (with_logon true)) mine
+abbrev p4 : List ℕ → EpochPeer
+p4 mine = wrote_epoch_peer p3 (asks_state (link (empty true) [] mine []) (with_logon true)) mine
 
-abbrev p5 : List ℕ → List ℕ → Party
+abbrev p5 : List ℕ → List ℕ → EpochPeer
 p5 mine theirs = still (p4 mine) (asks_state (link (empty true) theirs mine []) (with_logon true))
 
-abbrev p6 : List ℕ → List ℕ → Party
+abbrev p6 : List ℕ → List ℕ → EpochPeer
 p6 mine theirs = still (p5 mine theirs) (confirm_state (asks_state (link (empty true) theirs mine []) (with_logon true)) (link (empty true) theirs mine []))
 
 -- ---- the acceptor
@@ -175,20 +173,20 @@ p6 mine theirs = still (p5 mine theirs) (confirm_state (asks_state (link (empty 
 abbrev answers_state : Connection → End → EndState
 answers_state c end = record { role = Acceptor; end = end; expected = 1; handled = []; doubt = None; beside = []; offered = None; connection = Some c }
 
-abbrev q1 : Party
-q1 = opened_party (new_party Acceptor) (answers_state (link (new_state Acceptor).end [] [] []) (new_state Acceptor).end) 1 (Some 0)
+abbrev q1 : EpochPeer
+q1 = opened_epoch_peer (new_epoch_peer Acceptor) (answers_state (link (new_state Acceptor).end [] [] []) (new_state Acceptor).end) 1 (Some 0)
 
-abbrev q2 : List ℕ → Party
+abbrev q2 : List ℕ → EpochPeer
 q2 mine = still q1 (answers_state (link (new_state Acceptor).end mine [] []) (new_state Acceptor).end)
 
-abbrev q3 : List ℕ → Party
-q3 mine = reset_party (q2 mine) (answers_state (link (empty false) mine [] (AskedReset ∷ [])) (empty false))
+abbrev q3 : List ℕ → EpochPeer
+q3 mine = reset_epoch_peer (q2 mine) (answers_state (link (empty false) mine [] (AskedReset ∷ [])) (empty false))
 
-abbrev q4 : List ℕ → Party
+abbrev q4 : List ℕ → EpochPeer
 q4 mine = still (q3 mine) (answers_state (link (empty false) mine [] (AskedReset ∷ [])) (with_logon false))
 
-abbrev q5 : List ℕ → List ℕ → Party
-q5 mine theirs = wrote_party (q4 mine) (answers_state (link (empty false) mine theirs (AskedReset ∷ [])) (with_logon false)) theirs
+abbrev q5 : List ℕ → List ℕ → EpochPeer
+q5 mine theirs = wrote_epoch_peer (q4 mine) (answers_state (link (empty false) mine theirs (AskedReset ∷ [])) (with_logon false)) theirs
 
 was_asked : (mine : List ℕ) → Begun IsFirstLogon mine → IsAskedReset (q2 mine).state
 was_asked mine b = record { connection = link (new_state Acceptor).end mine [] []; is_open = refl; silent = refl; unanswered = refl; logon = b }
@@ -207,7 +205,7 @@ answer_rule id mine valid = steps.answers (λ h. (let wrong = h.1 in cc)) (λ b.
 
 -- ---- both
 
-abbrev of_both : Party → Party → Parties
+abbrev of_both : EpochPeer → EpochPeer → EpochPeers
 of_both p q = record { initiator = p; acceptor = q }
 
 shares_as : (id : Identity) → IsValidIdentity id → IsValidIdentity (mirrored id) → SharesReset id
@@ -218,13 +216,13 @@ shares_as id valid other =
       events = Initiates (act.Kept (ResetAsk 0)) ∷ Initiates act.Opened ∷ Initiates (act.Kept (Push logon)) ∷ Initiates (act.Wrote mine)
           ∷ Accepts act.Opened ∷ Accepts (act.Read mine) ∷ Accepts (act.Kept (Reset 0)) ∷ Accepts (act.Kept (Push logon)) ∷ Accepts (act.Wrote theirs)
           ∷ Initiates (act.Read theirs) ∷ Initiates (act.Kept Confirm) ∷ [];
-      parties = of_both (p6 mine theirs) (q5 mine theirs);
+      peers = of_both (p6 mine theirs) (q5 mine theirs);
       run =
-          resets.initiates {w = new_parties} {p = p1} (act.Kept (ResetAsk 0)) (resets.asks 0 refl (record { certain = refl; row = steps.kept_ask 0 refl }))
-          (resets.initiates {w = of_both p1 (new_party Acceptor)} {p = p2} act.Opened (resets.opens_asking 1 (refl, refl) (lit< tt) (record { certain = refl; row = steps.opened (λ h. refl) }))
-          (resets.initiates {w = of_both p2 (new_party Acceptor)} {p = p3} (act.Kept (Push logon)) (resets.rests (act.Kept (Push logon)) tt logon_kept (record { certain = refl; row = steps.kept_push logon steps.adds }))
-          (resets.initiates {w = of_both p3 (new_party Acceptor)} {p = p4 mine} (act.Wrote mine) (resets.writes mine (record { certain = refl; row = steps.wrote mine (link (empty true) [] [] []) refl (lawful id true valid) (steps.asks mine logon (refl, refl) (logon_entry true) (is_original id valid) (is_first id valid) (prefix_refl mine)) }))
-          (resets.accepts {w = of_both (p4 mine) (new_party Acceptor)} {p = q1} act.Opened (resets.opens 1 (λ h. (let wrong = h.1 in cc)) (lit< tt) (record { certain = refl; row = steps.opened (λ h. refl) }))
+          resets.initiates {w = new_epoch_peers} {p = p1} (act.Kept (ResetAsk 0)) (resets.asks 0 refl (record { certain = refl; row = steps.kept_ask 0 refl }))
+          (resets.initiates {w = of_both p1 (new_epoch_peer Acceptor)} {p = p2} act.Opened (resets.opens_asking 1 (refl, refl) (lit< tt) (record { certain = refl; row = steps.opened (λ h. refl) }))
+          (resets.initiates {w = of_both p2 (new_epoch_peer Acceptor)} {p = p3} (act.Kept (Push logon)) (resets.rests (act.Kept (Push logon)) tt logon_kept (record { certain = refl; row = steps.kept_push logon steps.adds }))
+          (resets.initiates {w = of_both p3 (new_epoch_peer Acceptor)} {p = p4 mine} (act.Wrote mine) (resets.writes mine (record { certain = refl; row = steps.wrote mine (link (empty true) [] [] []) refl (lawful id true valid) (steps.asks mine logon (refl, refl) (logon_entry true) (is_original id valid) (is_first id valid) (prefix_refl mine)) }))
+          (resets.accepts {w = of_both (p4 mine) (new_epoch_peer Acceptor)} {p = q1} act.Opened (resets.opens 1 (λ h. (let wrong = h.1 in cc)) (lit< tt) (record { certain = refl; row = steps.opened (λ h. refl) }))
           (resets.accepts {w = of_both (p4 mine) q1} {p = q2 mine} (act.Read mine) (resets.reads mine (link (new_state Acceptor).end [] [] []) refl (prefix_refl mine) (record { certain = refl; row = steps.read mine (link (new_state Acceptor).end [] [] []) refl }))
           (resets.accepts {w = of_both (p4 mine) (q2 mine)} {p = q3 mine} (act.Kept (Reset 0)) (resets.resets 0 refl (was_asked mine (begun id valid)) (record { certain = refl; row = steps.kept_reset 0 (link (new_state Acceptor).end mine [] []) AskedReset refl (stays (q2 mine).state (was_asked mine (begun id valid))) (steps.by_logon (was_asked mine (begun id valid))) }))
           (resets.accepts {w = of_both (p4 mine) (q3 mine)} {p = q4 mine} (act.Kept (Push logon)) (resets.rests (act.Kept (Push logon)) tt logon_kept (record { certain = refl; row = steps.kept_push logon steps.adds }))

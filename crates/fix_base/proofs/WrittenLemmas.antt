@@ -1,6 +1,6 @@
 -- The frames that an end may write are frames, and say what they are meant to.
-use Rattle.std.proofs.Common.{◌≡◌, inl, inr, ℕ, ◌+◌, ◌^◌, ◌<◌, ◌≤◌, ◌==◌, if◌then◌else◌, nat_lt, nat_le, codes, bytes_eq, List, [], ◌∷◌, ◌++◌, length, length-append, true, false, Some, None, refl, sym, ap, ◌∙◌, subst, lt-ltb, lit<, le_refl, arith}
-use Rattle.std.specs.List.{AllByRecursion}
+use Rattle.std.proofs.Common.{◌≡◌, inl, inr, ℕ, ◌+◌, ◌^◌, ◌<◌, ◌≤◌, ◌==◌, if◌then◌else◌, nat_lt, nat_le, codes, bytes_eq, List, [], ◌∷◌, ◌++◌, length, length-append, true, false, Option, Some, None, option_map, refl, sym, ap, ◌∙◌, subst, lt-ltb, lit<, le_refl, arith}
+use Rattle.std.specs.List.{AllByRecursion, list_any}
 use Rattle.std.specs.Fmt.{decimal}
 use Rattle.std.specs.Str.{all_ascii_digits}
 use Rattle.std.specs.Str.Parse.{digits_value}
@@ -18,7 +18,7 @@ use Rattle.fix_base.specs.Says.{value_of, times_of, field_text, fields_text, bod
 use Rattle.fix_base.specs.End.{Entry, End, IsEntry}
 use Rattle.fix_base.specs.Payload.{field, IsEntryField, IsAppType}
 use Rattle.fix_base.specs.Wrote as wrote
-use Rattle.fix_base.specs.Wrote.{IsSealed, original_fields, repeat_fields, gap_fields, Carries, IsOriginal, IsRepeat, SkipsBetween, Gap, Writes, Wrote}
+use Rattle.fix_base.specs.Wrote.{IsSealed, original_fields, repeat_fields, gap_fields, optional, AdminFields, Carries, IsOriginal, IsRepeat, SkipsBetween, Gap, Writes, Wrote}
 use Rattle.fix_base.proofs.WroteLemmas.{IsSkipped-some}
 use Rattle.fix_base.proofs.HandledLemmas.{test}
 use Rattle.fix_base.proofs.Seals.{AreOfMessage, sealed_is_frame, sealed_has_fields}
@@ -140,11 +140,18 @@ gap_is id number next at =
 
 -- ---- what the fields say
 
+-- an application message is no SequenceReset
+no_reset : (type : List ℕ) → is_admin_type type ≡ false → bytes_eq type (codes "4") ≡ false
+no_reset type app = elim (test (bytes_eq type (codes "4"))) as (λ t. bytes_eq type (codes "4") ≡ false) [
+  | inl t ↦ (let wrong : is_admin_type (codes "4") ≡ false = subst (λ w. is_admin_type w ≡ false) ((bytes_eq-Decides type (codes "4")).0 t) app in cc)
+  | inr t ↦ t
+]
+
 app_from : (type : List ℕ) (n : ℕ) (fs : List Field) → IsAppType type → message_with type n fs ≡ message.App n (is_yes (value_of 43 fs)) (body_of fs)
-app_from type n fs app = rw (app.no_reset, app.no_admin) refl
+app_from type n fs app = rw (no_reset type app.no_admin, app.no_admin) refl
 
 admin_from : (type : List ℕ) (n : ℕ) (fs : List Field) → bytes_eq type (codes "4") ≡ false → is_admin_type type ≡ true → message_with type n fs ≡ message.Admin n
-admin_from type n fs no_reset admin = rw (no_reset, admin) refl
+admin_from type n fs reset admin = rw (reset, admin) refl
 
 -- the one MsgSeqNum (34) among fields that have none behind it
 one_number : (number : List ℕ) (n times : ℕ) → times ≡ 0 → seq_num_in (Some number) ≡ Some n → (if 1 + times == 1 then seq_num_in (Some number) else None) ≡ Some n
@@ -163,8 +170,8 @@ original_app id number n at type rest is app each =
     ap (λ w. Some (message.App n false (field_text (field 35 type) ++ w))) (body_is rest each)
 
 original_admin : (id : Identity) (number : List ℕ) (n : ℕ) (at type : List ℕ) (rest : List Field) → seq_num_in (Some number) ≡ Some n → bytes_eq type (codes "4") ≡ false → is_admin_type type ≡ true → AllByRecursion IsEntryField rest → message_of (original_fields id number at type rest) ≡ Some (message.Admin n)
-original_admin id number n at type rest is no_reset admin each =
-    ap (λ o. message_from (Some type) o (original_fields id number at type rest)) (original_number id number n at type rest is each) ∙ ap Some (admin_from type n (original_fields id number at type rest) no_reset admin)
+original_admin id number n at type rest is reset admin each =
+    ap (λ o. message_from (Some type) o (original_fields id number at type rest)) (original_number id number n at type rest is each) ∙ ap Some (admin_from type n (original_fields id number at type rest) reset admin)
 
 repeat_app : (id : Identity) (number : List ℕ) (n : ℕ) (at was type : List ℕ) (rest : List Field) → seq_num_in (Some number) ≡ Some n → IsAppType type → AllByRecursion IsEntryField rest → message_of (repeat_fields id number at was type rest) ≡ Some (message.App n true (fields_text (field 35 type ∷ rest)))
 repeat_app id number n at was type rest is app each =
@@ -187,13 +194,6 @@ pub record Original (n : ℕ) (e : Entry) (text : List ℕ) : Type 0 where
 says_of : (id : Identity) (fields : List Field) (text : List ℕ) (x : Message) → AreOfMessage fields → IsSealed id fields text → message_of fields ≡ Some x → Says text x
 says_of id fields text x are s e = record { fields = fields; has = sealed_has_fields id fields text are s; says = e }
 
--- no SequenceReset is among the other administrative types
-no_reset_type : (type : List ℕ) → is_admin_type type ≡ true → bytes_eq type (codes "4") ≡ false
-no_reset_type type admin = elim (test (bytes_eq type (codes "4"))) as (λ t. bytes_eq type (codes "4") ≡ false) [
-  | inl t ↦ (let wrong : is_admin_type (codes "4") ≡ true = subst (λ w. is_admin_type w ≡ true) ((bytes_eq-Decides type (codes "4")).0 t) admin in cc)
-  | inr t ↦ t
-]
-
 pub app_original : (id : Identity) (n : ℕ) (text at : List ℕ) (type : List ℕ) (rest : List Field) → 1 ≤ n → n ≤ 999999999 → IsAppType type → AllByRecursion IsEntryField rest → IsSealed id (original_fields id (decimal n) at type rest) text → Says text (message.App n false (fields_text (field 35 type ∷ rest)))
 app_original id n text at type rest some le app each sealed_so =
     says_of id (original_fields id (decimal n) at type rest) text _ (original_is id (decimal n) at type rest each) sealed_so (original_app id (decimal n) n at type rest (seq_num_decimal n some le) app each)
@@ -206,6 +206,53 @@ pub gap_fill_says : (id : Identity) (n m : ℕ) (text at : List ℕ) → 1 ≤ n
 gap_fill_says id n m text at some le more fits sealed_so =
     says_of id (gap_fields id (decimal n) (decimal m) at) text _ (gap_is id (decimal n) (decimal m) at) sealed_so (gap_says id (decimal n) (decimal m) n m at (seq_num_decimal n some le) (new_seq_no_decimal m more fits))
 
+-- ---- the fields of administrative messages
+
+-- a field whose tag is one of a header or trailer that the engine writes is told by its number
+entry_field : (tag : ℕ) (value : List ℕ) → list_any (λ t. t == tag) (8 ∷ 9 ∷ 10 ∷ 35 ∷ []) ≡ false → is_session_tag tag ≡ false → IsEntryField (field tag value)
+entry_field tag value other header =
+    let among : (n : ℕ) → tag ≡ n → list_any (λ t. t == n) (8 ∷ 9 ∷ 10 ∷ 35 ∷ []) ≡ false = λ n e. subst (λ m. list_any (λ t. t == m) (8 ∷ 9 ∷ 10 ∷ 35 ∷ []) ≡ false) e other in
+    record {
+      no_begin = λ e. (let w = among 8 e in cc);
+      no_length = λ e. (let w = among 9 e in cc);
+      no_sum = λ e. (let w = among 10 e in cc);
+      no_type = λ e. (let w = among 35 e in cc);
+      no_header = header;
+    }
+
+optional_fields : (tag : ℕ) (value : Option (List ℕ)) (others : List Field) → ((v : List ℕ) → IsEntryField (field tag v)) → AllByRecursion IsEntryField others → AllByRecursion IsEntryField (optional tag value ++ others)
+optional_fields tag None others is each = each
+optional_fields tag (Some v) others is each = (is v, each)
+
+optional_field : (tag : ℕ) (value : Option (List ℕ)) → ((v : List ℕ) → IsEntryField (field tag v)) → AllByRecursion IsEntryField (optional tag value)
+optional_field tag None is = tt
+optional_field tag (Some v) is = (is v, tt)
+
+-- none of them is one of the header
+pub admin_fields : {about kind : ℕ} {rest : List Field} → AdminFields about kind rest → AllByRecursion IsEntryField rest
+admin_fields (wrote.heartbeat id) = optional_field 112 id (λ v. entry_field 112 v refl refl)
+admin_fields (wrote.test_request id) = (entry_field 112 id refl refl, tt)
+admin_fields (wrote.resend_request from to range) = (entry_field 7 (decimal from) refl refl, (entry_field 16 (decimal to) refl refl, tt))
+admin_fields {about = about} (wrote.reject tag reason type text) = (
+  entry_field 45 (decimal about) refl refl,
+  optional_fields 371 (option_map decimal tag) _ (λ v. entry_field 371 v refl refl)
+      (entry_field 372 type refl refl, optional_fields 373 (option_map decimal reason) _ (λ v. entry_field 373 v refl refl) (optional_field 58 text (λ v. entry_field 58 v refl refl))),
+)
+admin_fields (wrote.logout text) = optional_field 58 text (λ v. entry_field 58 v refl refl)
+admin_fields (wrote.logon heart reset) = (
+  entry_field 98 (codes "0") refl refl,
+  (entry_field 108 (decimal heart) refl refl, optional_field 141 (if reset then Some (codes "Y") else None) (λ v. entry_field 141 v refl refl)),
+)
+
+-- their MsgType is administrative, and not that of a SequenceReset
+pub admin_typed : {about kind : ℕ} {rest : List Field} → AdminFields about kind rest → (bytes_eq (kind ∷ []) (codes "4") ≡ false) × (is_admin_type (kind ∷ []) ≡ true)
+admin_typed (wrote.heartbeat id) = (refl, refl)
+admin_typed (wrote.test_request id) = (refl, refl)
+admin_typed (wrote.resend_request from to range) = (refl, refl)
+admin_typed (wrote.reject tag reason type text) = (refl, refl)
+admin_typed (wrote.logout text) = (refl, refl)
+admin_typed (wrote.logon heart reset) = (refl, refl)
+
 pub original_of : (id : Identity) (n : ℕ) (e : Entry) (text at type : List ℕ) (rest : List Field) → 1 ≤ n → n ≤ 999999999 → Carries e type rest → IsSealed id (original_fields id (decimal n) at type rest) text → Original n e text
 original_of id n e text at type rest some le (wrote.app {time = time} {by = by} {body = body} is) sealed_so =
     record {
@@ -214,13 +261,15 @@ original_of id n e text at type rest some le (wrote.app {time = time} {by = by} 
       frame = sealed_is_frame id (original_fields id (decimal n) at type rest) text (original_is id (decimal n) at type rest is.each) sealed_so;
       says = subst (λ w. Says text (message.App n false w)) (sym is.spelled) (app_original id n text at type rest some le is.app is.each sealed_so);
     }
-original_of id n e text at type rest some le (wrote.admin {time = time} {kind = kind} {about = about} admin each) sealed_so =
+original_of id n e text at type rest some le (wrote.admin {time = time} {kind = kind} {about = about} admin) sealed_so =
+    let each = admin_fields admin in
+    let typed = admin_typed admin in
     let are = original_is id (decimal n) at (kind ∷ []) rest each in
     record {
       message = message.Admin n;
       is = told.admin time kind about;
       frame = sealed_is_frame id (original_fields id (decimal n) at (kind ∷ []) rest) text are sealed_so;
-      says = says_of id (original_fields id (decimal n) at (kind ∷ []) rest) text _ are sealed_so (original_admin id (decimal n) n at (kind ∷ []) rest (seq_num_decimal n some le) (no_reset_type (kind ∷ []) admin) admin each);
+      says = says_of id (original_fields id (decimal n) at (kind ∷ []) rest) text _ are sealed_so (original_admin id (decimal n) n at (kind ∷ []) rest (seq_num_decimal n some le) typed.0 typed.1 each);
     }
 original_of id n e text at type rest some le (wrote.once {time = time} {kind = kind} {about = about} is app each) sealed_so =
     record {

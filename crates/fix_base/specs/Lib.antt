@@ -6,7 +6,6 @@ pub mod Frame
 pub mod Fields
 pub mod Shape
 pub mod Stream
-pub mod Plain
 pub mod Sealed
 pub mod Times
 pub mod Message

@@ -26,9 +26,8 @@ pub record IsEntryField (f : Field) : Type 0 where
   pub no_type : f.tag ≢ 35
   pub no_header : is_session_tag f.tag ≡ false
 
--- the MsgType of an application message: neither administrative nor SequenceReset
+-- the MsgType of an application message: none of an administrative one
 pub record IsAppType (type : List ℕ) : Type 0 where
-  pub no_reset : bytes_eq type (codes "4") ≡ false
   pub no_admin : is_admin_type type ≡ false
 
 -- the body of an application message, as its MsgType and its other fields

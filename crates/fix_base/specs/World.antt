@@ -24,23 +24,23 @@ pub record Given : Type 0 where
   pub connection : ℕ
 
 -- an end in the world
-pub record Side : Type 0 where
+pub record Peer : Type 0 where
   pub state : EndState
   pub number : ℕ  -- that of its last connection, 0 before any
   pub log : List Logged  -- all its connections, the last one first
   pub given : List Given
 
 pub record World : Type 0 where
-  pub first : Side
-  pub second : Side
+  pub first : Peer
+  pub second : Peer
 
--- a side that never did anything
-abbrev pub new_side : Role → Side
-new_side role = record { state = new_state role; number = 0; log = []; given = [] }
+-- a peer that never did anything
+abbrev pub new_peer : Role → Peer
+new_peer role = record { state = new_state role; number = 0; log = []; given = [] }
 
 -- both ends are new
 abbrev pub new_world : World
-new_world = record { first = new_side Initiator; second = new_side Acceptor }
+new_world = record { first = new_peer Initiator; second = new_peer Acceptor }
 
 -- what was written on the connection of this number
 abbrev pub wrote_at : ℕ → List Logged → List ℕ
@@ -52,19 +52,19 @@ abbrev pub grown_log : List Logged → List ℕ → List Logged
 grown_log [] b = []
 grown_log (l ∷ log) b = record { number = l.number; opened = l.opened; wrote = l.wrote ++ b } ∷ log
 
--- the side after a step: with this state alone, on a new connection, with more written, and with a
+-- the peer after a step: with this state alone, on a new connection, with more written, and with a
 -- message given to its application
-abbrev pub rested : Side → EndState → Side
+abbrev pub rested : Peer → EndState → Peer
 rested a s' = record { state = s'; number = a.number; log = a.log; given = a.given }
 
-abbrev pub opened_side : Side → EndState → ℕ → Side
-opened_side a s' c = record { state = s'; number = c; log = record { number = c; opened = a.state.end; wrote = [] } ∷ a.log; given = a.given }
+abbrev pub opened_peer : Peer → EndState → ℕ → Peer
+opened_peer a s' c = record { state = s'; number = c; log = record { number = c; opened = a.state.end; wrote = [] } ∷ a.log; given = a.given }
 
-abbrev pub wrote_side : Side → EndState → List ℕ → Side
-wrote_side a s' b = record { state = s'; number = a.number; log = grown_log a.log b; given = a.given }
+abbrev pub wrote_peer : Peer → EndState → List ℕ → Peer
+wrote_peer a s' b = record { state = s'; number = a.number; log = grown_log a.log b; given = a.given }
 
-abbrev pub gave_side : Side → EndState → ℕ → Side
-gave_side a s' n = record { state = s'; number = a.number; log = a.log; given = record { number = n; connection = a.number } ∷ a.given }
+abbrev pub gave_peer : Peer → EndState → ℕ → Peer
+gave_peer a s' n = record { state = s'; number = a.number; log = a.log; given = record { number = n; connection = a.number } ∷ a.given }
 
 -- an act that changes an end's state alone
 abbrev pub IsQuiet : Act → Type 0
@@ -83,32 +83,32 @@ IsQuiet (act.Allowed n) = Unit {0}
 IsQuiet act.Cut = Unit {0}
 IsQuiet act.Stop = Unit {0}
 
--- one act of a side, beside the other side as it is
-pub data SideStep (id : Identity) (a o : Side) : Act → Side → Type 0 where
+-- one act of a peer, beside the other peer as it is
+pub data PeerStep (id : Identity) (a o : Peer) : Act → Peer → Type 0 where
   -- a connection has a number above those of all before
-  opens : {s' : EndState} (c : ℕ) → a.number < c → EndStep id a.state act.Opened s' → SideStep id a o act.Opened (opened_side a s' c)
+  opens : {s' : EndState} (c : ℕ) → a.number < c → EndStep id a.state act.Opened s' → PeerStep id a o act.Opened (opened_peer a s' c)
   -- all that was read on a connection is a prefix of what the other has written there
-  reads : {s' : EndState} (b : List ℕ) (c : Connection) → a.state.connection ≡ Some c → IsPrefixOf (c.read ++ b) (wrote_at a.number o.log) → EndStep id a.state (act.Read b) s' → SideStep id a o (act.Read b) (rested a s')
-  writes : {s' : EndState} (b : List ℕ) → EndStep id a.state (act.Wrote b) s' → SideStep id a o (act.Wrote b) (wrote_side a s' b)
-  hands : {s' : EndState} (n : ℕ) (marked : Bool) (body : List ℕ) → EndStep id a.state (act.Handed n marked body) s' → SideStep id a o (act.Handed n marked body) (gave_side a s' n)
-  loses : {s' : EndState} (n : ℕ) (marked : Bool) (body : List ℕ) → EndStep id a.state (act.HandLost n marked body) s' → SideStep id a o (act.HandLost n marked body) (gave_side a s' n)
-  rests : {s' : EndState} (x : Act) → IsQuiet x → EndStep id a.state x s' → SideStep id a o x (rested a s')
+  reads : {s' : EndState} (b : List ℕ) (c : Connection) → a.state.connection ≡ Some c → IsPrefixOf (c.read ++ b) (wrote_at a.number o.log) → EndStep id a.state (act.Read b) s' → PeerStep id a o (act.Read b) (rested a s')
+  writes : {s' : EndState} (b : List ℕ) → EndStep id a.state (act.Wrote b) s' → PeerStep id a o (act.Wrote b) (wrote_peer a s' b)
+  hands : {s' : EndState} (n : ℕ) (marked : Bool) (body : List ℕ) → EndStep id a.state (act.Handed n marked body) s' → PeerStep id a o (act.Handed n marked body) (gave_peer a s' n)
+  loses : {s' : EndState} (n : ℕ) (marked : Bool) (body : List ℕ) → EndStep id a.state (act.HandLost n marked body) s' → PeerStep id a o (act.HandLost n marked body) (gave_peer a s' n)
+  rests : {s' : EndState} (x : Act) → IsQuiet x → EndStep id a.state x s' → PeerStep id a o x (rested a s')
 
 pub data Who : Type 0 where
   First : Who
   Second : Who
 
-abbrev pub side_of : Who → World → Side
-side_of First w = w.first
-side_of Second w = w.second
+abbrev pub peer_of : Who → World → Peer
+peer_of First w = w.first
+peer_of Second w = w.second
 
-abbrev pub other_of : Who → World → Side
+abbrev pub other_of : Who → World → Peer
 other_of First w = w.second
 other_of Second w = w.first
 
-abbrev pub with_side : Who → World → Side → World
-with_side First w a = record w { first = a }
-with_side Second w a = record w { second = a }
+abbrev pub with_peer : Who → World → Peer → World
+with_peer First w a = record w { first = a }
+with_peer Second w a = record w { second = a }
 
 -- the second end has the counterparty's identity
 abbrev pub identity_of : Who → Identity → Identity
@@ -122,8 +122,8 @@ pub data Event : Type 0 where
 -- these events in this order, with moves between
 pub data WorldRun (id : Identity) : World → List Event → World → Type 0 where
   stop : {w : World} → WorldRun id w [] w
-  step : {w w' : World} {events : List Event} {a' : Side} (who : Who) (x : Act) → SideStep (identity_of who id) (side_of who w) (other_of who w) x a' → WorldRun id (with_side who w a') events w' → WorldRun id w (Does who x ∷ events) w'
-  move : {w w' : World} {events : List Event} {s' : EndState} (who : Who) → Move (side_of who w).state s' → WorldRun id (with_side who w (rested (side_of who w) s')) events w' → WorldRun id w events w'
+  step : {w w' : World} {events : List Event} {a' : Peer} (who : Who) (x : Act) → PeerStep (identity_of who id) (peer_of who w) (other_of who w) x a' → WorldRun id (with_peer who w a') events w' → WorldRun id w (Does who x ∷ events) w'
+  move : {w w' : World} {events : List Event} {s' : EndState} (who : Who) → Move (peer_of who w).state s' → WorldRun id (with_peer who w (rested (peer_of who w) s')) events w' → WorldRun id w events w'
 
 -- the record is no reset, and its entries may be sent again
 abbrev pub IsPlainRecord : Record → Type 0

@@ -1,6 +1,6 @@
 -- What an end may write: originals, repeats and gap fills (FIX, "Message Recovery", "Resend Request",
 -- "Sequence Reset", "PossDupFlag").
-use Rattle.std.specs.Prelude.{◌≡◌, ℕ, suc, ◌<◌, ◌≤◌, codes, IsTrue, List, [], ◌∷◌, length, None}
+use Rattle.std.specs.Prelude.{◌≡◌, ◌⊎◌, ℕ, suc, ◌<◌, ◌≤◌, codes, if◌then◌else◌, List, [], ◌∷◌, ◌++◌, length, Bool, Option, Some, None, option_map}
 use Rattle.std.specs.List.{AllByRecursion}
 use Rattle.std.specs.Fmt.{decimal}
 use Rattle.fix_base.specs.Lists.{Among, IsPrefixOf}
@@ -8,7 +8,7 @@ use Rattle.fix_base.specs.Session.{Identity}
 use Rattle.fix_base.specs.Times.{IsTimeText}
 use Rattle.fix_base.specs.Fields.{Field, FieldsAfter}
 use Rattle.fix_base.specs.Sealed.{sealed}
-use Rattle.fix_base.specs.Says.{fields_text, is_admin_type, joined}
+use Rattle.fix_base.specs.Says.{fields_text, joined}
 use Rattle.fix_base.specs.End.{By, Entry, App, Admin, End, IsEntry, IsSkipped, GrowsTo, ONCE}
 use Rattle.fix_base.specs.Payload.{field, IsEntryField, IsAppType, IsBodyOf}
 
@@ -35,11 +35,38 @@ gap_fields id number next at =
     field 35 (codes "4") ∷ field 34 number ∷ field 43 (codes "Y") ∷ field 49 id.sender ∷ field 52 at ∷ field 56 id.target
     ∷ field 122 at ∷ field 36 next ∷ field 123 (codes "Y") ∷ []
 
--- what an original of this entry carries: its MsgType, and the fields behind the header. One that is
+-- the field of this tag, where it has a value
+abbrev pub optional : ℕ → Option (List ℕ) → List Field
+optional tag None = []
+optional tag (Some value) = field tag value ∷ []
+
+-- BeginSeqNo (7) and EndSeqNo (16) of a ResendRequest: both ends are included, and 0 asks for all that follow
+pub record IsRequestRange (begin_seq_no end_seq_no : ℕ) : Type 0 where
+  pub first : 1 ≤ begin_seq_no
+  pub last : begin_seq_no ≤ 999999999
+  pub end : (end_seq_no ≡ 0) ⊎ (begin_seq_no ≤ end_seq_no) × (end_seq_no ≤ 999999999)
+
+-- the fields that an administrative message of this MsgType (35) has after its header, in their order. `about` is the
+-- MsgSeqNum of the message that a Reject refers to
+pub data AdminFields (about : ℕ) : ℕ → List Field → Type 0 where
+  -- Heartbeat: TestReqID (112), where it answers a TestRequest
+  heartbeat : (test_req_id : Option (List ℕ)) → AdminFields about 48 (optional 112 test_req_id)
+  -- TestRequest: TestReqID (112)
+  test_request : (test_req_id : List ℕ) → AdminFields about 49 (field 112 test_req_id ∷ [])
+  -- ResendRequest: BeginSeqNo (7), EndSeqNo (16)
+  resend_request : (begin_seq_no end_seq_no : ℕ) → IsRequestRange begin_seq_no end_seq_no → AdminFields about 50 (field 7 (decimal begin_seq_no) ∷ field 16 (decimal end_seq_no) ∷ [])
+  -- Reject: RefSeqNum (45), RefTagID (371), RefMsgType (372), SessionRejectReason (373), Text (58)
+  reject : (ref_tag_id reason : Option ℕ) (ref_msg_type : List ℕ) (text : Option (List ℕ)) → AdminFields about 51 (field 45 (decimal about) ∷ (optional 371 (option_map decimal ref_tag_id) ++ (field 372 ref_msg_type ∷ (optional 373 (option_map decimal reason) ++ optional 58 text))))
+  -- Logout: Text (58)
+  logout : (text : Option (List ℕ)) → AdminFields about 53 (optional 58 text)
+  -- Logon: EncryptMethod (98) = 0, HeartBtInt (108), and ResetSeqNumFlag (141) = Y, where its sender has reset
+  logon : (heart_bt_int : ℕ) (reset : Bool) → AdminFields about 65 (field 98 (codes "0") ∷ field 108 (decimal heart_bt_int) ∷ optional 141 (if reset then Some (codes "Y") else None))
+
+-- what an original of this entry carries: its MsgType, and the fields after the header. One that is
 -- sent once may be any application message
 pub data Carries : Entry → List ℕ → List Field → Type 0 where
   app : {time : ℕ} {by : By} {body type : List ℕ} {rest : List Field} → IsBodyOf body type rest → Carries (App time by body) type rest
-  admin : {time kind about : ℕ} {rest : List Field} → IsTrue (is_admin_type (kind ∷ [])) → AllByRecursion IsEntryField rest → Carries (Admin time kind about) (kind ∷ []) rest
+  admin : {time kind about : ℕ} {rest : List Field} → AdminFields about kind rest → Carries (Admin time kind about) (kind ∷ []) rest
   once : {time kind about : ℕ} {type : List ℕ} {rest : List Field} → kind ≡ ONCE → IsAppType type → AllByRecursion IsEntryField rest → Carries (Admin time kind about) type rest
 
 -- when an entry was sent first

@@ -1,3 +1,4 @@
+//! What an end of a session does to what is outside it.
 use crate::{Bytes, Record};
 
 /// What an end of a session does to what is outside it, in the order in which it is done. A list
@@ -12,7 +13,7 @@ pub enum Act {
     Read(Bytes),
     /// Nothing came over the connection yet.
     Idle,
-    /// The other side ended the connection.
+    /// The counterparty ended the connection.
     Ended,
     /// These bytes went out: all of a write, or what went out before it failed.
     Wrote(Bytes),

@@ -1,3 +1,4 @@
+//! What a message store keeps.
 ghost use Rattle.std.specs.Prelude.{◌≡◌};
 
 use crate::Bytes;

@@ -11,7 +11,7 @@ ghost use Rattle.fix_base.specs.Wrote.{Wrote, WroteWhole, WritesNext};
 ghost use Rattle.fix_base.specs.EndStep.{EndState, EndStep, EndRun};
 ghost use Rattle.fix_base.specs.Agrees.{Agrees};
 ghost use Rattle.fix_base.specs.Reader.{bytes_read, AreOfOneConnection, ReaderKeepsUp};
-ghost use Rattle.fix_base.specs.Resets.{Parties, By, ResetsRun, ResetsAgree, SharesReset, new_parties};
+ghost use Rattle.fix_base.specs.Resets.{EpochPeers, ResetEvent, ResetsRun, ResetsAgree, SharesReset, new_epoch_peers};
 ghost use Rattle.fix_base.specs.World.{Event, World, WorldRun, EachPlain, WorldAgrees, Arrives, ComesAgain, PassesWithheld, ComeInOrder, new_world};
 
 /// What a writer has written stays lawful: nothing at the opening of a connection, with more
@@ -81,7 +81,7 @@ pub fn a_message_is_withheld()
 /// marked (PossDupFlag 43 = Y). A reset of which nobody knows whether it was kept counts for the epoch
 /// where it turns out to be.
 pub fn resets_are_shared()
-    ensures { (id : Identity) (w : Parties) (events : List By) → ResetsRun id new_parties events w → ResetsAgree w }
+    ensures { (id : Identity) (w : EpochPeers) (events : List ResetEvent) → ResetsRun id new_epoch_peers events w → ResetsAgree w }
 {}
 
 /// A reset is shared at times: the initiator asks for one, the acceptor reads the Logon (35=A) with

@@ -1,4 +1,4 @@
--- What a side does as a reader: it keeps up, and marks are where they must be.
+-- What a peer does as a reader: it keeps up, and marks are where they must be.
 use Rattle.std.proofs.Common.{◌≡◌, ◌≢◌, inl, inr, ℕ, ◌<◌, ◌≤◌, ◌==◌, List, [], ◌∷◌, ◌++◌, length, Bool, true, false, Some, None, refl, sym, ap, ◌∙◌, subst, eq-or-lt_of_le, arith}
 use Rattle.std.proofs.lemmas.Bool.{eqb-true}
 use Rattle.fix_base.specs.Lists.{Among, here, there, IsPrefixOf}
@@ -12,7 +12,7 @@ use Rattle.fix_base.specs.EndStep as steps
 use Rattle.fix_base.specs.EndStep.{Connection, EndState, IsAsking, IsBlocked, WasRead, MayHand, Row, EndStep, Move}
 use Rattle.fix_base.specs.Agrees.{Agrees}
 use Rattle.fix_base.specs.Reader.{Gives, handed, hand_lost, Follows}
-use Rattle.fix_base.specs.World.{Logged, Given, Side, wrote_at, rested, IsQuiet, IsPlain}
+use Rattle.fix_base.specs.World.{Logged, Given, Peer, wrote_at, rested, IsQuiet, IsPlain}
 use Rattle.fix_base.proofs.ListLemmas.{some_same, Among-cons_cases}
 use Rattle.fix_base.proofs.BytesLemmas.{read_among, spells_nothing}
 use Rattle.fix_base.proofs.WroteLemmas.{Means, front_means, IsEntry-inside}
@@ -30,7 +30,7 @@ prefix_none : (bytes : List ℕ) → IsPrefixOf bytes [] → bytes ≡ []
 prefix_none [] p = refl
 prefix_none (b ∷ bytes) p = let e = p.is in cc
 
-found_comes : (f : Side) (n : ℕ) (bytes : List ℕ) (log : List Logged) → ((l : Logged) → Among l log → Among l f.log) → IsPrefixOf bytes (wrote_at n log) → Comes f n bytes
+found_comes : (f : Peer) (n : ℕ) (bytes : List ℕ) (log : List Logged) → ((l : Logged) → Among l log → Among l f.log) → IsPrefixOf bytes (wrote_at n log) → Comes f n bytes
 found_comes f n bytes [] inside p = ways.nothing (prefix_none bytes p)
 found_comes f n bytes (l ∷ log) inside p =
     elim (test (l.number == n)) [
@@ -39,21 +39,21 @@ found_comes f n bytes (l ∷ log) inside p =
     ]
 
 -- what was read at a number is a front of what is logged there
-pub wrote_comes : (f : Side) (n : ℕ) (bytes : List ℕ) → IsPrefixOf bytes (wrote_at n f.log) → Comes f n bytes
+pub wrote_comes : (f : Peer) (n : ℕ) (bytes : List ℕ) → IsPrefixOf bytes (wrote_at n f.log) → Comes f n bytes
 wrote_comes f n bytes p = found_comes f n bytes f.log (λ l m. m) p
 
-later_lower : {f : Side} {c d : ℕ} {h : End} → d ≤ c → Later f c h → Later f d h
+later_lower : {f : Peer} {c d : ℕ} {h : End} → d ≤ c → Later f c h → Later f d h
 later_lower le ways.now = ways.now
 later_lower le (ways.opened l m lt) = ways.opened l m (omega arith)
 
 -- what is read on a connection is what the writer wrote there, and lawful for each later moment
-record Heard (e f : Side) (x : Message) : Type 0 where
+record Heard (e f : Peer) (x : Message) : Type 0 where
   logged : Logged
   among : Among logged f.log
   number : logged.number ≡ e.number
   means : (h : End) → Later f e.number h → Means logged.opened h x
 
-heard : (e f : Side) → Own f → (c : Connection) (x : Message) → Comes f e.number c.read → WasRead c x → Heard e f x
+heard : (e f : Peer) → Own f → (c : Connection) (x : Message) → Comes f e.number c.read → WasRead c x → Heard e f x
 heard e f own c x (ways.nothing none) r = absurd (nothing_read c x none r)
 heard e f own c x (ways.some l m number front) r =
     record {
@@ -69,19 +69,19 @@ deaf_blocked (ways.asks h) o r = steps.asks h
 deaf_blocked {c = c} {x = x} (ways.waits kept begun) o r = steps.waits c o kept (begun x r)
 
 -- so what counts was written
-comes : {f : Side} {n : ℕ} {s : EndState} {x : Message} (c : Connection) → (IsBlocked s → ⊥) → s.connection ≡ Some c → WasRead c x → Heeds f n s c → Comes f n c.read
+comes : {f : Peer} {n : ℕ} {s : EndState} {x : Message} (c : Connection) → (IsBlocked s → ⊥) → s.connection ≡ Some c → WasRead c x → Heeds f n s c → Comes f n c.read
 comes c free o r (inl k) = k
 comes c free o r (inr deaf) = absurd (free (deaf_blocked deaf o r))
 
-hears : (e f : Side) → Own f → Way e f → (h : End) → Later f e.number h → Hears e.state h
+hears : (e f : Peer) → Own f → Way e f → (h : End) → Later f e.number h → Hears e.state h
 hears e f own w h later = record { each = λ free c o x r. (let k = heard e f own c x (comes c free o r (w.read c o)) r in record { old = k.logged.opened; means = k.means h later; behind = w.behind k.logged k.among k.number c o }) }
 
 -- the reader keeps up with each later moment over an act
-follows_on : {id : Identity} (e f : Side) (s' : EndState) (x : Act) → Own f → Way e f → EndStep id e.state x s' → (h : End) → Later f e.number h → Follows s' h
+follows_on : {id : Identity} (e f : Peer) (s' : EndState) (x : Act) → Own f → Way e f → EndStep id e.state x s' → (h : End) → Later f e.number h → Follows s' h
 follows_on e f s' x own w step h later = row_follows e.state s' x h step.certain step.row (hears e f own w h later) (w.follows h later)
 
 -- a message that is handed over is one of an entry at each later moment
-given_inside : (e f : Side) → Own f → Way e f → (c : Connection) (n : ℕ) (marked : Bool) (body : List ℕ) → (IsBlocked e.state → ⊥) → MayHand e.state c n marked body → (h : End) → Later f e.number h → n ≤ length h.out
+given_inside : (e f : Peer) → Own f → Way e f → (c : Connection) (n : ℕ) (marked : Bool) (body : List ℕ) → (IsBlocked e.state → ⊥) → MayHand e.state c n marked body → (h : End) → Later f e.number h → n ≤ length h.out
 given_inside e f own w c n marked body free may h later = let k = heard e f own c (message.App n marked body) (comes c free may.is_open may.frame (w.read c may.is_open)) may.frame in IsEntry-inside (k.means h later).0.entry
 
 -- a quiet act opens nothing
@@ -91,17 +91,17 @@ not_opened quiet e = subst IsQuiet e quiet
 opens_behind : {id : Identity} {s s' : EndState} {old : End} → Row id s act.Opened s' → Agrees s.end.stored s.handled old → KeepsBehind old s'
 opens_behind {s = s} (steps.opened empty) a = record { each = (behind_starts s.expected a).each }
 
-same_heeds : {f : Side} {n : ℕ} {s s' : EndState} {c : Connection} → (IsAsking s → IsAsking s') → Heeds f n s c → Heeds f n s' c
+same_heeds : {f : Peer} {n : ℕ} {s s' : EndState} {c : Connection} → (IsAsking s → IsAsking s') → Heeds f n s c → Heeds f n s' c
 same_heeds keep (inl k) = inl k
 same_heeds keep (inr (ways.asks h)) = inr (ways.asks (keep h))
 same_heeds keep (inr (ways.waits kept begun)) = inr (ways.waits kept begun)
 
-wrote_heeds : {f : Side} {n : ℕ} {s s' : EndState} {c : Connection} {written : List ℕ} → (IsAsking s → IsAsking s') → Heeds f n s c → Heeds f n s' (record c { written = written })
+wrote_heeds : {f : Peer} {n : ℕ} {s s' : EndState} {c : Connection} {written : List ℕ} → (IsAsking s → IsAsking s') → Heeds f n s c → Heeds f n s' (record c { written = written })
 wrote_heeds keep (inl k) = inl k
 wrote_heeds keep (inr (ways.asks h)) = inr (ways.asks (keep h))
 wrote_heeds keep (inr (ways.waits kept begun)) = inr (ways.waits kept (λ x r. begun x (record { messages = r.messages; shows = r.shows; among = r.among })))
 
-moved_heeds : {f : Side} {n : ℕ} {s s' : EndState} {c : Connection} → Move s s' → s.doubt ≡ None → Heeds f n s c → Heeds f n s' c
+moved_heeds : {f : Peer} {n : ℕ} {s s' : EndState} {c : Connection} → Move s s' → s.doubt ≡ None → Heeds f n s c → Heeds f n s' c
 moved_heeds (steps.settles_without r e) none h = cc
 moved_heeds (steps.settles_with r e) none h = cc
 moved_heeds (steps.past_admin d x free o read at) none h = same_heeds (λ a. a) h
@@ -110,7 +110,7 @@ moved_heeds (steps.past_gap d n m free o read at lt) none h = same_heeds (λ a. 
 moved_heeds (steps.reset_to d n m free o read le) none h = same_heeds (λ a. a) h
 
 -- each act of a reader
-pub reader_steps : {id : Identity} (e f e' : Side) (x : Act) → Own f → Way e f → ViewStep id e f x e' → IsPlain x → Way e' f
+pub reader_steps : {id : Identity} (e f e' : Peer) (x : Act) → Own f → Way e f → ViewStep id e f x e' → IsPlain x → Way e' f
 reader_steps e f e' x own w (ways.opens {s' = s'} c lt step) plain =
     record {
       follows = λ h later. follows_on e f s' act.Opened own w step h (later_lower (omega arith) later);
@@ -194,7 +194,7 @@ reader_steps e f e' x own w (ways.rests {s' = s'} y quiet step) plain =
       gave = λ d q. w.gave d (quiet_connection step.certain step.row quiet plain d q);
     }
 
-pub reader_moves : (e f : Side) (s' : EndState) → Own f → Way e f → Move e.state s' → Way (rested e s') f
+pub reader_moves : (e f : Peer) (s' : EndState) → Own f → Way e f → Move e.state s' → Way (rested e s') f
 reader_moves e f s' own w m =
     record {
       follows = λ h later. move_follows e.state s' h m (hears e f own w h later) (w.follows h later);
@@ -210,12 +210,12 @@ reader_moves e f s' own w m =
 -- ---- marks
 
 -- a message of this number was given
-pub record HasGiven (a : Side) (n : ℕ) : Type 0 where
+pub record HasGiven (a : Peer) (n : ℕ) : Type 0 where
   pub given : Given
   pub among : Among given a.given
   pub number : given.number ≡ n
 
-repeat_marked : (e f : Side) → Own f → Way e f → (c : Connection) (n : ℕ) (marked : Bool) (body : List ℕ) → (IsBlocked e.state → ⊥) → MayHand e.state c n marked body → HasGiven e n → marked ≡ true
+repeat_marked : (e f : Peer) → Own f → Way e f → (c : Connection) (n : ℕ) (marked : Bool) (body : List ℕ) → (IsBlocked e.state → ⊥) → MayHand e.state c n marked body → HasGiven e n → marked ≡ true
 repeat_marked e f own w c n marked body free may had =
     let g = had.given in
     elim (eq-or-lt_of_le (w.told g had.among)) [
@@ -230,14 +230,14 @@ repeat_marked e f own w c n marked body free may had =
         let low = w.before had.given had.among k.logged k.among k.number below in
         absurd (omega (arith, had.number))
 
-pub step_marks : {id : Identity} (e f e' : Side) (x : Act) (n : ℕ) (marked : Bool) → Own f → Way e f → Gives n marked x → ViewStep id e f x e' → HasGiven e n → marked ≡ true
+pub step_marks : {id : Identity} (e f e' : Peer) (x : Act) (n : ℕ) (marked : Bool) → Own f → Way e f → Gives n marked x → ViewStep id e f x e' → HasGiven e n → marked ≡ true
 step_marks e f e' x n marked own w (handed body) (ways.hands m b c step) had = let r = handed_row step.row in repeat_marked e f own w r.was n marked body r.free r.may had
 step_marks e f e' x n marked own w (handed body) (ways.rests y quiet step) had = absurd quiet
 step_marks e f e' x n marked own w (hand_lost body) (ways.loses m b c step) had = let r = lost_row step.row in repeat_marked e f own w r.was n marked body r.free r.may had
 step_marks e f e' x n marked own w (hand_lost body) (ways.rests y quiet step) had = absurd quiet
 
 -- what was given is known from then on
-pub step_given : {id : Identity} (a o a' : Side) (x : Act) (n : ℕ) → ViewStep id a o x a' → HasGiven a n → HasGiven a' n
+pub step_given : {id : Identity} (a o a' : Peer) (x : Act) (n : ℕ) → ViewStep id a o x a' → HasGiven a n → HasGiven a' n
 step_given a o a' x n (ways.opens c lt step) had = record { given = had.given; among = had.among; number = had.number }
 step_given a o a' x n (ways.reads b heeds step) had = record { given = had.given; among = had.among; number = had.number }
 step_given a o a' x n (ways.writes b step) had = record { given = had.given; among = had.among; number = had.number }
@@ -245,7 +245,7 @@ step_given a o a' x n (ways.hands m marked body step) had = record { given = had
 step_given a o a' x n (ways.loses m marked body step) had = record { given = had.given; among = there had.among; number = had.number }
 step_given a o a' x n (ways.rests y quiet step) had = record { given = had.given; among = had.among; number = had.number }
 
-pub step_gives : {id : Identity} (a o a' : Side) (x : Act) (n : ℕ) (marked : Bool) → Gives n marked x → ViewStep id a o x a' → HasGiven a' n
+pub step_gives : {id : Identity} (a o a' : Peer) (x : Act) (n : ℕ) (marked : Bool) → Gives n marked x → ViewStep id a o x a' → HasGiven a' n
 step_gives a o a' x n marked (handed body) (ways.hands m b c step) = record { given = record { number = n; connection = a.number }; among = here; number = refl }
 step_gives a o a' x n marked (handed body) (ways.rests y quiet step) = absurd quiet
 step_gives a o a' x n marked (hand_lost body) (ways.loses m b c step) = record { given = record { number = n; connection = a.number }; among = here; number = refl }
