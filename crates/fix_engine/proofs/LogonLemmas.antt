@@ -23,7 +23,7 @@ use Rattle.fix_base.proofs.Runs.{with_more, all_more, all_then, takes_same, fram
 use Rattle.fix_base.proofs.FramingLemmas.{front_frames}
 use Rattle.fix_base.proofs.ResetParts.{begun_more}
 use Rattle.fix_base.proofs.Seals.{AreOfMessage, sealed_is_frame, sealed_has_fields}
-use Rattle.fix_base.proofs.WrittenLemmas.{original_is}
+use Rattle.fix_base.proofs.WrittenLemmas.{original_is, admin_fields}
 use Rattle.fix_frame.specs.Given.{GivesFrame, GivesNone}
 use Rattle.fix_engine.specs.State.{Phase, Up}
 use Rattle.fix_engine.specs.Answer.{kind_of, fields_of, IsSaid}
@@ -137,7 +137,7 @@ sealed_free id fields text m s never l =
 
 carried : {e : Entry} {type : List ℕ} {rest : List Field} → Carries e type rest → AllByRecursion IsEntryField rest
 carried (wrote.app is) = is.each
-carried (wrote.admin type each) = each
+carried (wrote.admin is) = admin_fields is
 carried (wrote.once kind type each) = each
 
 pub original_frame : (id : Identity) (n : ℕ) (e : Entry) (text : List ℕ) → IsOriginal id n e text → IsFrame text

@@ -96,19 +96,19 @@ restarts_by id stored start None role is numbers = record {
   to = again start;
   run = stops_at id start is;
   certain = is_certain stored start is role numbers;
-  held = λ w never e h k. some_end e start.end (subst (λ o. MayHold o start.end (Some e)) is h);
+  held = λ tell e h k. some_end e start.end (subst (λ o. MayHold o start.end (Some e)) is h);
 }
 restarts_by id stored start (Some r) role is (inl numbers) = record {
   to = again (without start);
   run = steps.move (steps.settles_without r is) (stops_at id (without start) refl);
   certain = is_certain stored (without start) refl role numbers;
-  held = λ w never e h k. one_of_two stored start.end e r w (not_withheld start r is never) (subst (λ o. MayHold o start.end (Some e)) is h) k numbers;
+  held = λ tell e h k. one_of_two stored start.end e r tell.none (not_withheld start r is tell.not_in_doubt) (subst (λ o. MayHold o start.end (Some e)) is h) k numbers;
 }
 restarts_by id stored start (Some r) role is (inr numbers) = record {
   to = again (with_it start r);
   run = steps.move (steps.settles_with r is) (stops_at id (with_it start r) refl);
   certain = is_certain stored (with_it start r) refl role numbers;
-  held = λ w never e h k. other_of_two stored start.end e r w (not_withheld start r is never) (subst (λ o. MayHold o start.end (Some e)) is h) k numbers;
+  held = λ tell e h k. other_of_two stored start.end e r tell.none (not_withheld start r is tell.not_in_doubt) (subst (λ o. MayHold o start.end (Some e)) is h) k numbers;
 }
 
 -- over a store that holds this end

@@ -21,14 +21,18 @@ pub record StartsAt (stored : Stored) (start : EndState) : Type 0 where
   pub role : start.role ≡ Acceptor
   pub numbers : HasNumbersOf start.doubt start.end stored
 
+-- no message is withheld, nor in doubt of being: of these the numbers tell nothing
+pub record NumbersTell (start : EndState) : Type 0 where
+  pub none : start.end.withheld ≡ []
+  pub not_in_doubt : (n : ℕ) → start.doubt ≡ Some (Withhold n) → ⊥
+
 -- A process that stopped and starts again with these numbers goes on as a lawful end: whatever was in doubt is settled,
--- and the end has the session's numbers. Where no message is withheld, nor in doubt of being, it is the one that a store
--- holds which has these numbers: they tell nothing of withheld messages.
+-- and the end has the session's numbers. Where these tell which end it is, it is the one that a store holds which has them.
 pub record Restarts (id : Identity) (stored : Stored) (start : EndState) : Type 0 where
   pub to : EndState
   pub run : EndRun id start (act.Stop ∷ []) to
   pub certain : IsCertain (state_of stored) to
-  pub held : start.end.withheld ≡ [] → ((n : ℕ) → start.doubt ≡ Some (Withhold n) → ⊥) → (e : End) → MayHold start.doubt start.end (Some e) → IsStoredOf stored e → e ≡ to.end
+  pub held : NumbersTell start → (e : End) → MayHold start.doubt start.end (Some e) → IsStoredOf stored e → e ≡ to.end
 
 -- The same over a store that holds this end: it is the one that it goes on with.
 pub record RestartsAt (id : Identity) (stored : Stored) (held : End) (start : EndState) : Type 0 where
