@@ -240,7 +240,7 @@ fits_opened id l t e h = record {
 }
 
 pub opening : (id : Identity) (s : EndState) → s.role ≡ Acceptor → s.doubt ≡ None → EndStep id s act.Opened (opened_by s)
-opening id s role none = record { certain = none; row = steps.opened (λ asking. never_asks s role asking) }
+opening id s role none = record { certain = none; row = steps.opened (λ asking. absurd (never_asks s role asking)) }
 
 -- the opening of a connection is a run of a lawful end
 Begins-lawful : {T : Type 0} (old new : Seat) (r : Result T BeginFault) (notes : List Note) → BeginsTo old r new notes → IsLawfulBegin old r new notes
@@ -333,7 +333,7 @@ at_end_in_step id stored w e numbers all opens =
         acts = [];
         to = at_end e;
         run = steps.stop;
-        beside = step.down refl (record { doubt = refl; numbers = record { expected = sym numbers.expected; stored = sym numbers.expected; out = sym numbers.last } });
+        beside = step.down refl (record { doubt = refl; numbers = record { expected = sym numbers.expected; stored = sym numbers.expected; out = sym numbers.last; role = refl } });
         tape = subst (λ (acts : List Act). IsTape w acts) (sym (append-nil told.0)) told.1;
         stored = all;
         opens = opens;
