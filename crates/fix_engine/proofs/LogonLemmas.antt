@@ -1,5 +1,5 @@
 -- Frames that are no Logons with 141=Y: they ask for no reset, and block nothing.
-use Rattle.std.proofs.Common.{◌≡◌, ◌⊎◌, inl, inr, ℕ, codes, List, [], ◌∷◌, ◌++◌, true, false, Some, None, refl, sym, ap, ◌∙◌, subst, append_assoc}
+use Rattle.std.proofs.Common.{◌≡◌, ◌⊎◌, inl, inr, ℕ, codes, List, [], ◌∷◌, ◌++◌, true, false, Option, Some, None, refl, sym, ap, ◌∙◌, subst, append_assoc, get_or, arith}
 use Rattle.std.proofs.lemmas.List.{append-nil}
 use Rattle.std.specs.List.{AllByRecursion}
 use Rattle.std.specs.Fmt.{decimal}
@@ -163,7 +163,13 @@ said_free id n time say text each h = sealed_free id (original_fields id (decima
 
 -- ---- a message without the flag
 
+absent_or_set : (o : Option (List ℕ)) → o ≡ None → o ≡ Some (codes "Y") → ⊥
+absent_or_set o none flag = cc
+
+unset_or_set : (o : Option (List ℕ)) → o ≡ Some (codes "N") → o ≡ Some (codes "Y") → ⊥
+unset_or_set o off flag = let other : 78 ≡ 89 = ap (λ (l : List ℕ). get_or l 0 0) (some_same (codes "N") (codes "Y") (sym off ∙ flag)) in omega (arith, other)
+
 -- a frame with these fields is no such Logon where ResetSeqNumFlag (141) is absent or N
-pub unflagged_free : (text : List ℕ) (fs : List Field) → ((value_of 141 fs ≡ None) ⊎ (value_of 141 fs ≡ Some (codes "N"))) → (l : IsResetLogon text) → l.fields ≡ fs → ⊥
-unflagged_free text fs (inl none) l same = let flag : value_of 141 fs ≡ Some (codes "Y") = subst (λ (gs : List Field). value_of 141 gs ≡ Some (codes "Y")) same l.flag in cc
-unflagged_free text fs (inr no) l same = let flag : value_of 141 fs ≡ Some (codes "Y") = subst (λ (gs : List Field). value_of 141 gs ≡ Some (codes "Y")) same l.flag in cc
+pub unflagged_free : (text : List ℕ) (fs : List Field) → (value_of 141 fs ≡ None) ⊎ (value_of 141 fs ≡ Some (codes "N")) → (l : IsResetLogon text) → l.fields ≡ fs → ⊥
+unflagged_free text fs (inl none) l same = absent_or_set (value_of 141 fs) none (subst (λ (gs : List Field). value_of 141 gs ≡ Some (codes "Y")) same l.flag)
+unflagged_free text fs (inr off) l same = unset_or_set (value_of 141 fs) off (subst (λ (gs : List Field). value_of 141 gs ≡ Some (codes "Y")) same l.flag)
