@@ -214,12 +214,7 @@ fn entries_of_record(alloc: Global, kept: &Record) -> Result<Vec<Entry>, OutOfMe
 }
 
 // The act with its bytes in room that is there, and the entries that were copied.
-fn filled_act(
-    alloc: Global,
-    spare: &mut Vec<u8>,
-    entries: &mut Vec<Entry>,
-    act: &Noted<'_>,
-) -> Act
+fn filled_act(alloc: Global, spare: &mut Vec<u8>, entries: &mut Vec<Entry>, act: &Noted<'_>) -> Act
     requires empty { spare.old.items ≡ [] }
     requires room { bytes_in act.now ≤ vec_capacity spare.old }
     requires copied { entries.old.items ≡ entries_in act.now }

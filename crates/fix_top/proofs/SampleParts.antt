@@ -6,7 +6,7 @@ use Rattle.fix_base.specs.declared.act.Act.{Act}
 use Rattle.fix_base.specs.declared.act.Act.TheVariants as act
 use Rattle.fix_base.specs.Line.{line_text}
 use Rattle.fix_base.specs.declared.entry.Record.{Record}
-use Rattle.fix_base.specs.declared.entry.Record.TheVariants.{Push, Expect, Reset}
+use Rattle.fix_base.specs.declared.entry.Record.TheVariants.{Push, Expect, Many, Withhold, Reset, ResetAsk, Confirm}
 use Rattle.fix_base.specs.declared.entry.Entry.TheVariants.{App, Admin}
 use Rattle.fix_base.specs.Payload.{record_size}
 use Rattle.fix_base.specs.Parts.{PartsSeen, extended, less, HasNoRoom, TakesRoom, KeepsRoom, Answers, ClockReads, GivesBytes, GivesIdle, GivesEnd, later_readings, left_before}
@@ -51,7 +51,11 @@ some_size : (r : Record) → 0 < record_size r
 some_size (Push (App time by body)) = omega arith
 some_size (Push (Admin time kind about)) = omega arith
 some_size (Expect number) = omega arith
+some_size (Many pushes number) = omega arith
+some_size (Withhold number) = omega arith
 some_size (Reset time) = omega arith
+some_size (ResetAsk time) = omega arith
+some_size Confirm = omega arith
 
 -- a record was lost only where it didn't fit
 unfit : (r : Record) (store : ℕ) (room : Option ℕ) → HasAtLeast store room → HasNoRoom (record_size r) room → store < record_size r
@@ -84,8 +88,8 @@ rooms_told (Did act.Idle ∷ notes) old new link app store h k f = rooms_told no
 rooms_told (Did act.Ended ∷ notes) old new link app store h k f = rooms_told notes f.0 new link app store (ap told_rooms f.1.1 ∙ h) (stays store old f.0 (ap store_in f.1.1) k) f.2
 rooms_told (Did act.Opened ∷ notes) old new link app store h k f = rooms_told notes f.0 new link app store (ap told_rooms f.1 ∙ h) (stays store old f.0 (ap store_in f.1) k) f.2
 rooms_told (Did act.Cut ∷ notes) old new link app store h k f = rooms_told notes f.0 new link app store (ap told_rooms f.1 ∙ h) (stays store old f.0 (ap store_in f.1) k) f.2
-rooms_told (Did (act.Withheld k) ∷ notes) old new link app store h k f = rooms_told notes f.0 new link app store (ap told_rooms f.1 ∙ h) (stays store old f.0 (ap store_in f.1) k) f.2
-rooms_told (Did (act.Allowed k) ∷ notes) old new link app store h k f = rooms_told notes f.0 new link app store (ap told_rooms f.1 ∙ h) (stays store old f.0 (ap store_in f.1) k) f.2
+rooms_told (Did (act.Withheld n) ∷ notes) old new link app store h k f = rooms_told notes f.0 new link app store (ap told_rooms f.1 ∙ h) (stays store old f.0 (ap store_in f.1) k) f.2
+rooms_told (Did (act.Allowed n) ∷ notes) old new link app store h k f = rooms_told notes f.0 new link app store (ap told_rooms f.1 ∙ h) (stays store old f.0 (ap store_in f.1) k) f.2
 rooms_told (Failed AppPart ∷ notes) old new link app store h k f = rooms_told notes f.0 new link app store (ap told_rooms f.1 ∙ h) (stays store old f.0 (ap store_in f.1) k) f.2
 rooms_told (Did act.Stop ∷ notes) old new link app store h k f = rooms_told notes f.0 new link app store (ap told_rooms f.1.1 ∙ h) (at_least_still store old.store_room f.0.store_room k f.1.0) f.2
 rooms_told (Failed (LinkPart unsent) ∷ notes) old new link app store h k f =
