@@ -1,10 +1,9 @@
 -- A run of two ends in which a message is withheld: its number is passed over by a gap fill, and the
 -- message behind it arrives.
-use Rattle.std.proofs.Common.{◌≡◌, ℕ, ◌≤◌, ◌^◌, ◌<◌, nat_le, codes, List, [], ◌∷◌, length, false, Option, Some, None, refl, subst, lit<, lit≤, arith}
+use Rattle.std.proofs.Common.{◌≡◌, ℕ, ◌≤◌, ◌<◌, nat_le, codes, List, [], ◌∷◌, length, false, Option, Some, None, refl, subst, lit<, lit≤, arith}
 use Rattle.std.specs.List.{AllByRecursion}
 use Rattle.std.specs.Fmt.{decimal}
 use Rattle.fix_base.specs.Lists.{here, there, IsPrefixOf}
-use Rattle.fix_base.specs.Frame.{HasNoSoh}
 use Rattle.fix_base.specs.Fields.{Field}
 use Rattle.fix_base.specs.Sealed.{sealed}
 use Rattle.fix_base.specs.Message as message
@@ -39,7 +38,7 @@ use Rattle.fix_base.proofs.ArrivesLemmas.{entry, kept_end, of_both}
 abbrev gap_parts : Identity → List Field
 gap_parts id = gap_fields id (decimal 1) (decimal 2) at
 
-abbrev next_parts : Identity → List Field
+abbrev pub next_parts : Identity → List Field
 next_parts id = original_fields id (decimal 2) at order []
 
 gap_plain : (id : Identity) → IsValidIdentity id → AllByRecursion IsPlainField (gap_parts id)
@@ -120,7 +119,7 @@ next_short id valid = (
 abbrev gap : Identity → List ℕ
 gap id = sealed id.begin (fields_text (gap_parts id))
 
-abbrev next : Identity → List ℕ
+abbrev pub next : Identity → List ℕ
 next id = sealed id.begin (fields_text (next_parts id))
 
 gap_sealed : (id : Identity) → IsValidIdentity id → IsSealed id (gap_parts id) (gap id)
@@ -128,7 +127,7 @@ gap_sealed id valid =
     let bound : length (fields_text (gap_parts id)) ≤ 900 = short_fields (gap_parts id) (gap_short id valid) in
     record { spelled = refl; are = plain_fields (gap_parts id) (gap_plain id valid); short = omega arith }
 
-next_sealed : (id : Identity) → IsValidIdentity id → IsSealed id (next_parts id) (next id)
+pub next_sealed : (id : Identity) → IsValidIdentity id → IsSealed id (next_parts id) (next id)
 next_sealed id valid =
     let bound : length (fields_text (next_parts id)) ≤ 500 = short_fields (next_parts id) (next_short id valid) in
     record { spelled = refl; are = plain_fields (next_parts id) (next_plain id valid); short = omega arith }

@@ -32,7 +32,8 @@ logon_from : (o : Option ℕ) (fs : List Field) (x : Message) → message_from (
 logon_from None fs x e h = cc
 logon_from (Some n) fs x e h = subst IsNoLogon (some_same x (message.Admin n) (sym e)) h
 
-logon_says : (text : List ℕ) (x : Message) → IsResetLogon text → Says text x → IsNoLogon x → ⊥
+-- a frame that says something that no Logon says is none
+pub logon_says : (text : List ℕ) (x : Message) → IsResetLogon text → Says text x → IsNoLogon x → ⊥
 logon_says text x l s h =
     let parts : s.has.parts ≡ l.has.parts = shape_free.value s.has.parts l.has.parts text s.has.shape l.has.shape in
     let fields = fields_same None l.has.parts.body s.fields l.fields (subst (λ (p : Parts). FieldsAfter None p.body s.fields) parts s.has.are) l.has.are in

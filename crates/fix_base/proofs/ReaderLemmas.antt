@@ -3,7 +3,7 @@ use Rattle.std.proofs.Common.{◌≡◌, ◌≢◌, inl, inr, ℕ, ◌≤◌, Li
 use Rattle.fix_base.specs.Lists.{Among, here, there, IsPrefixOf}
 use Rattle.fix_base.specs.Message as message
 use Rattle.fix_base.specs.Message.{Message}
-use Rattle.fix_base.specs.End.{End}
+use Rattle.fix_base.specs.End.{Reset, End}
 use Rattle.fix_base.specs.Payload.{IsPersistent}
 use Rattle.fix_base.specs.Act as act
 use Rattle.fix_base.specs.Act.{Act}
@@ -19,7 +19,7 @@ use Rattle.fix_base.proofs.WroteLemmas.{front_means}
 use Rattle.fix_base.proofs.WrittenLemmas.{wrote_of}
 use Rattle.fix_base.proofs.HandledLemmas.{test}
 use Rattle.fix_base.proofs.AgreesLemmas.{Agrees-more}
-use Rattle.fix_base.proofs.FollowsLemmas.{Hears, pushed_connection, linked, row_follows, move_follows, behind_starts, OpenBehind, row_behind, move_open_behind, OpenCertain, row_certain, move_certain}
+use Rattle.fix_base.proofs.FollowsLemmas.{Hears, Agrees-new, pushed_connection, linked, row_follows, move_follows, behind_starts, OpenBehind, row_behind, move_open_behind, OpenCertain, row_certain, move_certain}
 
 -- what the connection has read and these acts will read is a front of what was written
 record Reads (w : List ℕ) (s : EndState) (acts : List Act) : Type 0 where
@@ -126,3 +126,26 @@ pub reader : (id : Identity) (s opened s' : EndState) (acts : List Act) (f0 f1 :
 reader id s opened s' acts f0 f1 w kept text step d one front a b =
     let wrote = wrote_of (mirrored id) f0 f1 w text in
     run_keeps_up f0 f1 w kept wrote d one (opened_starts f0 f1 w s opened acts wrote step.certain step.row front a b)
+
+-- after a reset nothing is handled, and an end that expects 1 agrees with any other
+reset_starts : {id : Identity} (f0 f1 : End) (w : List ℕ) (s s' : EndState) (t : ℕ) (acts : List Act) → s.doubt ≡ None → Row id s (act.Kept (Reset t)) s' → ((c : Connection) → s'.connection ≡ Some c → IsPrefixOf (c.read ++ bytes_read acts) w) → Holds f0 f1 w s' acts
+reset_starts f0 f1 w s s' t acts none (steps.kept_reset _ c answer o stay asks) front =
+    record {
+      reads = record { front = front };
+      certain = λ d e. none;
+      behind = λ d e. behind_starts 1 (Agrees-new f0);
+      follows = record { now = Agrees-new f1; running = λ e. Agrees-new f1; settled = λ r e. cc };
+    }
+reset_starts f0 f1 w s s' t acts none (steps.cut_reset _ gone) front =
+    record {
+      reads = record { front = front };
+      certain = λ d e. none;
+      behind = λ d e. behind_starts 1 (Agrees-new f0);
+      follows = record { now = Agrees-new f1; running = λ e. Agrees-new f1; settled = λ r e. cc };
+    }
+
+-- the law of a reader after a reset
+pub reset_reader : (id : Identity) (s reset s' : EndState) (t : ℕ) (acts : List Act) (f0 f1 : End) (w : List ℕ) → IsPersistent f1 → Wrote (mirrored id) f0 f1 w → EndStep id s (act.Kept (Reset t)) reset → EndRun id reset acts s' → AreOfOneConnection acts → ((c : Connection) → reset.connection ≡ Some c → IsPrefixOf (c.read ++ bytes_read acts) w) → ReaderKeepsUp f0 f1 acts s'
+reset_reader id s reset s' t acts f0 f1 w kept text step d one front =
+    let wrote = wrote_of (mirrored id) f0 f1 w text in
+    run_keeps_up f0 f1 w kept wrote d one (reset_starts f0 f1 w s reset t acts step.certain step.row front)

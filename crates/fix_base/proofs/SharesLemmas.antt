@@ -19,7 +19,7 @@ use Rattle.fix_base.specs.Wrote.{IsSealed, original_fields, AdminFields, IsOrigi
 use Rattle.fix_base.specs.EndStep as steps
 use Rattle.fix_base.specs.EndStep.{Role, Initiator, Acceptor, Answer, AskedReset, Confirmed, Connection, EndState, new_state, IsAsking, IsAskedReset, LogonRule}
 use Rattle.fix_base.specs.Resets as resets
-use Rattle.fix_base.specs.Resets.{EpochPeer, EpochPeers, new_epoch_peer, new_epoch_peers, still, opened_epoch_peer, wrote_epoch_peer, reset_epoch_peer, asking_epoch_peer, EpochStep, ResetEvent, Initiates, Accepts, ResetsRun, SharesReset}
+use Rattle.fix_base.specs.Resets.{EpochPeer, EpochPeers, new_epoch_peer, new_epoch_peers, still, opened_epoch_peer, wrote_epoch_peer, reset_epoch_peer, asking_epoch_peer, EpochStep, ResetEvent, Initiates, Accepts, ResetsRun}
 use Rattle.fix_base.proofs.ListLemmas.{prefix_refl, Among-cons_cases}
 use Rattle.fix_base.proofs.FramingLemmas.{front_frames}
 use Rattle.fix_base.proofs.Runs.{frames-append}
@@ -33,23 +33,23 @@ use Rattle.fix_base.proofs.ResetLemmas.{confirm_state, ask_state, stays}
 
 -- ---- the Logon (35=A) of entry 1, with EncryptMethod (98), HeartBtInt (108) and ResetSeqNumFlag (141) = Y
 
-abbrev rest : List Field
+abbrev pub rest : List Field
 rest = field 98 (codes "0") ∷ field 108 (decimal 30) ∷ field 141 (codes "Y") ∷ []
 
 -- entry 1 carries them
-carried : AdminFields 0 65 rest
+pub carried : AdminFields 0 65 rest
 carried = wrote.logon 30 true
 
-rest_fields : AllByRecursion IsEntryField rest
+pub rest_fields : AllByRecursion IsEntryField rest
 rest_fields = admin_fields carried
 
-abbrev logon : Entry
+abbrev pub logon : Entry
 logon = Admin 0 65 0
 
-logon_kept : IsPersistentEntry logon
+pub logon_kept : IsPersistentEntry logon
 logon_kept = record { payload = record { time_fits = lit≤ tt; kind_known = refl; about_fits = lit< tt }; kept = λ e. omega (arith, e) }
 
-abbrev fields : Identity → List Field
+abbrev pub fields : Identity → List Field
 fields id = original_fields id (decimal 1) at (codes "A") rest
 
 plain : (id : Identity) → IsValidIdentity id → AllByRecursion IsPlainField (fields id)
@@ -94,15 +94,15 @@ short id valid = (
   ),
 )
 
-abbrev frame : Identity → List ℕ
+abbrev pub frame : Identity → List ℕ
 frame id = sealed id.begin (fields_text (fields id))
 
-frame_sealed : (id : Identity) → IsValidIdentity id → IsSealed id (fields id) (frame id)
+pub frame_sealed : (id : Identity) → IsValidIdentity id → IsSealed id (fields id) (frame id)
 frame_sealed id valid =
     let bound : length (fields_text (fields id)) ≤ 800 = short_fields (fields id) (short id valid) in
     record { spelled = refl; are = plain_fields (fields id) (plain id valid); short = omega arith }
 
-is_frame : (id : Identity) → IsValidIdentity id → IsFrame (frame id)
+pub is_frame : (id : Identity) → IsValidIdentity id → IsFrame (frame id)
 is_frame id valid = sealed_is_frame id (fields id) (frame id) (original_is id (decimal 1) at (codes "A") rest rest_fields) (frame_sealed id valid)
 
 is_first : (id : Identity) → IsValidIdentity id → IsFirstLogon (frame id)
@@ -114,20 +114,20 @@ is_first id valid = record {
   number = original_number id (decimal 1) 1 at (codes "A") rest (seq_num_decimal 1 (lit≤ tt) (lit≤ tt)) rest_fields;
 }
 
-is_original : (id : Identity) → IsValidIdentity id → IsOriginal id 1 logon (frame id)
+pub is_original : (id : Identity) → IsValidIdentity id → IsOriginal id 1 logon (frame id)
 is_original id valid = record { type = codes "A"; at = at; rest = rest; carries = wrote.admin carried; sent_at = at_epoch; sealed_so = frame_sealed id valid }
 
-begun : (id : Identity) → IsValidIdentity id → Begun IsFirstLogon (frame id)
+pub begun : (id : Identity) → IsValidIdentity id → Begun IsFirstLogon (frame id)
 begun id valid =
     let behind : Ahead = record { may_mark = ends_in_soh (frame id); bytes = [] } in
     record { text = frame id; others = []; items = Frame (frame id) ∷ []; rest = behind; takes = (behind, record { is = (refl, is_frame id valid); spelled = sym (append-nil (frame id)); mark = refl }, refl); first = refl; is = is_first id valid }
 
 -- ---- ends without entries, and with the Logon
 
-abbrev empty : Bool → End
+abbrev pub empty : Bool → End
 empty asked = record { out = []; stored = 1; since = Some 0; withheld = []; asked = asked }
 
-abbrev with_logon : Bool → End
+abbrev pub with_logon : Bool → End
 with_logon asked = folded (empty asked) (Push logon)
 
 logon_entry : (asked : Bool) → IsEntry (with_logon asked).out 1 logon
@@ -144,7 +144,7 @@ lawful id asked valid = record {
 
 -- ---- the initiator
 
-abbrev link : End → List ℕ → List ℕ → List Answer → Connection
+abbrev pub link : End → List ℕ → List ℕ → List Answer → Connection
 link opened read written kept = record { opened = opened; read = read; written = written; base = 0; gave = []; kept = kept }
 
 abbrev asks_state : Connection → End → EndState
@@ -165,7 +165,7 @@ p4 mine = wrote_epoch_peer p3 (asks_state (link (empty true) [] mine []) (with_l
 abbrev p5 : List ℕ → List ℕ → EpochPeer
 p5 mine theirs = still (p4 mine) (asks_state (link (empty true) theirs mine []) (with_logon true))
 
-abbrev p6 : List ℕ → List ℕ → EpochPeer
+abbrev pub p6 : List ℕ → List ℕ → EpochPeer
 p6 mine theirs = still (p5 mine theirs) (confirm_state (asks_state (link (empty true) theirs mine []) (with_logon true)) (link (empty true) theirs mine []))
 
 -- ---- the acceptor
@@ -185,7 +185,7 @@ q3 mine = reset_epoch_peer (q2 mine) (answers_state (link (empty false) mine [] 
 abbrev q4 : List ℕ → EpochPeer
 q4 mine = still (q3 mine) (answers_state (link (empty false) mine [] (AskedReset ∷ [])) (with_logon false))
 
-abbrev q5 : List ℕ → List ℕ → EpochPeer
+abbrev pub q5 : List ℕ → List ℕ → EpochPeer
 q5 mine theirs = wrote_epoch_peer (q4 mine) (answers_state (link (empty false) mine theirs (AskedReset ∷ [])) (with_logon false)) theirs
 
 was_asked : (mine : List ℕ) → Begun IsFirstLogon mine → IsAskedReset (q2 mine).state
@@ -205,36 +205,33 @@ answer_rule id mine valid = steps.answers (λ h. (let wrong = h.1 in cc)) (λ b.
 
 -- ---- both
 
-abbrev of_both : EpochPeer → EpochPeer → EpochPeers
+abbrev pub of_both : EpochPeer → EpochPeer → EpochPeers
 of_both p q = record { initiator = p; acceptor = q }
 
-shares_as : (id : Identity) → IsValidIdentity id → IsValidIdentity (mirrored id) → SharesReset id
-shares_as id valid other =
+-- what happens in it
+abbrev pub resetting : Identity → List ResetEvent → List ResetEvent
+resetting id events =
+    Initiates (act.Kept (ResetAsk 0)) ∷ Initiates act.Opened ∷ Initiates (act.Kept (Push logon)) ∷ Initiates (act.Wrote (frame id))
+    ∷ Accepts act.Opened ∷ Accepts (act.Read (frame id)) ∷ Accepts (act.Kept (Reset 0)) ∷ Accepts (act.Kept (Push logon)) ∷ Accepts (act.Wrote (frame (mirrored id)))
+    ∷ Initiates (act.Read (frame (mirrored id))) ∷ Initiates (act.Kept Confirm) ∷ events
+
+-- the two as they are then
+abbrev pub reset_peers : Identity → EpochPeers
+reset_peers id = of_both (p6 (frame id) (frame (mirrored id))) (q5 (frame id) (frame (mirrored id)))
+
+-- and it is a run, whatever follows
+pub shares_as : (id : Identity) {events : List ResetEvent} {w : EpochPeers} → IsValidIdentity id → IsValidIdentity (mirrored id) → ResetsRun id (reset_peers id) events w → ResetsRun id new_epoch_peers (resetting id events) w
+shares_as id valid other later =
     let mine = frame id in
     let theirs = frame (mirrored id) in
-    record {
-      events = Initiates (act.Kept (ResetAsk 0)) ∷ Initiates act.Opened ∷ Initiates (act.Kept (Push logon)) ∷ Initiates (act.Wrote mine)
-          ∷ Accepts act.Opened ∷ Accepts (act.Read mine) ∷ Accepts (act.Kept (Reset 0)) ∷ Accepts (act.Kept (Push logon)) ∷ Accepts (act.Wrote theirs)
-          ∷ Initiates (act.Read theirs) ∷ Initiates (act.Kept Confirm) ∷ [];
-      peers = of_both (p6 mine theirs) (q5 mine theirs);
-      run =
-          resets.initiates {w = new_epoch_peers} {p = p1} (act.Kept (ResetAsk 0)) (resets.asks 0 refl (record { certain = refl; row = steps.kept_ask 0 refl }))
-          (resets.initiates {w = of_both p1 (new_epoch_peer Acceptor)} {p = p2} act.Opened (resets.opens_asking 1 (refl, refl) (lit< tt) (record { certain = refl; row = steps.opened (λ h. refl) }))
-          (resets.initiates {w = of_both p2 (new_epoch_peer Acceptor)} {p = p3} (act.Kept (Push logon)) (resets.rests (act.Kept (Push logon)) tt logon_kept (record { certain = refl; row = steps.kept_push logon steps.adds }))
-          (resets.initiates {w = of_both p3 (new_epoch_peer Acceptor)} {p = p4 mine} (act.Wrote mine) (resets.writes mine (record { certain = refl; row = steps.wrote mine (link (empty true) [] [] []) refl (lawful id true valid) (steps.asks mine logon (refl, refl) (logon_entry true) (is_original id valid) (is_first id valid) (prefix_refl mine)) }))
-          (resets.accepts {w = of_both (p4 mine) (new_epoch_peer Acceptor)} {p = q1} act.Opened (resets.opens 1 (λ h. (let wrong = h.1 in cc)) (lit< tt) (record { certain = refl; row = steps.opened (λ h. refl) }))
-          (resets.accepts {w = of_both (p4 mine) q1} {p = q2 mine} (act.Read mine) (resets.reads mine (link (new_state Acceptor).end [] [] []) refl (prefix_refl mine) (record { certain = refl; row = steps.read mine (link (new_state Acceptor).end [] [] []) refl }))
-          (resets.accepts {w = of_both (p4 mine) (q2 mine)} {p = q3 mine} (act.Kept (Reset 0)) (resets.resets 0 refl (was_asked mine (begun id valid)) (record { certain = refl; row = steps.kept_reset 0 (link (new_state Acceptor).end mine [] []) AskedReset refl (stays (q2 mine).state (was_asked mine (begun id valid))) (steps.by_logon (was_asked mine (begun id valid))) }))
-          (resets.accepts {w = of_both (p4 mine) (q3 mine)} {p = q4 mine} (act.Kept (Push logon)) (resets.rests (act.Kept (Push logon)) tt logon_kept (record { certain = refl; row = steps.kept_push logon steps.adds }))
-          (resets.accepts {w = of_both (p4 mine) (q4 mine)} {p = q5 mine theirs} (act.Wrote theirs) (resets.writes theirs (record { certain = refl; row = steps.wrote theirs (link (empty false) mine [] (AskedReset ∷ [])) refl (lawful (mirrored id) false other) (answer_rule (mirrored id) mine other) }))
-          (resets.initiates {w = of_both (p4 mine) (q5 mine theirs)} {p = p5 mine theirs} (act.Read theirs) (resets.reads theirs (link (empty true) [] mine []) refl (prefix_refl theirs) (record { certain = refl; row = steps.read theirs (link (empty true) [] mine []) refl }))
-          (resets.initiates {w = of_both (p5 mine theirs) (q5 mine theirs)} {p = p6 mine theirs} (act.Kept Confirm) (resets.confirms refl (record { certain = refl; row = steps.kept_confirm (link (empty true) theirs mine []) refl (refl, refl) (begun (mirrored id) other) })) resets.stop))))))))));
-      epoch = refl;
-      epoch_back = refl;
-      asked = refl;
-      certain = (refl, refl);
-    }
-
--- a reset is shared
-pub shares_reset : (id : Identity) → IsValidIdentity id → SharesReset id
-shares_reset id valid = shares_as id valid (record { sender = valid.target; target = valid.sender })
+    resets.initiates {w = new_epoch_peers} {p = p1} (act.Kept (ResetAsk 0)) (resets.asks 0 refl (record { certain = refl; row = steps.kept_ask 0 refl }))
+    (resets.initiates {w = of_both p1 (new_epoch_peer Acceptor)} {p = p2} act.Opened (resets.opens_asking 1 (refl, refl) (lit< tt) (record { certain = refl; row = steps.opened (λ h. refl) }))
+    (resets.initiates {w = of_both p2 (new_epoch_peer Acceptor)} {p = p3} (act.Kept (Push logon)) (resets.rests (act.Kept (Push logon)) tt logon_kept (record { certain = refl; row = steps.kept_push logon steps.adds }))
+    (resets.initiates {w = of_both p3 (new_epoch_peer Acceptor)} {p = p4 mine} (act.Wrote mine) (resets.writes mine (record { certain = refl; row = steps.wrote mine (link (empty true) [] [] []) refl (lawful id true valid) (steps.asks mine logon (refl, refl) (logon_entry true) (is_original id valid) (is_first id valid) (prefix_refl mine)) }))
+    (resets.accepts {w = of_both (p4 mine) (new_epoch_peer Acceptor)} {p = q1} act.Opened (resets.opens 1 (λ h. (let wrong = h.1 in cc)) (lit< tt) (record { certain = refl; row = steps.opened (λ h. refl) }))
+    (resets.accepts {w = of_both (p4 mine) q1} {p = q2 mine} (act.Read mine) (resets.reads mine (link (new_state Acceptor).end [] [] []) refl (prefix_refl mine) (record { certain = refl; row = steps.read mine (link (new_state Acceptor).end [] [] []) refl }))
+    (resets.accepts {w = of_both (p4 mine) (q2 mine)} {p = q3 mine} (act.Kept (Reset 0)) (resets.resets 0 refl (was_asked mine (begun id valid)) (record { certain = refl; row = steps.kept_reset 0 (link (new_state Acceptor).end mine [] []) AskedReset refl (stays (q2 mine).state (was_asked mine (begun id valid))) (steps.by_logon (was_asked mine (begun id valid))) }))
+    (resets.accepts {w = of_both (p4 mine) (q3 mine)} {p = q4 mine} (act.Kept (Push logon)) (resets.rests (act.Kept (Push logon)) tt logon_kept (record { certain = refl; row = steps.kept_push logon steps.adds }))
+    (resets.accepts {w = of_both (p4 mine) (q4 mine)} {p = q5 mine theirs} (act.Wrote theirs) (resets.writes theirs (record { certain = refl; row = steps.wrote theirs (link (empty false) mine [] (AskedReset ∷ [])) refl (lawful (mirrored id) false other) (answer_rule (mirrored id) mine other) }))
+    (resets.initiates {w = of_both (p4 mine) (q5 mine theirs)} {p = p5 mine theirs} (act.Read theirs) (resets.reads theirs (link (empty true) [] mine []) refl (prefix_refl theirs) (record { certain = refl; row = steps.read theirs (link (empty true) [] mine []) refl }))
+    (resets.initiates {w = of_both (p5 mine theirs) (q5 mine theirs)} {p = p6 mine theirs} (act.Kept Confirm) (resets.confirms refl (record { certain = refl; row = steps.kept_confirm (link (empty true) theirs mine []) refl (refl, refl) (begun (mirrored id) other) })) later))))))))))

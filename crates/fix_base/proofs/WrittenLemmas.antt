@@ -253,6 +253,11 @@ admin_typed (wrote.reject tag reason type text) = (refl, refl)
 admin_typed (wrote.logout text) = (refl, refl)
 admin_typed (wrote.logon heart reset) = (refl, refl)
 
+pub admin_original : (id : Identity) (n : ℕ) (text at : List ℕ) {about kind : ℕ} {rest : List Field} → 1 ≤ n → n ≤ 999999999 → AdminFields about kind rest → IsSealed id (original_fields id (decimal n) at (kind ∷ []) rest) text → Says text (message.Admin n)
+admin_original id n text at {kind = kind} {rest = rest} some le fields sealed_so =
+    let typed = admin_typed fields in
+    says_of id (original_fields id (decimal n) at (kind ∷ []) rest) text _ (original_is id (decimal n) at (kind ∷ []) rest (admin_fields fields)) sealed_so (original_admin id (decimal n) n at (kind ∷ []) rest (seq_num_decimal n some le) typed.0 typed.1 (admin_fields fields))
+
 pub original_of : (id : Identity) (n : ℕ) (e : Entry) (text at type : List ℕ) (rest : List Field) → 1 ≤ n → n ≤ 999999999 → Carries e type rest → IsSealed id (original_fields id (decimal n) at type rest) text → Original n e text
 original_of id n e text at type rest some le (wrote.app {time = time} {by = by} {body = body} is) sealed_so =
     record {
@@ -261,15 +266,12 @@ original_of id n e text at type rest some le (wrote.app {time = time} {by = by} 
       frame = sealed_is_frame id (original_fields id (decimal n) at type rest) text (original_is id (decimal n) at type rest is.each) sealed_so;
       says = subst (λ w. Says text (message.App n false w)) (sym is.spelled) (app_original id n text at type rest some le is.app is.each sealed_so);
     }
-original_of id n e text at type rest some le (wrote.admin {time = time} {kind = kind} {about = about} admin) sealed_so =
-    let each = admin_fields admin in
-    let typed = admin_typed admin in
-    let are = original_is id (decimal n) at (kind ∷ []) rest each in
+original_of id n e text at type rest some le (wrote.admin {time = time} {kind = kind} {about = about} fields) sealed_so =
     record {
       message = message.Admin n;
       is = told.admin time kind about;
-      frame = sealed_is_frame id (original_fields id (decimal n) at (kind ∷ []) rest) text are sealed_so;
-      says = says_of id (original_fields id (decimal n) at (kind ∷ []) rest) text _ are sealed_so (original_admin id (decimal n) n at (kind ∷ []) rest (seq_num_decimal n some le) typed.0 typed.1 each);
+      frame = sealed_is_frame id (original_fields id (decimal n) at (kind ∷ []) rest) text (original_is id (decimal n) at (kind ∷ []) rest (admin_fields fields)) sealed_so;
+      says = admin_original id n text at some le fields sealed_so;
     }
 original_of id n e text at type rest some le (wrote.once {time = time} {kind = kind} {about = about} is app each) sealed_so =
     record {

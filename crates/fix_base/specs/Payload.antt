@@ -1,5 +1,5 @@
 -- Which entries a message store may keep, and which ends keep their messages.
-use Rattle.std.specs.Prelude.{◌≡◌, ◌≢◌, ℕ, ◌+◌, ◌<◌, ◌≤◌, ◌^◌, ◌==◌, bytes_eq, codes, IsTrue, List, [], ◌∷◌, length, Bool, false, None}
+use Rattle.std.specs.Prelude.{◌≡◌, ◌≢◌, ℕ, ◌+◌, ◌<◌, ◌≤◌, ◌^◌, ◌==◌, codes, IsTrue, List, [], ◌∷◌, length, Bool, false, None}
 use Rattle.std.specs.List.{AllByRecursion, list_any}
 use Rattle.fix_base.specs.Lists.{Among}
 use Rattle.fix_base.specs.Tags.{is_session_tag}

@@ -3,7 +3,7 @@
 use Rattle.std.specs.Prelude.{◌≡◌, ℕ, ◌<◌, List, [], ◌∷◌, ◌++◌, Bool, true, false, Option, Some, None}
 use Rattle.fix_base.specs.Lists.{Among, IsPrefixOf}
 use Rattle.fix_base.specs.Session.{Identity, mirrored}
-use Rattle.fix_base.specs.End.{Record, Push, Expect, Many, Withhold, Reset, ResetAsk, Confirm, End, folded}
+use Rattle.fix_base.specs.End.{Record, Push, Expect, Many, Withhold, Reset, ResetAsk, Confirm, End, folded, app_entries}
 use Rattle.fix_base.specs.Act as act
 use Rattle.fix_base.specs.Act.{Act}
 use Rattle.fix_base.specs.EndStep.{Role, Initiator, Acceptor, Connection, EndState, IsAsking, IsAskedReset, new_state, EndStep, Move}
@@ -143,7 +143,8 @@ pub record ResetsAgree (w : EpochPeers) : Type 0 where
   pub marks_back : MarksSince w.acceptor.gave
 
 -- the initiator asks for a reset, the acceptor resets and answers, and the initiator confirms: the reset
--- is shared
+-- is shared. Then the initiator keeps and writes an application message, which the acceptor hands over, and
+-- keeps the number that it expects after it. Nothing is in doubt, and the two agree
 pub record SharesReset (id : Identity) : Type 0 where
   pub events : List ResetEvent
   pub peers : EpochPeers
@@ -152,3 +153,9 @@ pub record SharesReset (id : Identity) : Type 0 where
   pub epoch_back : peers.acceptor.epoch ≡ Some 1
   pub asked : peers.initiator.state.end.asked ≡ false
   pub certain : (peers.initiator.state.doubt ≡ None) × (peers.acceptor.state.doubt ≡ None)
+  pub body : List ℕ
+  pub stored : app_entries peers.initiator.state.end.out ≡ record { number = 2; body = body } ∷ []
+  pub handled : peers.acceptor.state.handled ≡ record { number = 2; body = body; marked = false; rejected = false } ∷ []
+  pub expected : peers.acceptor.state.end.stored ≡ 3
+  pub agree : AgreesSince peers.acceptor.state peers.initiator.state
+  pub agree_back : AgreesSince peers.initiator.state peers.acceptor.state

@@ -40,7 +40,7 @@ pub fn no_message_is_passed_over()
 {}
 
 /// Where two ends agree, a message that came for its first time came with a number above all that had
-/// come before: one that was withheld never comes afterwards behind a later one.
+/// come before: one that was withheld never comes after a later one.
 pub fn no_message_comes_late()
     ensures { (expected : ℕ) (handled : List Handling) (f : End) → Agrees expected handled f → ComesInOrder handled }
 {}

@@ -43,6 +43,6 @@ pub use stream_laws::{
 pub use tags::{DATA_PAIRS, ENGINE_TAGS, HEADER_TAGS, SESSION_TAGS, TRAILER_TAGS};
 pub use world_laws::{
     a_message_arrives, a_message_comes_again, a_message_is_withheld, a_reader_keeps_up,
-    a_reset_is_shared, no_withheld_message_comes_late, resets_are_shared, what_a_writer_keeps_true,
-    world_agrees,
+    a_reader_keeps_up_after_a_reset, a_reset_is_shared, no_withheld_message_comes_late,
+    resets_are_shared, what_a_writer_keeps_true, world_agrees,
 };

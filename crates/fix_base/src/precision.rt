@@ -4,8 +4,8 @@
 pub enum Precision {
     /// Whole seconds, as `20240102-10:00:00`.
     Seconds,
-    /// Three digits behind the point.
+    /// Three digits after the point.
     Millis,
-    /// Six digits behind the point.
+    /// Six digits after the point.
     Micros,
 }

@@ -1,14 +1,14 @@
 //! What holds of two ends of a session and the connections between them, each law on a function
 //! that does nothing.
-ghost use Rattle.std.specs.Prelude.{◌≡◌, ℕ, List, [], ◌∷◌, ◌++◌, length};
+ghost use Rattle.std.specs.Prelude.{◌≡◌, ℕ, List, [], ◌∷◌, ◌++◌, length, Some};
 ghost use Rattle.fix_base.specs.Lists.{IsPrefixOf};
 ghost use Rattle.fix_base.specs.Session.{Identity, IsValidIdentity, mirrored};
-ghost use Rattle.fix_base.specs.End.{End, GrowsTo};
+ghost use Rattle.fix_base.specs.End.{Reset, End, GrowsTo};
 ghost use Rattle.fix_base.specs.Payload.{IsPersistent};
 ghost use Rattle.fix_base.specs.Act;
 ghost use Rattle.fix_base.specs.Act.{Act};
 ghost use Rattle.fix_base.specs.Wrote.{Wrote, WroteWhole, WritesNext};
-ghost use Rattle.fix_base.specs.EndStep.{EndState, EndStep, EndRun};
+ghost use Rattle.fix_base.specs.EndStep.{Connection, EndState, EndStep, EndRun};
 ghost use Rattle.fix_base.specs.Agrees.{Agrees};
 ghost use Rattle.fix_base.specs.Reader.{bytes_read, AreOfOneConnection, ReaderKeepsUp};
 ghost use Rattle.fix_base.specs.Resets.{EpochPeers, ResetEvent, ResetsRun, ResetsAgree, SharesReset, new_epoch_peers};
@@ -37,6 +37,17 @@ pub fn a_reader_keeps_up()
         Agrees s.end.stored s.handled f0 → Agrees s.expected s.handled f0 → ReaderKeepsUp f0 f1 acts s' }
 {}
 
+/// The same after a Reset that an end keeps on the connection, as where its counterparty's Logon (35=A)
+/// told of one by ResetSeqNumFlag (141) = Y: it has handled nothing since, so nothing is asked of what it
+/// handled before. All that it reads on the connection, before and after the Reset, is a front of what such a
+/// counterparty may have written there.
+pub fn a_reader_keeps_up_after_a_reset()
+    ensures { (id : Identity) (s reset s' : EndState) (t : ℕ) (acts : List Act) (f0 f1 : End) (w : List ℕ) →
+        IsPersistent f1 → Wrote (mirrored id) f0 f1 w →
+        EndStep id s (Act.Kept (Reset t)) reset → EndRun id reset acts s' → AreOfOneConnection acts →
+        ((c : Connection) → reset.connection ≡ Some c → IsPrefixOf (c.read ++ bytes_read acts) w) → ReaderKeepsUp f0 f1 acts s' }
+{}
+
 /// Two ends that both keep to FIX's rules of numbering, resending and gap filling agree after
 /// whatever happens: connections that break at any byte, crashes of either, records of which
 /// nobody knows whether they were kept. No application message is lost but those that its sender
@@ -48,7 +59,7 @@ pub fn world_agrees()
 {}
 
 /// Between two such ends a message that comes for its first time comes with a number above all that
-/// came before: one that was withheld never comes afterwards behind a later one.
+/// came before: one that was withheld never comes after a later one.
 pub fn no_withheld_message_comes_late()
     ensures { (id : Identity) (w : World) (events : List Event) → WorldRun id new_world events w → EachPlain events → ComeInOrder w }
 {}
@@ -74,18 +85,22 @@ pub fn a_message_is_withheld()
     ensures { (id : Identity) → IsValidIdentity id → PassesWithheld id }
 {}
 
-/// Two ends that reset by Logon (ResetSeqNumFlag 141 = Y): the initiator asks for a reset on its next
-/// connection, and the acceptor answers. Where the last reset is shared, the two agree on all since
-/// then as they do where nothing is reset. Where it isn't, the initiator is ahead: it has asked,
-/// and handled nothing since. In each epoch a message that an application was given before comes
-/// marked (PossDupFlag 43 = Y). A reset of which nobody knows whether it was kept counts for the epoch
-/// where it turns out to be.
+/// Two new ends that reset by Logon (ResetSeqNumFlag 141 = Y): the initiator asks for a reset, which it
+/// does again on each connection until it is answered, and the acceptor resets where its first message read
+/// on a connection is such a Logon. Connections break at any byte, both stop, and records are lost, those for
+/// a reset too. Where no record is in doubt, either the last reset is shared, and the two agree on all since
+/// then as they do where nothing is reset; or the initiator is ahead: it has asked, and handled nothing
+/// since. A reset of which nobody knows whether it was kept counts from where it turns out to be. Of each two
+/// times that an application was given a message since one reset, the later one is marked (PossDupFlag 43 =
+/// Y). This is said of ends that keep no other reset, and keep each application message to be sent again.
 pub fn resets_are_shared()
     ensures { (id : Identity) (w : EpochPeers) (events : List ResetEvent) → ResetsRun id new_epoch_peers events w → ResetsAgree w }
 {}
 
-/// A reset is shared at times: the initiator asks for one, the acceptor reads the Logon (35=A) with
-/// ResetSeqNumFlag (141) = Y, resets and answers with one, and the initiator confirms.
+/// A reset may be shared: between any two CompIDs there is a run in which the initiator asks for a reset,
+/// the acceptor reads the Logon (35=A) with ResetSeqNumFlag (141) = Y, resets and answers with one, and the
+/// initiator confirms. Then the initiator keeps and writes a NewOrderSingle (35=D), the acceptor hands it
+/// over and expects the number after it, and the two agree.
 pub fn a_reset_is_shared()
     ensures { (id : Identity) → IsValidIdentity id → SharesReset id }
 {}

@@ -1,4 +1,4 @@
-use Rattle.fix_base.proofs.SharesLemmas.{shares_reset}
+use Rattle.fix_base.proofs.AfterResetLemmas.{shares_reset}
 use Rattle.fix_base.proofs.world_laws.a_reset_is_shared.Goals as goal
 
 pub returns : goal.returns
