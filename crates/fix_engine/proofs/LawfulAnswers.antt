@@ -1,5 +1,5 @@
 -- The answer to a message is a run of a lawful end.
-use Rattle.std.proofs.Common.{◌≡◌, ◌≢◌, inl, inr, ℕ, ◌<◌, ◌&&◌, ◌||◌, not, codes, bytes_eq, List, [], ◌∷◌, Bool, true, false, if◌then◌else◌, Option, Some, None, is_none, Result, refl, sym, ap, ◌∙◌, subst}
+use Rattle.std.proofs.Common.{◌≡◌, ◌≢◌, inl, inr, ℕ, ◌<◌, ◌&&◌, not, codes, bytes_eq, List, [], ◌∷◌, Bool, true, false, if◌then◌else◌, Option, Some, None, is_none, Result, refl, sym, ap, ◌∙◌, subst}
 use Rattle.std.specs.Prelude.{⊤, IfSome}
 use Rattle.std.proofs.lemmas.Bool.{eqb-true}
 use Rattle.std.proofs.lemmas.Slice.Eq.{bytes_eq-Decides}

@@ -1,5 +1,5 @@
 -- What is seen of the parts in memory, and which of their calls fail.
-use Rattle.std.specs.Prelude.{◌≡◌, ℕ, ◌+◌, ◌-◌, ◌<◌, ◌≤◌, map, option_map, take, vec_len, vec_capacity, min, List, [], ◌∷◌, length, drop, Option, Some, None, Contains}
+use Rattle.std.specs.Prelude.{◌≡◌, ℕ, ◌-◌, ◌<◌, ◌≤◌, map, option_map, take, vec_len, vec_capacity, List, [], ◌∷◌, length, drop, Option, Some, None}
 use Rattle.fix_base.specs.declared.act.Act.{Act}
 use Rattle.fix_base.specs.declared.entry.Entry.{Entry}
 use Rattle.fix_disk.specs.Script.{Script, script_with, told_room}

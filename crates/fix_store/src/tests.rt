@@ -431,7 +431,8 @@ fn entries_are_numbered_from_1_again_behind_a_reset(rt: HostRuntime) -> Result<(
         Stored {
             last: 1,
             expected: 1,
-            since: Some(7)
+            since: Some(7),
+            asked: false
         }
     );
     Ok(())
@@ -460,7 +461,8 @@ fn a_stop_leaves_the_end_from_before_or_with_the_record(rt: HostRuntime) -> Resu
             Stored {
                 last: 0,
                 expected,
-                since: None
+                since: None,
+                asked: false
             }
         );
     }
