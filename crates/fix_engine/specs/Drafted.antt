@@ -16,7 +16,7 @@ use Rattle.fix_engine.specs.declared.stop.StopCause.{StopCause}
 use Rattle.fix_engine.specs.declared.stop.StopCause.TheVariants as cause
 use Rattle.fix_engine.specs.declared.stop.SendFault.{SendFault}
 use Rattle.fix_engine.specs.declared.stop.SendFault.TheVariants as fault
-use Rattle.fix_engine.specs.Turn.{Live, live, down}
+use Rattle.fix_engine.specs.Turn.{Live, live}
 
 -- the entry that is kept of a draft
 abbrev pub entry_of_draft : State → DraftText → Entry

@@ -1,5 +1,5 @@
 -- Every `send` is a run of a lawful end.
-use Rattle.std.specs.Prelude.{ℕ, List, Result, Ok, Err}
+use Rattle.std.specs.Prelude.{List, Result, Ok, Err}
 use Rattle.fix_base.specs.declared.identity.Identity.{Identity}
 use Rattle.fix_base.specs.EndStep.{EndState}
 use Rattle.fix_base.specs.Seen.{Note, acts_of}

@@ -1,5 +1,5 @@
 -- The drafts that an application in memory gives, one after another.
-use Rattle.std.proofs.Common.{◌≡◌, ℕ, zero, suc, ◌+◌, ◌<◌, ◌≤◌, List, [], ◌∷◌, ◌++◌, length, map, drop, take, Bool, true, Option, Some, None, option_map, refl, ap, ◌∙◌, sym, subst, arith, add-one}
+use Rattle.std.proofs.Common.{◌≡◌, ℕ, zero, suc, ◌+◌, ◌<◌, ◌≤◌, List, [], ◌∷◌, ◌++◌, length, map, drop, take, true, Option, Some, None, option_map, refl, ap, ◌∙◌, arith, add-one}
 use Rattle.std.specs.Option.{is_some}
 use Rattle.fix_base.specs.Parts.{extended, given_draft}
 use Rattle.fix_fields.specs.Drafted.{DraftText, draft_body}

@@ -1,5 +1,5 @@
 use super::*;
-use fix_base::{Act, By, Bytes, Entry, OutOfMemory, Record};
+use fix_base::{Act, By, Bytes, Entries, Entry, OutOfMemory, Record};
 use fix_disk::{MemorySink, Sink, StreamSink};
 use std::alloc::Global;
 use std::cell::Cell;
@@ -185,6 +185,24 @@ fn a_tape_keeps_each_act(rt: HostRuntime) -> Result<(), Fail> {
         kind: b'A',
         about: 0,
     });
+    let both = Record::Many {
+        pushes: Entries::from_vec(copy_entries(
+            alloc,
+            &[
+                Entry::Admin {
+                    time: 9,
+                    kind: b'3',
+                    about: 2,
+                },
+                Entry::App {
+                    time: 9,
+                    by: By::Engine,
+                    body: Bytes::copy(alloc, ORDER)?,
+                },
+            ],
+        )?),
+        expect: 3,
+    };
     let handed = message(4, true, ORDER);
     let noted = [
         Noted::Opened,
@@ -192,6 +210,7 @@ fn a_tape_keeps_each_act(rt: HostRuntime) -> Result<(), Fail> {
         Noted::Read(b"8=FIX"),
         Noted::Kept(&order),
         Noted::KeepLost(&logon),
+        Noted::Kept(&both),
         Noted::Handed(&handed),
         Noted::Cut,
     ];
@@ -205,6 +224,7 @@ fn a_tape_keeps_each_act(rt: HostRuntime) -> Result<(), Fail> {
         Act::Read(Bytes::copy(alloc, b"8=FIX")?),
         Act::Kept(copy_record(alloc, &order)?),
         Act::KeepLost(copy_record(alloc, &logon)?),
+        Act::Kept(copy_record(alloc, &both)?),
         Act::Handed {
             number: 4,
             marked: true,

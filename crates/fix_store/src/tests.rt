@@ -61,6 +61,7 @@ const NEW: Stored = Stored {
     last: 0,
     expected: 1,
     since: None,
+    asked: false,
 };
 
 #[test]
@@ -122,6 +123,7 @@ const ONE_ENTRY: Stored = Stored {
     last: 1,
     expected: 1,
     since: None,
+    asked: false,
 };
 
 #[test]
@@ -161,6 +163,7 @@ fn which_payloads_are_records(rt: HostRuntime) -> Result<(), Fail> {
                 last: 0,
                 expected: 1,
                 since: Some(0),
+                asked: false,
             }),
         ),
         (
@@ -171,6 +174,7 @@ fn which_payloads_are_records(rt: HostRuntime) -> Result<(), Fail> {
                 last: 0,
                 expected: 1,
                 since: Some(4_102_444_799_999_999),
+                asked: false,
             }),
         ),
         (5, &past, b"", bad),
@@ -201,6 +205,7 @@ fn which_expected_numbers_are_records(rt: HostRuntime) -> Result<(), Fail> {
                 last: 0,
                 expected: number,
                 since: None,
+                asked: false,
             })
         } else {
             Err(OpenFault::Damaged(9))
@@ -265,11 +270,13 @@ fn stored_with(record: Kept) -> Stored {
             last: 0,
             expected,
             since: None,
+            asked: false,
         },
         Kept::Reset(time) => Stored {
             last: 0,
             expected: 1,
             since: Some(time),
+            asked: false,
         },
     }
 }
@@ -424,7 +431,8 @@ fn entries_are_numbered_from_1_again_behind_a_reset(rt: HostRuntime) -> Result<(
         Stored {
             last: 1,
             expected: 1,
-            since: Some(7)
+            since: Some(7),
+            asked: false
         }
     );
     Ok(())
@@ -453,7 +461,8 @@ fn a_stop_leaves_the_end_from_before_or_with_the_record(rt: HostRuntime) -> Resu
             Stored {
                 last: 0,
                 expected,
-                since: None
+                since: None,
+                asked: false
             }
         );
     }

@@ -6,7 +6,7 @@ use Rattle.fix_base.specs.declared.act.Act.{Act}
 use Rattle.fix_base.specs.declared.act.Act.TheVariants as act
 use Rattle.fix_base.specs.Line.{line_text}
 use Rattle.fix_base.specs.declared.entry.Record.{Record}
-use Rattle.fix_base.specs.declared.entry.Record.TheVariants.{Push, Expect, Reset}
+use Rattle.fix_base.specs.declared.entry.Record.TheVariants.{Push, Expect, Many, Withhold, Reset, ResetAsk, Confirm}
 use Rattle.fix_base.specs.declared.entry.Entry.TheVariants.{App, Admin}
 use Rattle.fix_base.specs.Payload.{record_size}
 use Rattle.fix_base.specs.Parts.{PartsSeen, extended, less, HasNoRoom, TakesRoom, KeepsRoom, Answers, ClockReads, GivesBytes, GivesIdle, GivesEnd, later_readings, left_before}
@@ -51,7 +51,11 @@ some_size : (r : Record) → 0 < record_size r
 some_size (Push (App time by body)) = omega arith
 some_size (Push (Admin time kind about)) = omega arith
 some_size (Expect number) = omega arith
+some_size (Many pushes number) = omega arith
+some_size (Withhold number) = omega arith
 some_size (Reset time) = omega arith
+some_size (ResetAsk time) = omega arith
+some_size Confirm = omega arith
 
 -- a record was lost only where it didn't fit
 unfit : (r : Record) (store : ℕ) (room : Option ℕ) → HasAtLeast store room → HasNoRoom (record_size r) room → store < record_size r
@@ -84,6 +88,8 @@ rooms_told (Did act.Idle ∷ notes) old new link app store h k f = rooms_told no
 rooms_told (Did act.Ended ∷ notes) old new link app store h k f = rooms_told notes f.0 new link app store (ap told_rooms f.1.1 ∙ h) (stays store old f.0 (ap store_in f.1.1) k) f.2
 rooms_told (Did act.Opened ∷ notes) old new link app store h k f = rooms_told notes f.0 new link app store (ap told_rooms f.1 ∙ h) (stays store old f.0 (ap store_in f.1) k) f.2
 rooms_told (Did act.Cut ∷ notes) old new link app store h k f = rooms_told notes f.0 new link app store (ap told_rooms f.1 ∙ h) (stays store old f.0 (ap store_in f.1) k) f.2
+rooms_told (Did (act.Withheld n) ∷ notes) old new link app store h k f = rooms_told notes f.0 new link app store (ap told_rooms f.1 ∙ h) (stays store old f.0 (ap store_in f.1) k) f.2
+rooms_told (Did (act.Allowed n) ∷ notes) old new link app store h k f = rooms_told notes f.0 new link app store (ap told_rooms f.1 ∙ h) (stays store old f.0 (ap store_in f.1) k) f.2
 rooms_told (Failed AppPart ∷ notes) old new link app store h k f = rooms_told notes f.0 new link app store (ap told_rooms f.1 ∙ h) (stays store old f.0 (ap store_in f.1) k) f.2
 rooms_told (Did act.Stop ∷ notes) old new link app store h k f = rooms_told notes f.0 new link app store (ap told_rooms f.1.1 ∙ h) (at_least_still store old.store_room f.0.store_room k f.1.0) f.2
 rooms_told (Failed (LinkPart unsent) ∷ notes) old new link app store h k f =
@@ -124,6 +130,8 @@ looks_told t (Did act.Opened ∷ notes) old new h f = looks_told t notes f.0 new
 looks_told t (Did act.Idle ∷ notes) old new h f = looks_told t notes f.0 new (ap readings_in f.1.1 ∙ h) f.2
 looks_told t (Did act.Ended ∷ notes) old new h f = looks_told t notes f.0 new (ap readings_in f.1.1 ∙ h) f.2
 looks_told t (Did act.Cut ∷ notes) old new h f = looks_told t notes f.0 new (ap readings_in f.1 ∙ h) f.2
+looks_told t (Did (act.Withheld k) ∷ notes) old new h f = looks_told t notes f.0 new (ap readings_in f.1 ∙ h) f.2
+looks_told t (Did (act.Allowed k) ∷ notes) old new h f = looks_told t notes f.0 new (ap readings_in f.1 ∙ h) f.2
 looks_told t (Did act.Stop ∷ notes) old new h f = looks_told t notes f.0 new (ap readings_in f.1.1 ∙ h) f.2
 looks_told t (Failed (LinkPart unsent) ∷ notes) old new h f = looks_told t notes f.0 new (ap readings_in f.1.1 ∙ h) f.2
 looks_told t (Failed StorePart ∷ notes) old new h f = looks_told t notes f.0 new (ap readings_in f.1 ∙ h) f.2
@@ -154,6 +162,8 @@ reads_told pieces (Did act.Ended ∷ notes) old new h f =
     let g = subst (λ (o : Option (List (List ℕ))). GivesEnd o f.0.to_come) h f.1.0 in
     (g.0, reads_told pieces notes f.0 new (g.1 ∙ ap Some (sym g.0)) f.2)
 reads_told pieces (Did act.Cut ∷ notes) old new h f = reads_told pieces notes f.0 new (ap come_in f.1 ∙ h) f.2
+reads_told pieces (Did (act.Withheld k) ∷ notes) old new h f = reads_told pieces notes f.0 new (ap come_in f.1 ∙ h) f.2
+reads_told pieces (Did (act.Allowed k) ∷ notes) old new h f = reads_told pieces notes f.0 new (ap come_in f.1 ∙ h) f.2
 reads_told pieces (Did act.Stop ∷ notes) old new h f = reads_told pieces notes f.0 new (ap come_in f.1.1 ∙ h) f.2
 reads_told pieces (Failed (LinkPart unsent) ∷ notes) old new h f = reads_told pieces notes f.0 new (ap come_in f.1.1 ∙ h) f.2
 reads_told pieces (Failed StorePart ∷ notes) old new h f = reads_told pieces notes f.0 new (ap come_in f.1 ∙ h) f.2
@@ -179,6 +189,8 @@ wrote_told w (Did act.Opened ∷ notes) old new h f = wrote_told w notes f.0 new
 wrote_told w (Did act.Idle ∷ notes) old new h f = wrote_told w notes f.0 new (ap written_in f.1.1 ∙ h) f.2
 wrote_told w (Did act.Ended ∷ notes) old new h f = wrote_told w notes f.0 new (ap written_in f.1.1 ∙ h) f.2
 wrote_told w (Did act.Cut ∷ notes) old new h f = wrote_told w notes f.0 new (ap written_in f.1 ∙ h) f.2
+wrote_told w (Did (act.Withheld k) ∷ notes) old new h f = wrote_told w notes f.0 new (ap written_in f.1 ∙ h) f.2
+wrote_told w (Did (act.Allowed k) ∷ notes) old new h f = wrote_told w notes f.0 new (ap written_in f.1 ∙ h) f.2
 wrote_told w (Did act.Stop ∷ notes) old new h f = wrote_told w notes f.0 new (ap written_in f.1.1 ∙ h) f.2
 wrote_told w (Failed (LinkPart unsent) ∷ notes) old new h f = wrote_told w notes f.0 new (ap written_in f.1.1 ∙ h) f.2
 wrote_told w (Failed StorePart ∷ notes) old new h f = wrote_told w notes f.0 new (ap written_in f.1 ∙ h) f.2
@@ -211,6 +223,8 @@ lines_told w (Did act.Opened ∷ notes) old new t h f = lines_told w notes f.0 n
 lines_told w (Did act.Idle ∷ notes) old new t h f = lines_told w notes f.0 new t (ap lines_of f.1.1 ∙ h) f.2
 lines_told w (Did act.Ended ∷ notes) old new t h f = lines_told w notes f.0 new t (ap lines_of f.1.1 ∙ h) f.2
 lines_told w (Did act.Cut ∷ notes) old new t h f = lines_told w notes f.0 new t (ap lines_of f.1 ∙ h) f.2
+lines_told w (Did (act.Withheld k) ∷ notes) old new t h f = lines_told w notes f.0 new t (ap lines_of f.1 ∙ h) f.2
+lines_told w (Did (act.Allowed k) ∷ notes) old new t h f = lines_told w notes f.0 new t (ap lines_of f.1 ∙ h) f.2
 lines_told w (Did act.Stop ∷ notes) old new t h f = lines_told w notes f.0 new t (ap lines_of f.1.1 ∙ h) f.2
 lines_told w (Failed (LinkPart unsent) ∷ notes) old new t h f = lines_told w notes f.0 new t (ap lines_of f.1.1 ∙ h) f.2
 lines_told w (Failed StorePart ∷ notes) old new t h f = lines_told w notes f.0 new t (ap lines_of f.1 ∙ h) f.2

@@ -24,6 +24,8 @@ bytes_written-append (act.KeepLost r ∷ xs) ys = bytes_written-append xs ys
 bytes_written-append (act.Handed n marked body ∷ xs) ys = bytes_written-append xs ys
 bytes_written-append (act.HandLost n marked body ∷ xs) ys = bytes_written-append xs ys
 bytes_written-append (act.Cut ∷ xs) ys = bytes_written-append xs ys
+bytes_written-append (act.Withheld n ∷ xs) ys = bytes_written-append xs ys
+bytes_written-append (act.Allowed n ∷ xs) ys = bytes_written-append xs ys
 bytes_written-append (act.Stop ∷ xs) ys = bytes_written-append xs ys
 
 handed_in-append : (xs ys : List Act) → handed_in (xs ++ ys) ≡ handed_in xs ++ handed_in ys
@@ -39,6 +41,8 @@ handed_in-append (act.Kept r ∷ xs) ys = handed_in-append xs ys
 handed_in-append (act.KeepLost r ∷ xs) ys = handed_in-append xs ys
 handed_in-append (act.HandLost n marked body ∷ xs) ys = ap (λ (w : List Act). act.HandLost n marked body ∷ w) (handed_in-append xs ys)
 handed_in-append (act.Cut ∷ xs) ys = handed_in-append xs ys
+handed_in-append (act.Withheld n ∷ xs) ys = handed_in-append xs ys
+handed_in-append (act.Allowed n ∷ xs) ys = handed_in-append xs ys
 handed_in-append (act.Stop ∷ xs) ys = handed_in-append xs ys
 
 -- each look of a front, and of what follows it
@@ -55,6 +59,8 @@ looks_both t (act.KeepLost r ∷ xs) ys h = looks_both t xs ys h
 looks_both t (act.Handed n marked body ∷ xs) ys h = looks_both t xs ys h
 looks_both t (act.HandLost n marked body ∷ xs) ys h = looks_both t xs ys h
 looks_both t (act.Cut ∷ xs) ys h = looks_both t xs ys h
+looks_both t (act.Withheld n ∷ xs) ys h = looks_both t xs ys h
+looks_both t (act.Allowed n ∷ xs) ys h = looks_both t xs ys h
 looks_both t (act.Stop ∷ xs) ys h = looks_both t xs ys h
 
 pub looks_of : (t : ℕ) (xs ys : List Note) → LooksAt t (acts_of (xs ++ ys)) → LooksAt t (acts_of xs) × LooksAt t (acts_of ys)
@@ -74,6 +80,8 @@ reads_over pieces (act.KeepLost r ∷ xs) ys none h = reads_over pieces xs ys no
 reads_over pieces (act.Handed n marked body ∷ xs) ys none h = reads_over pieces xs ys none h
 reads_over pieces (act.HandLost n marked body ∷ xs) ys none h = reads_over pieces xs ys none h
 reads_over pieces (act.Cut ∷ xs) ys none h = reads_over pieces xs ys none h
+reads_over pieces (act.Withheld n ∷ xs) ys none h = reads_over pieces xs ys none h
+reads_over pieces (act.Allowed n ∷ xs) ys none h = reads_over pieces xs ys none h
 reads_over pieces (act.Stop ∷ xs) ys none h = reads_over pieces xs ys none h
 
 -- what was written, and handed over, with none lost at that where none is among these
