@@ -10,7 +10,8 @@ use Rattle.fix_engine.specs.declared.state.Ending.TheVariants as ending
 use Rattle.fix_engine.specs.State.{State, Up, Ending}
 use Rattle.fix_engine.specs.Drafted.{Drafting}
 use Rattle.fix_engine.specs.Turn.{live}
-use Rattle.fix_engine.specs.Desk.{Desk, desk, no_draft, is_store_fault, sent_ending, spent, sends, Holding, empty, holds, Offered, asked, was_in_hand}
+use Rattle.fix_engine.specs.Desk.{Desk, desk, no_draft, spent, sends, Holding, empty, holds, Offered, asked, was_in_hand}
+use Rattle.fix_engine.specs.Faults.{is_store_fault, sent_ending}
 
 -- what is in hand was sent, and it stays there where it took no number
 pub sent_in_hand : (id : Identity) (draft : DraftText) (d : Desk) (notes : List Note) (r : Result ℕ SendFault) (s : State) (hand : Hand) (lost : Bool) (e : Result ⊤ Ending) → d.hand.draft ≡ Some draft → d.live.state.last < 999999999 → IfSome d.hand.draft IsDraft → lost ≡ is_store_fault r → hand ≡ (if s.last == d.live.state.last then record { draft = d.hand.draft; tried = lost } else no_draft) → e ≡ sent_ending r → Drafting id draft d.live.state notes r s → Holding id d notes e (desk (live s d.live.ahead) hand)

@@ -19,8 +19,8 @@ use Rattle.fix_engine.specs.Fold.{Each, AndThen, first_ends, both}
 use Rattle.fix_engine.specs.Turn as turn
 use Rattle.fix_engine.specs.Turn.{Live, Taken, Fed, Heard, Clocked, KeptExpected}
 use Rattle.fix_engine.specs.Desk as desk
-use Rattle.fix_engine.specs.Desk.{Desk, sent_ending, Sends, Holding, Offered, beside, Met, Turn, OneTurn, Ran}
-use Rattle.fix_engine.specs.Run.{run_end}
+use Rattle.fix_engine.specs.Desk.{Desk, Sends, Holding, Offered, beside, Met, Turn, OneTurn, Ran}
+use Rattle.fix_engine.specs.Faults.{sent_ending, run_end}
 use Rattle.fix_engine.specs.Turns.{reads_in, ShowsPeerEnd}
 use Rattle.fix_engine.proofs.Turns.{reads_in-append, Answers, Offered-once, Fed-answers, KeptExpected-answers}
 use Rattle.fix_engine.proofs.Shown.{among_before, among_behind, frame_not_over}

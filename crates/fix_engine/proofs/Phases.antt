@@ -13,8 +13,9 @@ use Rattle.fix_engine.specs.Turn.{Live, Taken, no_more, ends as ends_at, goes as
 use Rattle.fix_engine.specs.Drafted as drafted
 use Rattle.fix_engine.specs.Drafted.{Drafting}
 use Rattle.fix_engine.specs.Desk as desk
-use Rattle.fix_engine.specs.Desk.{Desk, sent_ending, Sends, Holding, Offered, beside, Met, Turn, stops, keeps, keeps_not, Ran, all_turns, cut, cut_memory, no_cut}
-use Rattle.fix_engine.specs.Run.{run_end, IsDownUnlessSpent}
+use Rattle.fix_engine.specs.Desk.{Desk, Sends, Holding, Offered, beside, Met, Turn, stops, keeps, keeps_not, Ran, all_turns, cut, cut_memory, no_cut}
+use Rattle.fix_engine.specs.Run.{IsDownUnlessSpent}
+use Rattle.fix_engine.specs.Faults.{sent_ending, run_end}
 use Rattle.fix_engine.proofs.SendLemmas.{drafting_phase}
 
 -- where it goes on, an open connection stays open

@@ -29,12 +29,12 @@ use Rattle.fix_engine.specs.Written.{header_fields}
 use Rattle.fix_engine.specs.Answer as answer
 use Rattle.fix_engine.specs.Answer.{Performed, Handled, IsSaid, IsSayable, kind_of, fields_of, entry_of, answer_to, answer_in, logon_answer, logout_answer, app_answer, not_built, refused, is_in_order, is_app_type, names}
 use Rattle.fix_engine.specs.Turn as turn
-use Rattle.fix_engine.specs.Turn.{Live, live, fed, Taken, Heard, Clocked, KeptExpected, settles_of, is_cut_of}
+use Rattle.fix_engine.specs.Turn.{Live, live, fed, Taken, Heard, Clocked, KeptExpected}
 use Rattle.fix_engine.specs.Drafted as drafted
 use Rattle.fix_engine.specs.Drafted.{IsOfDraft, Drafting, entry_of_draft}
 use Rattle.fix_engine.specs.Desk as turns
-use Rattle.fix_engine.specs.Desk.{Desk, desk, put_down, Sends, Offered, Beside, beside, Met, Turn, OneTurn, Turns, Ran, sent_ending, hand_behind, is_store_fault, no_draft, in_hand}
-use Rattle.fix_engine.specs.Run.{run_end}
+use Rattle.fix_engine.specs.Desk.{Desk, desk, put_down, Sends, Offered, Beside, beside, Met, Turn, OneTurn, Turns, Ran, hand_behind, no_draft, in_hand}
+use Rattle.fix_engine.specs.Faults.{settles_of, is_cut_of, sent_ending, is_store_fault, run_end}
 use Rattle.fix_engine.specs.Stated.{IsFaultless, GoesOn, CanNotFail, IsAsStated}
 use Rattle.fix_engine.proofs.EachTime.{each_time}
 use Rattle.fix_engine.proofs.EachFrame.{Next, frame_next, none_next, each_presents, each_next}

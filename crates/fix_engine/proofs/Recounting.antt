@@ -25,8 +25,8 @@ use Rattle.fix_engine.specs.Turn as turn
 use Rattle.fix_engine.specs.Turn.{Live, live, fed, Taken, Heard, Clocked, KeptExpected}
 use Rattle.fix_engine.specs.Drafted.{Drafting}
 use Rattle.fix_engine.specs.Desk as turns
-use Rattle.fix_engine.specs.Desk.{Desk, Sends, Holding, Offered, beside, Met, Turn, OneTurn, Ran, desk, sent_ending}
-use Rattle.fix_engine.specs.Run.{run_end}
+use Rattle.fix_engine.specs.Desk.{Desk, Sends, Holding, Offered, beside, Met, Turn, OneTurn, Ran, desk}
+use Rattle.fix_engine.specs.Faults.{sent_ending, run_end}
 use Rattle.fix_engine.specs.LookBack.{state_at, AreFramesTo, StandsAt, Calls, reads, idles, is_over, looks, keeps, loses, cuts, fails, asks, Closes, nothing_more, keeps_it, loses_it, cuts_off, Recounts, done, calls, answers, sends, sends_not, ends, IsShown, LooksBack}
 use Rattle.fix_engine.proofs.LookBackLemmas.{bytes_read-append, behind_frame, next_frame, no_frame, more_bytes, state_more, stream_more, clock_stands, draft_stands}
 use Rattle.fix_engine.proofs.Shown.{shown_behind, shown_before, frame_shown}

@@ -19,7 +19,8 @@ use Rattle.fix_engine.specs.declared.stop.StopCause.{StopCause}
 use Rattle.fix_engine.specs.Turn.{Live, live}
 use Rattle.fix_engine.specs.Run.{Seat}
 use Rattle.fix_engine.specs.Drafted as drafted
-use Rattle.fix_engine.specs.Drafted.{KeepsDraft, Drafting, Drafted, SentTo, SendsTo, entry_of_draft, is_link_fault, open_sent, send_stop, SendHasCause}
+use Rattle.fix_engine.specs.Drafted.{KeepsDraft, Drafting, Drafted, SentTo, SendsTo, entry_of_draft, SendHasCause}
+use Rattle.fix_engine.specs.Faults.{is_link_fault, open_sent, send_stop}
 use Rattle.fix_engine.specs.Lawful as lawful
 use Rattle.fix_engine.specs.Lawful.{HasNumbers, IsCertain, Fits, HasLeft, IsLost, Leads}
 use Rattle.fix_engine.specs.InStep as step

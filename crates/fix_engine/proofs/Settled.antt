@@ -6,9 +6,9 @@ use Rattle.fix_base.specs.Seen.{Note}
 use Rattle.fix_engine.specs.State.{Ending}
 use Rattle.fix_engine.specs.declared.state.Ending.TheVariants as ending
 use Rattle.fix_engine.specs.Fold.{Each, none, ends, goes}
-use Rattle.fix_engine.specs.Turn.{Live, KeptExpected, same, kept, expect_lost, expect_memory, settles_of}
+use Rattle.fix_engine.specs.Turn.{Live, KeptExpected, same, kept, expect_lost, expect_memory}
 use Rattle.fix_engine.specs.Desk.{Desk, beside, Turn, stops, keeps, keeps_not, OneTurn, Ran, all_turns, cut, cut_memory, no_cut}
-use Rattle.fix_engine.specs.Run.{run_end}
+use Rattle.fix_engine.specs.Faults.{settles_of, run_end}
 use Rattle.fix_engine.specs.Turns.{IsSettled}
 
 -- where the answer settles, the expected number is kept

@@ -14,7 +14,7 @@ use Rattle.fix_engine.specs.declared.stop.RunEnd.TheVariants as run
 use Rattle.fix_engine.specs.Fold.{Each, ends, goes}
 use Rattle.fix_engine.specs.Inbound.{Inbound, IsInbound}
 use Rattle.fix_engine.specs.Answer.{Performed, close, give_up, hand_lost, hand_memory, spent, keep_memory, keep_lost, write_lost, write_memory, Handled, answer_in, logon_answer, logon_steps, logout_answer, app_answer, not_built, refused, first_answer, up_answer, names, is_in_order, is_app_type, number_or_0}
-use Rattle.fix_engine.specs.Run.{run_end}
+use Rattle.fix_engine.specs.Faults.{run_end}
 use Rattle.fix_engine.specs.LookBack.{state_at, IsLast, IsLogout, IsNoLogon, IsOfNumber, IsShown}
 
 -- what stands in a list stands in a longer one

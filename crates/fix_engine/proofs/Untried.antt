@@ -13,9 +13,9 @@ use Rattle.fix_engine.specs.Fold as fold
 use Rattle.fix_engine.specs.Fold.{Each}
 use Rattle.fix_engine.specs.Turn as turn
 use Rattle.fix_engine.specs.Turn.{Live, KeptExpected}
-use Rattle.fix_engine.specs.Run.{run_end, stop_cause}
 use Rattle.fix_engine.specs.Desk as desk
-use Rattle.fix_engine.specs.Desk.{Desk, no_draft, in_hand, hand_behind, sent_ending, Sends, Holding, Offered, beside, Met, Turn, OneTurn, Ran}
+use Rattle.fix_engine.specs.Desk.{Desk, no_draft, in_hand, hand_behind, Sends, Holding, Offered, beside, Met, Turn, OneTurn, Ran}
+use Rattle.fix_engine.specs.Faults.{run_end, stop_cause, sent_ending}
 
 -- unless this stops the session
 abbrev IsUntried : Result ⊤ Ending → Hand → Type 0

@@ -7,12 +7,11 @@ use Rattle.fix_base.specs.Seen.{Note, Did, Asked}
 use Rattle.fix_fields.specs.Drafted.{DraftText, IsDraft, draft_body}
 use Rattle.fix_engine.specs.declared.hand.Hand.{Hand}
 use Rattle.fix_engine.specs.declared.stop.SendFault.{SendFault}
-use Rattle.fix_engine.specs.declared.stop.SendFault.TheVariants as fault
-use Rattle.fix_engine.specs.declared.stop.StopCause.TheVariants as cause
 use Rattle.fix_engine.specs.State.{State, Up, Ending}
 use Rattle.fix_engine.specs.declared.state.Ending.TheVariants as ending
 use Rattle.fix_engine.specs.Fold.{Each, AndThen}
-use Rattle.fix_engine.specs.Turn.{Live, live, Heard, Clocked, KeptExpected, settles_of, is_cut_of, down}
+use Rattle.fix_engine.specs.Turn.{Live, live, Heard, Clocked, KeptExpected, down}
+use Rattle.fix_engine.specs.Faults.{settles_of, is_cut_of, is_store_fault, sent_ending}
 use Rattle.fix_engine.specs.Drafted.{Drafting}
 
 -- ---- the draft in hand
@@ -22,15 +21,6 @@ no_draft = record { draft = None; tried = false }
 
 abbrev pub in_hand : DraftText → Hand
 in_hand d = record { draft = Some d; tried = false }
-
--- the store failed
-abbrev pub is_store_fault : {T : Type 0} → Result T SendFault → Bool
-is_store_fault (Ok x) = false
-is_store_fault (Err (fault.Stopped why)) = false
-is_store_fault (Err fault.NumbersSpent) = false
-is_store_fault (Err fault.OutOfMemory) = false
-is_store_fault (Err fault.StoreFault) = true
-is_store_fault (Err (fault.LinkFault n)) = false
 
 -- a draft is in hand until its entry is kept, which takes a number. Where the store failed, that was tried
 abbrev pub hand_behind : {T : Type 0} → DraftText → ℕ → ℕ → Result T SendFault → Hand
@@ -50,17 +40,6 @@ pub record Desk : Type 0 where
 
 abbrev pub desk : Live → Hand → Desk
 desk l h = record { live = l; hand = h }
-
--- how a turn goes on behind the sending of a draft
-abbrev pub sent_ending : {T : Type 0} → Result T SendFault → Result ⊤ Ending
-sent_ending (Ok x) = Ok tt
-sent_ending (Err (fault.Stopped cause.StoreFault)) = Err ending.StoreFault
-sent_ending (Err (fault.Stopped cause.AppFault)) = Err ending.AppFault
-sent_ending (Err (fault.Stopped cause.OutOfMemory)) = Err ending.OutOfMemory
-sent_ending (Err fault.NumbersSpent) = Err ending.NumbersSpent
-sent_ending (Err fault.OutOfMemory) = Err ending.OutOfMemory
-sent_ending (Err fault.StoreFault) = Err ending.StoreFault
-sent_ending (Err (fault.LinkFault n)) = Err ending.LinkFault
 
 -- the draft is sent under the next number, if there is one
 pub data Sends (id : Identity) (draft : DraftText) (d : Desk) : List Note → Result ⊤ Ending → Desk → Type 0 where

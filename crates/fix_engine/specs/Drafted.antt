@@ -12,10 +12,9 @@ use Rattle.fix_base.specs.declared.act.Act.TheVariants as act
 use Rattle.fix_base.specs.Seen.{Faults, Note, Did, Failed, StorePart, LinkPart, Rises}
 use Rattle.fix_fields.specs.Drafted.{DraftText, IsDraft, draft_body}
 use Rattle.fix_engine.specs.State.{State, Down, Up, with_phase, with_last, with_reading}
-use Rattle.fix_engine.specs.declared.stop.StopCause.{StopCause}
-use Rattle.fix_engine.specs.declared.stop.StopCause.TheVariants as cause
 use Rattle.fix_engine.specs.declared.stop.SendFault.{SendFault}
 use Rattle.fix_engine.specs.declared.stop.SendFault.TheVariants as fault
+use Rattle.fix_engine.specs.Faults.{is_link_fault}
 use Rattle.fix_engine.specs.Turn.{Live, live, down}
 
 -- the entry that is kept of a draft
@@ -51,14 +50,6 @@ pub data Drafted (id : Identity) (d : DraftText) (s : State) : List Note → Res
   no_reading : Drafted id d s [] (Err fault.OutOfMemory) s
   at_time : {notes : List Note} {r : Result ℕ SendFault} {s' : State} (t : ℕ) → Drafting id d (with_reading s t) notes r s' → Drafted id d s (Did (act.Now t) ∷ notes) r s'
 
--- whether Cut is noted behind this
-abbrev pub is_link_fault : SendFault → Bool
-is_link_fault (fault.LinkFault n) = true
-is_link_fault (fault.Stopped why) = false
-is_link_fault fault.NumbersSpent = false
-is_link_fault fault.OutOfMemory = false
-is_link_fault fault.StoreFault = false
-
 -- the same, and what is noted behind its end: a session that sent is as it was, and one that didn't is Down
 pub data SentTo (id : Identity) (d : DraftText) (s : State) : List Note → Result ℕ SendFault → State → Type 0 where
   went : {notes : List Note} {n : ℕ} {s' : State} → Drafted id d s notes (Ok n) s' → SentTo id d s notes (Ok n) s'
@@ -70,24 +61,6 @@ pub data SentTo (id : Identity) (d : DraftText) (s : State) : List Note → Resu
 pub data SendsTo (id : Identity) (d : DraftText) (l : Live) : Result ℕ SendFault → Live → List Note → Type 0 where
   spent : 999999999 ≤ l.state.last → SendsTo id d l (Err fault.NumbersSpent) l []
   sends : {notes : List Note} {r : Result ℕ SendFault} {s : State} → l.state.last < 999999999 → SentTo id d l.state notes r s → SendsTo id d l r (live s l.ahead) notes
-
--- how many entries a store that is open has behind this
-abbrev pub open_sent : {T : Type 0} → Result T SendFault → State → Option ℕ
-open_sent (Ok x) s = Some s.last
-open_sent (Err (fault.Stopped why)) s = Some s.last
-open_sent (Err fault.NumbersSpent) s = Some s.last
-open_sent (Err fault.OutOfMemory) s = Some s.last
-open_sent (Err fault.StoreFault) s = None
-open_sent (Err (fault.LinkFault n)) s = Some s.last
-
--- why the session is stopped after this answer
-abbrev pub send_stop : {T : Type 0} → Result T SendFault → Option StopCause
-send_stop (Ok x) = None
-send_stop (Err (fault.Stopped why)) = Some why
-send_stop (Err fault.NumbersSpent) = None
-send_stop (Err fault.OutOfMemory) = Some cause.OutOfMemory
-send_stop (Err fault.StoreFault) = Some cause.StoreFault
-send_stop (Err (fault.LinkFault n)) = None
 
 -- a part is blamed only where its count rose
 abbrev pub SendHasCause : {T : Type 0} → Result T SendFault → Faults → Faults → Type 0

@@ -7,7 +7,6 @@ use Rattle.fix_base.specs.Stream.{Ahead}
 use Rattle.fix_base.specs.declared.act.Act.TheVariants as act
 use Rattle.fix_base.specs.Seen.{Faults, Note, Did, Rises}
 use Rattle.fix_engine.specs.State.{State, Phase, Down, AwaitLogon, Ending}
-use Rattle.fix_engine.specs.declared.state.Ending.TheVariants as ending
 use Rattle.fix_engine.specs.declared.stop.RunEnd.{RunEnd}
 use Rattle.fix_engine.specs.declared.stop.RunEnd.TheVariants as run
 use Rattle.fix_engine.specs.declared.stop.StopCause.{StopCause}
@@ -18,6 +17,7 @@ use Rattle.fix_rim.specs.declared.outside.LoadFault.{LoadFault}
 use Rattle.fix_rim.specs.declared.outside.LoadFault.TheVariants as load
 use Rattle.fix_rim.specs.Outside.{loads}
 use Rattle.fix_engine.specs.declared.hand.Hand.{Hand}
+use Rattle.fix_engine.specs.Faults.{run_end, stays_stopped}
 use Rattle.fix_engine.specs.Turn.{Live, live}
 use Rattle.fix_engine.specs.Desk.{Desk, desk, Ran, no_draft, hand_again}
 
@@ -40,34 +40,11 @@ state_of stored = record { phase = Down; expected = stored.expected; kept = stor
 abbrev pub no_bytes : Ahead
 no_bytes = record { may_mark = true; bytes = [] }
 
--- what a run answers
-abbrev pub run_end : Result ⊤ Ending → RunEnd
-run_end (Ok x) = run.TurnsSpent
-run_end (Err (ending.Closed why)) = run.Closed why
-run_end (Err (ending.NotBuilt n)) = run.NotBuilt n
-run_end (Err ending.StoreFault) = run.StoreFault
-run_end (Err ending.LinkFault) = run.LinkFault
-run_end (Err ending.AppFault) = run.AppFault
-run_end (Err ending.NumbersSpent) = run.NumbersSpent
-run_end (Err ending.OutOfMemory) = run.OutOfMemory
-
 -- these notes are a run of at most n turns with this answer, and this is behind it
 pub record RanTo (id : Identity) (n : ℕ) (d : Desk) (answer : RunEnd) (to : Desk) (notes : List Note) : Type 0 where
   pub r : Result ⊤ Ending
   pub answered : answer ≡ run_end r
   pub ran : Ran id n d notes r to
-
--- why the session is stopped after this answer
-abbrev pub stop_cause : RunEnd → Option StopCause
-stop_cause run.TurnsSpent = None
-stop_cause (run.Closed why) = None
-stop_cause (run.NotBuilt n) = None
-stop_cause run.LinkFault = None
-stop_cause run.NumbersSpent = None
-stop_cause run.StoreFault = Some cause.StoreFault
-stop_cause run.AppFault = Some cause.AppFault
-stop_cause run.OutOfMemory = Some cause.OutOfMemory
-stop_cause (run.Stopped c) = Some c
 
 -- a fault of a part is answered only where that part's count rose
 abbrev pub RunHasCause : RunEnd → Faults → Faults → Type 0
@@ -108,17 +85,6 @@ seated_at id stored = record { identity = id; live = live (state_of stored) no_b
 pub data OpensTo (id : Identity) : Result Seat LoadFault → Result Stored LoadFault → List Note → Type 0 where
   from_stored : (stored : Stored) → OpensTo id (Ok (seated_at id stored)) (Ok stored) (Did act.Stop ∷ [])
   no_store : (fault : LoadFault) → OpensTo id (Err fault) (Err fault) (loads {T = Stored} (Err fault))
-
--- why a session is stopped whose store wasn't opened
-abbrev pub load_stop : LoadFault → StopCause
-load_stop load.Failed = cause.StoreFault
-load_stop (load.Damaged place) = cause.StoreFault
-load_stop load.OutOfMemory = cause.OutOfMemory
-
--- a stopped session stays as it is
-abbrev pub stays_stopped : Option StopCause → LoadFault → Option StopCause
-stays_stopped None fault = Some (load_stop fault)
-stays_stopped (Some why) fault = Some why
 
 -- a session that goes on from these numbers, with the draft in hand that isn't stored, and one whose store wasn't opened
 abbrev pub seated_again : Seat → Stored → Seat

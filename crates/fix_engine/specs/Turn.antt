@@ -55,27 +55,5 @@ pub data KeptExpected (l : Live) : List Note → Result ⊤ Ending → Live → 
   expect_lost : l.state.kept ≢ l.state.expected → KeptExpected l (Did (act.KeepLost (Expect l.state.expected)) ∷ Failed StorePart ∷ []) (Err ending.StoreFault) l
   expect_memory : l.state.kept ≢ l.state.expected → KeptExpected l [] (Err ending.OutOfMemory) l
 
--- whether the expected number is kept behind this: also after a close, a message that isn't answered yet, and a
--- fault of the connection or of the application
-abbrev pub settles_of : Result ⊤ Ending → Bool
-settles_of (Ok x) = true
-settles_of (Err (ending.Closed why)) = true
-settles_of (Err (ending.NotBuilt n)) = true
-settles_of (Err ending.LinkFault) = true
-settles_of (Err ending.AppFault) = true
-settles_of (Err ending.StoreFault) = false
-settles_of (Err ending.NumbersSpent) = false
-settles_of (Err ending.OutOfMemory) = false
-
--- whether Cut is noted behind this
-abbrev pub is_cut_of : Ending → Bool
-is_cut_of (ending.Closed why) = true
-is_cut_of (ending.NotBuilt n) = true
-is_cut_of ending.LinkFault = true
-is_cut_of ending.AppFault = true
-is_cut_of ending.NumbersSpent = true
-is_cut_of ending.StoreFault = false
-is_cut_of ending.OutOfMemory = false
-
 abbrev pub down : Live → Live
 down l = live (with_phase l.state Down) l.ahead

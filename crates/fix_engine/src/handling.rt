@@ -1,8 +1,10 @@
+//! Takes the frames out of what was read, in order, and answers each. `turn` calls this after a read.
 ghost use Rattle.std.specs.Prelude.{◌≡◌, Some, ◌≤◌};
 ghost use Rattle.fix_base.specs.Session.{IsValidIdentity};
 ghost use Rattle.fix_base.specs.Shape.{IsFrame};
 ghost use Rattle.fix_base.specs.Seen.{Goes};
-ghost use Rattle.fix_engine.specs.State.{IsInRange, open_behind};
+ghost use Rattle.fix_engine.specs.State.{IsInRange};
+ghost use Rattle.fix_engine.specs.Faults.{open_behind};
 ghost use Rattle.fix_engine.specs.Answer.{Handled};
 ghost use Rattle.fix_engine.specs.Turn.{live, Taken};
 
@@ -12,26 +14,6 @@ use crate::party::Party;
 use crate::performing::carry_out;
 use crate::{Ending, Outside, State};
 use fix_frame::Reader;
-
-// Answers one frame.
-fn handle<O: Outside>(
-    o: &mut O,
-    party: &Party,
-    state: &mut State,
-    frame: &[u8],
-) -> Result<(), Ending>
-    requires valid { IsValidIdentity party.now.identity }
-    requires frame { IsFrame frame.now }
-    requires range { IsInRange state.old }
-    requires opens { (O.seen o.old).open_at ≡ Some state.old.last }
-    ensures range { IsInRange state.new }
-    ensures opens { (O.seen o.new).open_at ≡ open_behind result state.new }
-    ensures notes { Goes (O.seen o.old) (O.seen o.new) (λ notes. Handled party.now.identity state.old frame.now notes result state.new) }
-{
-    let inbound = present(frame);
-    let decision = decide(&party.identity, state, &inbound);
-    carry_out(o, party, &inbound, state, &decision.steps)
-}
 
 /// Answers the frames that stand whole in what was read, in order, until one ends the run.
 pub fn take_frames<O: Outside>(
@@ -51,4 +33,23 @@ pub fn take_frames<O: Outside>(
         handle(o, party, state, frame)?;
     }
     Ok(())
+}
+
+fn handle<O: Outside>(
+    o: &mut O,
+    party: &Party,
+    state: &mut State,
+    frame: &[u8],
+) -> Result<(), Ending>
+    requires valid { IsValidIdentity party.now.identity }
+    requires frame { IsFrame frame.now }
+    requires range { IsInRange state.old }
+    requires opens { (O.seen o.old).open_at ≡ Some state.old.last }
+    ensures range { IsInRange state.new }
+    ensures opens { (O.seen o.new).open_at ≡ open_behind result state.new }
+    ensures notes { Goes (O.seen o.old) (O.seen o.new) (λ notes. Handled party.now.identity state.old frame.now notes result state.new) }
+{
+    let inbound = present(frame);
+    let decision = decide(&party.identity, state, &inbound);
+    carry_out(o, party, &inbound, state, &decision.steps)
 }

@@ -1,3 +1,5 @@
+//! The calls of a session, for who opens and runs it. Each runs a stage (`turn` or `drafting`), and then notes why the
+//! session is stopped, if it is.
 ghost use Rattle.std.specs.Prelude.{◌≡◌, ◌≢◌, ◌⊎◌, ◌≤◌, ◌∷◌, ◌++◌, ℕ, List, [], IfSome, IfNone, is_some, Result, IfOk, OnOk, OnErr, Some, None, Err};
 ghost use Rattle.fix_base.specs.declared.entry.Stored.{Stored};
 ghost use Rattle.fix_base.specs.End.{End};
@@ -10,19 +12,21 @@ ghost use Rattle.fix_engine.specs.State.{IsInRange};
 ghost use Rattle.fix_rim.specs.Outside.{LoadAnswers};
 ghost use Rattle.fix_engine.specs.Lawful.{IsLawful, IsLawfulBegin};
 ghost use Rattle.fix_engine.specs.InStep.{IsInStep, StandsInStep, Trails, IsConnected, HasServed};
-ghost use Rattle.fix_engine.specs.Run.{desk_of, state_of, stays_stopped, LoadHasCause, OpensTo, ReopensTo, run_end, RanTo, stop_cause, RunHasCause, IsDownUnlessSpent, Opens, BeginsTo};
-ghost use Rattle.fix_engine.specs.Drafted.{SendsTo, send_stop, SendHasCause};
+ghost use Rattle.fix_engine.specs.Run.{desk_of, state_of, LoadHasCause, OpensTo, ReopensTo, RanTo, RunHasCause, IsDownUnlessSpent, Opens, BeginsTo};
+ghost use Rattle.fix_engine.specs.Drafted.{SendsTo, SendHasCause};
+ghost use Rattle.fix_engine.specs.Faults.{stop_cause, send_stop};
 ghost use Rattle.fix_engine.specs.LawfulSend.{IsLawfulSend};
 ghost use Rattle.fix_engine.specs.Turns.{HasTurns, IsSettled, ShowsPeerEnd};
 ghost use Rattle.fix_engine.specs.Stated.{IsAsStated};
 ghost use Rattle.fix_engine.specs.LookBack.{StandsAt, LooksBack};
 
 use crate::drafting::send_and_cut;
+use crate::faults::{answer_of, stop_by, stop_of, stop_of_sent};
 use crate::hand::{Hand, look_at, settle_hand};
-use crate::outbound::LAST_NUMBER;
 use crate::party::Party;
-use crate::turn::{ROOM, run_and_cut, take_reading};
-use crate::{BeginFault, Ending, LoadFault, Outside, Phase, RunEnd, SendFault, State, StopCause};
+use crate::state::{LAST_NUMBER, take_reading};
+use crate::turn::{ROOM, run_and_cut};
+use crate::{BeginFault, LoadFault, Outside, Phase, RunEnd, SendFault, State, StopCause};
 use fix_base::{Act, Identity, SeqNum, Stored};
 use fix_fields::Draft;
 use fix_frame::Reader;
@@ -54,98 +58,6 @@ impl Model for Session {
     ghost view = { λ s. record { identity = s.party.identity; live = live s.state s.reader.ahead; hand = s.hand; stopped = s.stopped } };
 
     ghost invariant = { λ s. IsValidIdentity s.party.identity × IsInRange s.state × (length s.room.items ≡ 65536) × (s.stopped ≡ None → s.hand.tried ≡ false) };
-}
-
-// Reads the clock, and notes that a connection is opened.
-fn open_connection<O: Outside>(o: &mut O) -> Result<u64, BeginFault>
-    ensures opens { (O.seen o.new).open_at ≡ (O.seen o.old).open_at }
-    ensures notes { Goes (O.seen o.old) (O.seen o.new) (Opens result) }
-{
-    match o.now() {
-        Ok(reading) => match o.mark(false) {
-            Ok(()) => Ok(reading),
-            Err(_) => Err(BeginFault::OutOfMemory),
-        },
-        Err(_) => Err(BeginFault::OutOfMemory),
-    }
-}
-
-// What a run answers.
-fn answer_of(ran: &Result<(), Ending>) -> RunEnd
-    ensures { result ≡ run_end ran.now }
-{
-    match ran {
-        Ok(()) => RunEnd::TurnsSpent,
-        Err(Ending::Closed(why)) => RunEnd::Closed(*why),
-        Err(Ending::NotBuilt { number }) => RunEnd::NotBuilt { number: *number },
-        Err(Ending::StoreFault) => RunEnd::StoreFault,
-        Err(Ending::LinkFault) => RunEnd::LinkFault,
-        Err(Ending::AppFault) => RunEnd::AppFault,
-        Err(Ending::NumbersSpent) => RunEnd::NumbersSpent,
-        Err(Ending::OutOfMemory) => RunEnd::OutOfMemory,
-    }
-}
-
-// Why the session is stopped after this answer.
-fn stop_of(answer: RunEnd) -> Option<StopCause>
-    ensures { result ≡ stop_cause answer }
-{
-    match answer {
-        RunEnd::TurnsSpent => None,
-        RunEnd::Closed(_) => None,
-        RunEnd::NotBuilt { .. } => None,
-        RunEnd::LinkFault => None,
-        RunEnd::NumbersSpent => None,
-        RunEnd::StoreFault => Some(StopCause::StoreFault),
-        RunEnd::AppFault => Some(StopCause::AppFault),
-        RunEnd::OutOfMemory => Some(StopCause::OutOfMemory),
-        RunEnd::Stopped(cause) => Some(cause),
-    }
-}
-
-// Why the session is stopped after this answer to `send`.
-fn stop_of_sent(sent: &Result<SeqNum, SendFault>) -> Option<StopCause>
-    ensures { result ≡ send_stop sent.now }
-{
-    match sent {
-        Ok(_) => None,
-        Err(SendFault::NumbersSpent) => None,
-        Err(SendFault::LinkFault { .. }) => None,
-        Err(SendFault::Stopped(cause)) => Some(*cause),
-        Err(SendFault::OutOfMemory) => Some(StopCause::OutOfMemory),
-        Err(SendFault::StoreFault) => Some(StopCause::StoreFault),
-    }
-}
-
-// A session that starts from these numbers.
-fn state_from(stored: Stored) -> State
-    requires last { stored.last ≤ 999999999 }
-    requires first { 1 ≤ stored.expected }
-    requires bound { stored.expected ≤ 1000000000 }
-    ensures range { IsInRange result }
-    ensures numbers { result ≡ state_of stored }
-{
-    State {
-        phase: Phase::Down,
-        expected: stored.expected,
-        kept: stored.expected,
-        last: stored.last,
-        reading: 0,
-    }
-}
-
-// Why the session is stopped where its store was not opened.
-fn stop_by(stopped: Option<StopCause>, fault: LoadFault) -> StopCause
-    ensures { Some result ≡ stays_stopped stopped fault }
-{
-    if let Some(cause) = stopped {
-        return cause;
-    }
-    match fault {
-        LoadFault::Failed => StopCause::StoreFault,
-        LoadFault::Damaged(_) => StopCause::StoreFault,
-        LoadFault::OutOfMemory => StopCause::OutOfMemory,
-    }
 }
 
 impl Session {
@@ -408,5 +320,36 @@ impl Session {
         ensures { result ≡ self.now.stopped }
     {
         self.stopped
+    }
+}
+
+// Reads the clock, and notes that a connection is opened.
+fn open_connection<O: Outside>(o: &mut O) -> Result<u64, BeginFault>
+    ensures opens { (O.seen o.new).open_at ≡ (O.seen o.old).open_at }
+    ensures notes { Goes (O.seen o.old) (O.seen o.new) (Opens result) }
+{
+    match o.now() {
+        Ok(reading) => match o.mark(false) {
+            Ok(()) => Ok(reading),
+            Err(_) => Err(BeginFault::OutOfMemory),
+        },
+        Err(_) => Err(BeginFault::OutOfMemory),
+    }
+}
+
+// A session that starts from these numbers.
+fn state_from(stored: Stored) -> State
+    requires last { stored.last ≤ 999999999 }
+    requires first { 1 ≤ stored.expected }
+    requires bound { stored.expected ≤ 1000000000 }
+    ensures range { IsInRange result }
+    ensures numbers { result ≡ state_of stored }
+{
+    State {
+        phase: Phase::Down,
+        expected: stored.expected,
+        kept: stored.expected,
+        last: stored.last,
+        reading: 0,
     }
 }

@@ -1,7 +1,7 @@
 use Rattle.std.proofs.Common.{ℕ, arith, length, length-take, length-append, sym, ap, ◌∙◌}
 use Rattle.std.specs.Prelude.{None}
 use Rattle.fix_engine.specs.Turn.{live}
-use Rattle.fix_engine.specs.Run.{stop_cause}
+use Rattle.fix_engine.specs.Faults.{stop_cause}
 use Rattle.fix_engine.proofs.Causes.{RanTo-has_cause}
 use Rattle.fix_engine.proofs.Phases.{Ran-phase}
 use Rattle.fix_engine.proofs.Settled.{Ran-settled}
