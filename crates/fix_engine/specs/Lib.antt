@@ -1,4 +1,5 @@
 pub mod State
+pub mod Ready
 pub mod Faults
 pub mod Fold
 pub mod Inbound

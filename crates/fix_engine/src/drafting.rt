@@ -5,8 +5,8 @@ ghost use Rattle.fix_base.specs.Session.{IsValidIdentity};
 ghost use Rattle.fix_base.specs.Payload.{LAST_TIME};
 ghost use Rattle.fix_base.specs.Seen.{Goes};
 ghost use Rattle.fix_fields.specs.Drafted.{draft_body, IsDraft};
-ghost use Rattle.fix_engine.specs.State.{IsInRange};
 ghost use Rattle.fix_engine.specs.Drafted.{IsOfDraft, KeepsDraft, Drafting, Drafted, SentTo, entry_of_draft};
+ghost use Rattle.fix_engine.specs.Ready.{IsReady};
 ghost use Rattle.fix_engine.specs.Faults.{open_sent};
 
 use crate::faults::is_cut_sent;
@@ -27,12 +27,9 @@ pub fn send_and_cut<O: Outside>(
     state: &mut State,
     draft: &Draft,
 ) -> Result<SeqNum, SendFault>
-    requires valid { IsValidIdentity party.now.identity }
-    requires range { IsInRange state.old }
+    requires ready { IsReady party.now.identity (O.seen o.old) (Some state.old.last) state.old }
     requires small { state.old.last < 999999999 }
-    requires opens { (O.seen o.old).open_at ≡ Some state.old.last }
-    ensures range { IsInRange state.new }
-    ensures opens { (O.seen o.new).open_at ≡ open_sent result state.new }
+    ensures ready { IsReady party.now.identity (O.seen o.new) (open_sent result state.new) state.new }
     ensures notes { Goes (O.seen o.old) (O.seen o.new) (λ notes. SentTo party.now.identity draft.now state.old notes result state.new) }
 {
     let sent = send_at_time(o, party, state, draft);
@@ -58,18 +55,15 @@ pub fn send_draft<O: Outside>(
     state: &mut State,
     draft: &Draft,
 ) -> Result<SeqNum, SendFault>
-    requires valid { IsValidIdentity party.now.identity }
-    requires range { IsInRange state.old }
+    requires ready { IsReady party.now.identity (O.seen o.old) (Some state.old.last) state.old }
     requires small { state.old.last < 999999999 }
-    requires opens { (O.seen o.old).open_at ≡ Some state.old.last }
-    ensures range { IsInRange state.new }
-    ensures opens { (O.seen o.new).open_at ≡ open_sent result state.new }
+    ensures ready { IsReady party.now.identity (O.seen o.new) (open_sent result state.new) state.new }
     ensures notes { Goes (O.seen o.old) (O.seen o.new) (λ notes. Drafting party.now.identity draft.now state.old notes result state.new) }
 {
     match state.phase {
         Phase::Up => write_draft(o, party, state, draft),
-        Phase::AwaitLogon => keep_draft(o, party.alloc, state, draft),
-        Phase::Down => keep_draft(o, party.alloc, state, draft),
+        Phase::AwaitLogon => keep_draft(o, party, state, draft),
+        Phase::Down => keep_draft(o, party, state, draft),
     }
 }
 
@@ -79,12 +73,9 @@ fn send_at_time<O: Outside>(
     state: &mut State,
     draft: &Draft,
 ) -> Result<SeqNum, SendFault>
-    requires valid { IsValidIdentity party.now.identity }
-    requires range { IsInRange state.old }
+    requires ready { IsReady party.now.identity (O.seen o.old) (Some state.old.last) state.old }
     requires small { state.old.last < 999999999 }
-    requires opens { (O.seen o.old).open_at ≡ Some state.old.last }
-    ensures range { IsInRange state.new }
-    ensures opens { (O.seen o.new).open_at ≡ open_sent result state.new }
+    ensures ready { IsReady party.now.identity (O.seen o.new) (open_sent result state.new) state.new }
     ensures notes { Goes (O.seen o.old) (O.seen o.new) (λ notes. Drafted party.now.identity draft.now state.old notes result state.new) }
 {
     match o.now() {
@@ -103,13 +94,10 @@ fn write_draft<O: Outside>(
     state: &mut State,
     draft: &Draft,
 ) -> Result<SeqNum, SendFault>
-    requires valid { IsValidIdentity party.now.identity }
-    requires range { IsInRange state.old }
+    requires ready { IsReady party.now.identity (O.seen o.old) (Some state.old.last) state.old }
     requires small { state.old.last < 999999999 }
     requires up { state.old.phase ≡ Phase.Up }
-    requires opens { (O.seen o.old).open_at ≡ Some state.old.last }
-    ensures range { IsInRange state.new }
-    ensures opens { (O.seen o.new).open_at ≡ open_sent result state.new }
+    ensures ready { IsReady party.now.identity (O.seen o.new) (open_sent result state.new) state.new }
     ensures notes { Goes (O.seen o.old) (O.seen o.new) (λ notes. Drafting party.now.identity draft.now state.old notes result state.new) }
 {
     // Memory is taken first: a refusal leaves nothing kept.
@@ -117,7 +105,7 @@ fn write_draft<O: Outside>(
         Ok(frame) => frame,
         Err(_) => return Err(SendFault::OutOfMemory),
     };
-    match keep_draft(o, party.alloc, state, draft) {
+    match keep_draft(o, party, state, draft) {
         Ok(number) => match o.write(frame.as_slice()) {
             WriteTurn::Done => Ok(number),
             WriteTurn::Failed(_) => Err(SendFault::LinkFault { number }),
@@ -130,18 +118,16 @@ fn write_draft<O: Outside>(
 // Keeps the entry of the draft under the next number.
 fn keep_draft<O: Outside>(
     o: &mut O,
-    alloc: Global,
+    party: &Party,
     state: &mut State,
     draft: &Draft,
 ) -> Result<SeqNum, SendFault>
-    requires range { IsInRange state.old }
+    requires ready { IsReady party.now.identity (O.seen o.old) (Some state.old.last) state.old }
     requires small { state.old.last < 999999999 }
-    requires opens { (O.seen o.old).open_at ≡ Some state.old.last }
-    ensures range { IsInRange state.new }
-    ensures opens { (O.seen o.new).open_at ≡ open_sent result state.new }
+    ensures ready { IsReady party.now.identity (O.seen o.new) (open_sent result state.new) state.new }
     ensures notes { Goes (O.seen o.old) (O.seen o.new) (λ notes. KeepsDraft draft.now state.old notes result state.new) }
 {
-    let kept = match record_of(alloc, state, draft) {
+    let kept = match record_of(party.alloc, state, draft) {
         Ok(kept) => kept,
         Err(_) => return Err(SendFault::OutOfMemory),
     };

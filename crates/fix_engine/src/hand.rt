@@ -1,10 +1,9 @@
 //! The draft that a session has in hand. `turn` calls `offer` first in each turn: it asks the application for a draft,
 //! and sends it. `session` calls `settle_hand` where the message store was opened again.
 ghost use Rattle.std.specs.Prelude.{◌≡◌, ◌==◌, ◌∷◌, [], if◌then◌else◌, Some, None, IfSome, option_map};
-ghost use Rattle.fix_base.specs.Session.{IsValidIdentity};
 ghost use Rattle.fix_base.specs.Seen.{Goes, Moves, Asked};
 ghost use Rattle.fix_fields.specs.Drafted.{draft_body, IsDraft};
-ghost use Rattle.fix_engine.specs.State.{IsInRange};
+ghost use Rattle.fix_engine.specs.Ready.{IsReady};
 ghost use Rattle.fix_engine.specs.Faults.{open_behind};
 ghost use Rattle.fix_engine.specs.Turn.{live};
 ghost use Rattle.fix_engine.specs.Desk.{desk, no_draft, hand_again, Holding, Offered};
@@ -34,11 +33,8 @@ pub fn offer<O: Outside>(
     reader: &Reader,
     hand: &mut Hand,
 ) -> Result<(), Ending>
-    requires valid { IsValidIdentity party.now.identity }
-    requires range { IsInRange state.old }
-    requires opens { (O.seen o.old).open_at ≡ Some state.old.last }
-    ensures range { IsInRange state.new }
-    ensures opens { (O.seen o.new).open_at ≡ open_behind result state.new }
+    requires ready { IsReady party.now.identity (O.seen o.old) (Some state.old.last) state.old }
+    ensures ready { IsReady party.now.identity (O.seen o.new) (open_behind result state.new) state.new }
     ensures notes { Goes (O.seen o.old) (O.seen o.new) (λ notes. Offered party.now.identity (desk (live state.old reader.now.ahead) hand.old) notes result (desk (live state.new reader.now.ahead) hand.new)) }
 {
     match state.phase {
@@ -84,11 +80,8 @@ fn send_in_hand<O: Outside>(
     reader: &Reader,
     hand: &mut Hand,
 ) -> Result<(), Ending>
-    requires valid { IsValidIdentity party.now.identity }
-    requires range { IsInRange state.old }
-    requires opens { (O.seen o.old).open_at ≡ Some state.old.last }
-    ensures range { IsInRange state.new }
-    ensures opens { (O.seen o.new).open_at ≡ open_behind result state.new }
+    requires ready { IsReady party.now.identity (O.seen o.old) (Some state.old.last) state.old }
+    ensures ready { IsReady party.now.identity (O.seen o.new) (open_behind result state.new) state.new }
     ensures notes { Goes (O.seen o.old) (O.seen o.new) (λ notes. Holding party.now.identity (desk (live state.old reader.now.ahead) hand.old) notes result (desk (live state.new reader.now.ahead) hand.new)) }
 {
     look_at(hand);

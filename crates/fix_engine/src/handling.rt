@@ -1,9 +1,8 @@
 //! Takes the frames out of what was read, in order, and answers each. `turn` calls this after a read.
-ghost use Rattle.std.specs.Prelude.{◌≡◌, Some, ◌≤◌};
-ghost use Rattle.fix_base.specs.Session.{IsValidIdentity};
+ghost use Rattle.std.specs.Prelude.{Some};
 ghost use Rattle.fix_base.specs.Shape.{IsFrame};
 ghost use Rattle.fix_base.specs.Seen.{Goes};
-ghost use Rattle.fix_engine.specs.State.{IsInRange};
+ghost use Rattle.fix_engine.specs.Ready.{IsReady};
 ghost use Rattle.fix_engine.specs.Faults.{open_behind};
 ghost use Rattle.fix_engine.specs.Answer.{Handled};
 ghost use Rattle.fix_engine.specs.Turn.{live, Taken};
@@ -22,11 +21,8 @@ pub fn take_frames<O: Outside>(
     state: &mut State,
     reader: &mut Reader,
 ) -> Result<(), Ending>
-    requires valid { IsValidIdentity party.now.identity }
-    requires range { IsInRange state.old }
-    requires opens { (O.seen o.old).open_at ≡ Some state.old.last }
-    ensures range { IsInRange state.new }
-    ensures opens { (O.seen o.new).open_at ≡ open_behind result state.new }
+    requires ready { IsReady party.now.identity (O.seen o.old) (Some state.old.last) state.old }
+    ensures ready { IsReady party.now.identity (O.seen o.new) (open_behind result state.new) state.new }
     ensures notes { Goes (O.seen o.old) (O.seen o.new) (λ notes. Taken party.now.identity (live state.old reader.old.ahead) notes result (live state.new reader.new.ahead)) }
 {
     while let Some(frame) = reader.next() {
@@ -41,12 +37,9 @@ fn handle<O: Outside>(
     state: &mut State,
     frame: &[u8],
 ) -> Result<(), Ending>
-    requires valid { IsValidIdentity party.now.identity }
+    requires ready { IsReady party.now.identity (O.seen o.old) (Some state.old.last) state.old }
     requires frame { IsFrame frame.now }
-    requires range { IsInRange state.old }
-    requires opens { (O.seen o.old).open_at ≡ Some state.old.last }
-    ensures range { IsInRange state.new }
-    ensures opens { (O.seen o.new).open_at ≡ open_behind result state.new }
+    ensures ready { IsReady party.now.identity (O.seen o.new) (open_behind result state.new) state.new }
     ensures notes { Goes (O.seen o.old) (O.seen o.new) (λ notes. Handled party.now.identity state.old frame.now notes result state.new) }
 {
     let inbound = present(frame);

@@ -3,7 +3,7 @@
 ghost use Rattle.std.specs.Prelude.{◌≡◌, ◌≤◌, IsTrue, Some, option_map};
 ghost use Rattle.std.specs.Option.{SomeIff};
 ghost use Rattle.fix_base.specs.Payload.{LAST_TIME};
-ghost use Rattle.fix_engine.specs.Answer.{names, is_numbered, is_near, is_of_session, is_addressed, is_in_order, is_app_type, number_or_0, not_built, refused, logon_steps, logout_answer, app_answer, first_answer, up_answer, answer_to};
+ghost use Rattle.fix_engine.specs.Answer.{names, is_numbered, is_near, is_addressed, is_in_order, is_app_type, number_or_0, not_built, refused, logon_steps, logout_answer, app_answer, first_answer, up_answer, answer_to};
 ghost use Rattle.fix_fields.specs.Header.{header_of};
 ghost use Rattle.fix_engine.specs.Presented.{inbound_of};
 

@@ -5,6 +5,7 @@ ghost use Rattle.fix_base.specs.Session.{IsValidIdentity};
 ghost use Rattle.fix_base.specs.Payload.{LAST_TIME};
 ghost use Rattle.fix_base.specs.Seen.{Goes};
 ghost use Rattle.fix_engine.specs.State.{IsInRange, counted};
+ghost use Rattle.fix_engine.specs.Ready.{IsReady};
 ghost use Rattle.fix_engine.specs.Faults.{open_behind};
 ghost use Rattle.fix_engine.specs.Answer.{IsSaid, Performed, kind_of, entry_of};
 ghost use Rattle.fix_engine.specs.declared.state.Step.TheVariants as step;
@@ -26,11 +27,8 @@ pub fn send<O: Outside>(
     say: Say,
     counts: Option<SeqNum>,
 ) -> Result<(), Ending>
-    requires valid { IsValidIdentity party.now.identity }
-    requires range { IsInRange state.old }
-    requires opens { (O.seen o.old).open_at ≡ Some state.old.last }
-    ensures range { IsInRange state.new }
-    ensures opens { (O.seen o.new).open_at ≡ open_behind result state.new }
+    requires ready { IsReady party.now.identity (O.seen o.old) (Some state.old.last) state.old }
+    ensures ready { IsReady party.now.identity (O.seen o.new) (open_behind result state.new) state.new }
     ensures notes { (frame : List ℕ) → Goes (O.seen o.old) (O.seen o.new) (λ notes. Performed party.now.identity frame state.old (step.Send say counts) notes result state.new) }
 {
     if state.last >= LAST_NUMBER {

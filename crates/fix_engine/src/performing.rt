@@ -1,9 +1,8 @@
 //! Does the steps of an answer in order. `handling` calls this with what `machine` decided.
-ghost use Rattle.std.specs.Prelude.{◌≡◌, ◌≢◌, Some, Err, ◌≤◌, ◌+◌, IfOk, List};
-ghost use Rattle.fix_base.specs.Session.{IsValidIdentity};
+ghost use Rattle.std.specs.Prelude.{◌≡◌, ◌≢◌, Some, Err};
 ghost use Rattle.fix_base.specs.Shape.{IsFrame};
 ghost use Rattle.fix_base.specs.Seen.{Goes};
-ghost use Rattle.fix_engine.specs.State.{IsInRange};
+ghost use Rattle.fix_engine.specs.Ready.{IsReady};
 ghost use Rattle.fix_engine.specs.Faults.{open_behind};
 ghost use Rattle.fix_engine.specs.Inbound.{IsInbound};
 ghost use Rattle.fix_engine.specs.Presented.{inbound_of};
@@ -26,13 +25,10 @@ pub fn carry_out<O: Outside>(
     state: &mut State,
     steps: &[Step],
 ) -> Result<(), Ending>
-    requires valid { IsValidIdentity party.now.identity }
+    requires ready { IsReady party.now.identity (O.seen o.old) (Some state.old.last) state.old }
     requires frame { IsFrame inbound.now.frame.now }
     requires presents { IsInbound inbound.now.frame.now (inbound_of inbound.now) }
-    requires range { IsInRange state.old }
-    requires opens { (O.seen o.old).open_at ≡ Some state.old.last }
-    ensures range { IsInRange state.new }
-    ensures opens { (O.seen o.new).open_at ≡ open_behind result state.new }
+    ensures ready { IsReady party.now.identity (O.seen o.new) (open_behind result state.new) state.new }
     ensures notes { Goes (O.seen o.old) (O.seen o.new) (λ notes. Carried party.now.identity inbound.entry.now.frame.now state.old steps.now notes result state.new) }
 {
     for step in steps {
@@ -49,13 +45,10 @@ fn perform<O: Outside>(
     state: &mut State,
     step: Step,
 ) -> Result<(), Ending>
-    requires valid { IsValidIdentity party.now.identity }
+    requires ready { IsReady party.now.identity (O.seen o.old) (Some state.old.last) state.old }
     requires frame { IsFrame inbound.now.frame.now }
     requires presents { IsInbound inbound.now.frame.now (inbound_of inbound.now) }
-    requires range { IsInRange state.old }
-    requires opens { (O.seen o.old).open_at ≡ Some state.old.last }
-    ensures range { IsInRange state.new }
-    ensures opens { (O.seen o.new).open_at ≡ open_behind result state.new }
+    ensures ready { IsReady party.now.identity (O.seen o.new) (open_behind result state.new) state.new }
     ensures notes { Goes (O.seen o.old) (O.seen o.new) (λ notes. Performed party.now.identity inbound.entry.now.frame.now state.old step notes result state.new) }
 {
     match step {

@@ -1,9 +1,9 @@
 //! The turns of a run, and what is noted after their end: a draft is sent, one read is answered, the clock is read once,
 //! and the expected number is kept. `session` calls `run_and_cut` for `Session::run_turns`.
-ghost use Rattle.std.specs.Prelude.{◌≡◌, Some, ◌≤◌, length};
-ghost use Rattle.fix_base.specs.Session.{IsValidIdentity};
+ghost use Rattle.std.specs.Prelude.{◌≡◌, Some, length};
 ghost use Rattle.fix_base.specs.Seen.{Goes};
 ghost use Rattle.fix_engine.specs.State.{IsInRange};
+ghost use Rattle.fix_engine.specs.Ready.{IsReady};
 ghost use Rattle.fix_engine.specs.Faults.{open_behind};
 ghost use Rattle.fix_engine.specs.Fold.{AndThen};
 ghost use Rattle.fix_engine.specs.Turn.{live, Fed, Heard, Clocked, KeptExpected};
@@ -32,12 +32,9 @@ pub fn run_and_cut<O: Outside>(
     hand: &mut Hand,
     turns: u64,
 ) -> Result<(), Ending>
-    requires valid { IsValidIdentity party.now.identity }
-    requires range { IsInRange state.old }
+    requires ready { IsReady party.now.identity (O.seen o.old) (Some state.old.last) state.old }
     requires room { length room.old ≡ 65536 }
-    requires opens { (O.seen o.old).open_at ≡ Some state.old.last }
-    ensures range { IsInRange state.new }
-    ensures opens { (O.seen o.new).open_at ≡ open_behind result state.new }
+    ensures ready { IsReady party.now.identity (O.seen o.new) (open_behind result state.new) state.new }
     ensures notes { Goes (O.seen o.old) (O.seen o.new) (λ notes. Ran party.now.identity turns (desk (live state.old reader.old.ahead) hand.old) notes result (desk (live state.new reader.new.ahead) hand.new)) }
 {
     let ran = run(o, party, state, reader, room, hand, turns);
@@ -65,12 +62,9 @@ fn run<O: Outside>(
     hand: &mut Hand,
     turns: u64,
 ) -> Result<(), Ending>
-    requires valid { IsValidIdentity party.now.identity }
-    requires range { IsInRange state.old }
+    requires ready { IsReady party.now.identity (O.seen o.old) (Some state.old.last) state.old }
     requires room { length room.old ≡ 65536 }
-    requires opens { (O.seen o.old).open_at ≡ Some state.old.last }
-    ensures range { IsInRange state.new }
-    ensures opens { (O.seen o.new).open_at ≡ open_behind result state.new }
+    ensures ready { IsReady party.now.identity (O.seen o.new) (open_behind result state.new) state.new }
     ensures notes { Goes (O.seen o.old) (O.seen o.new) (λ notes. Turns party.now.identity turns (desk (live state.old reader.old.ahead) hand.old) notes result (desk (live state.new reader.new.ahead) hand.new)) }
 {
     for done in 0..turns {
@@ -87,12 +81,9 @@ fn turn<O: Outside>(
     room: &mut [u8],
     hand: &mut Hand,
 ) -> Result<(), Ending>
-    requires valid { IsValidIdentity party.now.identity }
-    requires range { IsInRange state.old }
+    requires ready { IsReady party.now.identity (O.seen o.old) (Some state.old.last) state.old }
     requires room { length room.old ≡ 65536 }
-    requires opens { (O.seen o.old).open_at ≡ Some state.old.last }
-    ensures range { IsInRange state.new }
-    ensures opens { (O.seen o.new).open_at ≡ open_behind result state.new }
+    ensures ready { IsReady party.now.identity (O.seen o.new) (open_behind result state.new) state.new }
     ensures notes { Goes (O.seen o.old) (O.seen o.new) (λ notes. Turn party.now.identity (desk (live state.old reader.old.ahead) hand.old) notes result (desk (live state.new reader.new.ahead) hand.new)) }
 {
     let met = meet(o, party, state, reader, room, hand);
@@ -111,12 +102,9 @@ fn meet<O: Outside>(
     room: &mut [u8],
     hand: &mut Hand,
 ) -> Result<(), Ending>
-    requires valid { IsValidIdentity party.now.identity }
-    requires range { IsInRange state.old }
+    requires ready { IsReady party.now.identity (O.seen o.old) (Some state.old.last) state.old }
     requires room { length room.old ≡ 65536 }
-    requires opens { (O.seen o.old).open_at ≡ Some state.old.last }
-    ensures range { IsInRange state.new }
-    ensures opens { (O.seen o.new).open_at ≡ open_behind result state.new }
+    ensures ready { IsReady party.now.identity (O.seen o.new) (open_behind result state.new) state.new }
     ensures notes { Goes (O.seen o.old) (O.seen o.new) (λ notes. Met party.now.identity (desk (live state.old reader.old.ahead) hand.old) notes result (desk (live state.new reader.new.ahead) hand.new)) }
 {
     offer(o, party, state, reader, hand)?;
@@ -130,12 +118,9 @@ fn hear_and_look<O: Outside>(
     reader: &mut Reader,
     room: &mut [u8],
 ) -> Result<(), Ending>
-    requires valid { IsValidIdentity party.now.identity }
-    requires range { IsInRange state.old }
+    requires ready { IsReady party.now.identity (O.seen o.old) (Some state.old.last) state.old }
     requires room { length room.old ≡ 65536 }
-    requires opens { (O.seen o.old).open_at ≡ Some state.old.last }
-    ensures range { IsInRange state.new }
-    ensures opens { (O.seen o.new).open_at ≡ open_behind result state.new }
+    ensures ready { IsReady party.now.identity (O.seen o.new) (open_behind result state.new) state.new }
     ensures notes { Goes (O.seen o.old) (O.seen o.new) (λ notes. AndThen (Heard party.now.identity) Clocked (live state.old reader.old.ahead) notes result (live state.new reader.new.ahead)) }
 {
     hear(o, party, state, reader, room)?;
@@ -150,12 +135,9 @@ fn hear<O: Outside>(
     reader: &mut Reader,
     room: &mut [u8],
 ) -> Result<(), Ending>
-    requires valid { IsValidIdentity party.now.identity }
-    requires range { IsInRange state.old }
+    requires ready { IsReady party.now.identity (O.seen o.old) (Some state.old.last) state.old }
     requires room { length room.old ≡ 65536 }
-    requires opens { (O.seen o.old).open_at ≡ Some state.old.last }
-    ensures range { IsInRange state.new }
-    ensures opens { (O.seen o.new).open_at ≡ open_behind result state.new }
+    ensures ready { IsReady party.now.identity (O.seen o.new) (open_behind result state.new) state.new }
     ensures notes { Goes (O.seen o.old) (O.seen o.new) (λ notes. Heard party.now.identity (live state.old reader.old.ahead) notes result (live state.new reader.new.ahead)) }
 {
     match o.read(room) {
@@ -178,11 +160,8 @@ fn take_bytes<O: Outside>(
     reader: &mut Reader,
     bytes: &[u8],
 ) -> Result<(), Ending>
-    requires valid { IsValidIdentity party.now.identity }
-    requires range { IsInRange state.old }
-    requires opens { (O.seen o.old).open_at ≡ Some state.old.last }
-    ensures range { IsInRange state.new }
-    ensures opens { (O.seen o.new).open_at ≡ open_behind result state.new }
+    requires ready { IsReady party.now.identity (O.seen o.old) (Some state.old.last) state.old }
+    ensures ready { IsReady party.now.identity (O.seen o.new) (open_behind result state.new) state.new }
     ensures notes { Goes (O.seen o.old) (O.seen o.new) (λ notes. Fed party.now.identity bytes.now (live state.old reader.old.ahead) notes result (live state.new reader.new.ahead)) }
 {
     match reader.feed(bytes) {

@@ -7,7 +7,7 @@ pub returns-in-Err-clause-notes : goal.returns-in-Err-clause-notes
 returns-in-Err-clause-notes g c = (_, Moves-nil _, unkept)
 
 pub keep-requires-clause-payload : goal.keep-requires-clause-payload
-keep-requires-clause-payload g c = rw c.in-Ok.ensures.made (draft_payload _ _ c.in-Ok.ensures.is c.requires.range.reading)
+keep-requires-clause-payload g c = rw c.in-Ok.ensures.made (draft_payload _ _ c.in-Ok.ensures.is c.requires.ready.range.reading)
 
 pub returns-in-Ok-keep-clause-notes : goal.returns-in-Ok-keep-clause-notes
 returns-in-Ok-keep-clause-notes g c = rw c.next_number-number.ensures (_, rw c.in-Ok.ensures.made at c.in-Ok-keep.ensures.noted, was_kept c.in-Ok.ensures.is)

@@ -4,7 +4,7 @@ use Rattle.fix_engine.proofs.TakenLemmas.{frame_shortens, start, one_more, ended
 use Rattle.fix_engine.proofs.handling.take_frames.Goals as goal
 
 pub loop-frame-init : goal.loop-frame-init
-loop-frame-init g c = record { range = c.requires.range; opens = c.requires.opens; done = start _ _ _ }
+loop-frame-init g c = record { ready = c.requires.ready; done = start _ _ _ }
 
 pub handle-requires-clause-frame : goal.handle-requires-clause-frame
 handle-requires-clause-frame g c =
@@ -19,7 +19,7 @@ loop-frame-smaller g c =
 pub loop-frame-preserved : goal.loop-frame-preserved
 loop-frame-preserved g c =
     let given : NextFrame c.loop-frame.reader c.next.follows.lender-at-none c.in-Some.frame.now = rw c.in-Some.is at c.next.follows.holds-at-none in
-    record { range = c.handle.ensures.range; opens = c.in_ok-handle.ensures.opens; done = one_more _ _ _ _ _ _ _ _ _ _ c.loop-frame.invariant.done given.gives c.in_ok-handle.ensures.notes }
+    record { ready = c.in_ok-handle.ensures.ready; done = one_more _ _ _ _ _ _ _ _ _ _ c.loop-frame.invariant.done given.gives c.in_ok-handle.ensures.notes }
 
 pub returns-in_err-handle-clause-notes : goal.returns-in_err-handle-clause-notes
 returns-in_err-handle-clause-notes g c =

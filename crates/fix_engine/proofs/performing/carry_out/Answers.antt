@@ -8,12 +8,11 @@ returns-in_err-perform-clause-notes g c =
     rw (p.1, p.2) (stopped_at _ _ _ _ _ _ _ _ _ c.step-item.result _ c.loop-step-test.true c.loop-step.invariant.done (rw (← c.step-item.is) c.in_err-perform.ensures.notes))
 
 pub loop-step-init : goal.loop-step-init
-loop-step-init g c = record { range = c.requires.range; opens = c.requires.opens; done = started _ _ _ _ }
+loop-step-init g c = record { ready = c.requires.ready; done = started _ _ _ _ }
 
 pub loop-step-preserved : goal.loop-step-preserved
 loop-step-preserved g c = record {
-  range = c.perform.ensures.range;
-  opens = c.in_ok-perform.ensures.opens;
+  ready = c.in_ok-perform.ensures.ready;
   done = goes_on_at _ _ _ _ _ _ _ _ _ c.step-item.result c.loop-step-test.true c.loop-step.invariant.done (rw (← c.step-item.is) c.in_ok-perform.ensures.notes);
 }
 

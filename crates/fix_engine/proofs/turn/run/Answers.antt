@@ -10,12 +10,11 @@ returns-in_err-turn-clause-notes g c =
     rw (p.1, p.2) (count_stopped (OneTurn c.args.party.now.identity) _ _ _ _ _ _ _ _ _ c.loop-done-test.true c.loop-done.invariant.done c.in_err-turn.ensures.notes)
 
 pub loop-done-init : goal.loop-done-init
-loop-done-init g c = record { range = c.requires.range; opens = c.requires.opens; room = c.requires.room; done = count_started (OneTurn c.args.party.now.identity) _ _ _ }
+loop-done-init g c = record { ready = c.requires.ready; room = c.requires.room; done = count_started (OneTurn c.args.party.now.identity) _ _ _ }
 
 pub loop-done-preserved : goal.loop-done-preserved
 loop-done-preserved g c = record {
-  range = c.turn.ensures.range;
-  opens = c.in_ok-turn.ensures.opens;
+  ready = c.in_ok-turn.ensures.ready;
   room = search rules;
   done = counts_on (OneTurn c.args.party.now.identity) _ _ _ _ _ _ _ _ c.loop-done-test.true c.loop-done.invariant.done c.in_ok-turn.ensures.notes;
 }
