@@ -34,7 +34,13 @@ desk_of seat = desk seat.live seat.hand
 
 -- a session that starts from these numbers
 abbrev pub state_of : Stored → State
-state_of stored = record { phase = Down; expected = stored.expected; kept = stored.expected; last = stored.last; reading = 0 }
+state_of stored = record {
+  phase = Down;
+  expected = stored.expected;
+  kept = stored.expected;
+  last = stored.last;
+  reading = 0;
+}
 
 -- the first place of a stream
 abbrev pub no_bytes : Ahead
@@ -86,17 +92,30 @@ pub data OpensTo (id : Identity) : Result Seat LoadFault → Result Stored LoadF
   from_stored : (stored : Stored) → OpensTo id (Ok (seated_at id stored)) (Ok stored) (Did act.Stop ∷ [])
   no_store : (fault : LoadFault) → OpensTo id (Err fault) (Err fault) (loads {T = Stored} (Err fault))
 
--- a session that goes on from these numbers, with the draft in hand that isn't stored, and one whose store wasn't opened
+-- a session that goes on from these numbers, with the draft in hand that isn't stored; and one whose store was not
+-- opened
 abbrev pub seated_again : Seat → Stored → Seat
-seated_again old stored = record { identity = old.identity; live = live (state_of stored) old.live.ahead; hand = hand_again old.hand old.live.state.last stored.last; stopped = None }
+seated_again old stored = record {
+  identity = old.identity;
+  live = live (state_of stored) old.live.ahead;
+  hand = hand_again old.hand old.live.state.last stored.last;
+  stopped = None;
+}
 
 abbrev pub seated_refused : Seat → LoadFault → Seat
-seated_refused old fault = record { identity = old.identity; live = old.live; hand = old.hand; stopped = stays_stopped old.stopped fault }
+seated_refused old fault = record {
+  identity = old.identity;
+  live = old.live;
+  hand = old.hand;
+  stopped = stays_stopped old.stopped fault;
+}
 
 -- what comes of opening the store of a session again
-pub data ReopensTo {T : Type 0} (old : Seat) : Result T LoadFault → Result Stored LoadFault → Seat → List Note → Type 0 where
+pub data ReopensTo {T : Type 0} (old : Seat) : Result T LoadFault → Result Stored LoadFault → Seat → List Note →
+    Type 0 where
   again : {x : T} (stored : Stored) → ReopensTo old (Ok x) (Ok stored) (seated_again old stored) (Did act.Stop ∷ [])
-  refused_again : (fault : LoadFault) → ReopensTo old (Err fault) (Err fault) (seated_refused old fault) (loads {T = Stored} (Err fault))
+  refused_again : (fault : LoadFault) → ReopensTo old (Err fault) (Err fault) (seated_refused old fault)
+      (loads {T = Stored} (Err fault))
 
 -- what comes of opening a connection, with the reading
 pub data Opens : Result ℕ BeginFault → List Note → Type 0 where
@@ -106,15 +125,29 @@ pub data Opens : Result ℕ BeginFault → List Note → Type 0 where
 
 -- a session on a new connection, from this reading on
 abbrev pub begun : Live → ℕ → Live
-begun l t = live (record { phase = AwaitLogon; expected = l.state.expected; kept = l.state.kept; last = l.state.last; reading = min t LAST_TIME }) no_bytes
+begun l t =
+    live (record {
+      phase = AwaitLogon;
+      expected = l.state.expected;
+      kept = l.state.kept;
+      last = l.state.last;
+      reading = min t LAST_TIME;
+    }) no_bytes
 
 -- what a session is that memory was refused to
 abbrev pub stopped_for_memory : Seat → Seat
-stopped_for_memory old = record { identity = old.identity; live = old.live; hand = old.hand; stopped = Some cause.OutOfMemory }
+stopped_for_memory old = record {
+  identity = old.identity;
+  live = old.live;
+  hand = old.hand;
+  stopped = Some cause.OutOfMemory;
+}
 
 -- what comes of `begin` on a session that goes on: on Ok it waits for a Logon on the new connection, and where memory
 -- was refused it is stopped
 pub data BeginsTo {T : Type 0} (old : Seat) : Result T BeginFault → Seat → List Note → Type 0 where
-  opened_to : {x : T} (t : ℕ) → BeginsTo old (Ok x) (record { identity = old.identity; live = begun old.live t; hand = old.hand; stopped = None }) (Did (act.Now t) ∷ Did act.Opened ∷ [])
+  opened_to : {x : T} (t : ℕ) → BeginsTo old (Ok x)
+      (record { identity = old.identity; live = begun old.live t; hand = old.hand; stopped = None })
+      (Did (act.Now t) ∷ Did act.Opened ∷ [])
   no_memory : BeginsTo old (Err begins.OutOfMemory) (stopped_for_memory old) []
   no_memory_to_open : (t : ℕ) → BeginsTo old (Err begins.OutOfMemory) (stopped_for_memory old) (Did (act.Now t) ∷ [])

@@ -41,7 +41,13 @@ with_kept s = record { phase = s.phase; expected = s.expected; kept = s.expected
 
 -- a reading beyond the end of 2099 counts as that
 abbrev pub with_reading : State → ℕ → State
-with_reading s t = record { phase = s.phase; expected = s.expected; kept = s.kept; last = s.last; reading = min t LAST_TIME }
+with_reading s t = record {
+  phase = s.phase;
+  expected = s.expected;
+  kept = s.kept;
+  last = s.last;
+  reading = min t LAST_TIME;
+}
 
 -- the inbound message is counted, where there is one
 abbrev pub counted : State → Option ℕ → State

@@ -30,7 +30,8 @@ pub fn send_and_cut<O: Outside>(
     requires ready { IsReady party.now.identity (O.seen o.old) (Some state.old.last) state.old }
     requires small { state.old.last < 999999999 }
     ensures ready { IsReady party.now.identity (O.seen o.new) (open_sent result state.new) state.new }
-    ensures notes { Goes (O.seen o.old) (O.seen o.new) (λ notes. SentTo party.now.identity draft.now state.old notes result state.new) }
+    ensures notes { Goes (O.seen o.old) (O.seen o.new)
+        (λ notes. SentTo party.now.identity draft.now state.old notes result state.new) }
 {
     let sent = send_at_time(o, party, state, draft);
     match sent {
@@ -58,7 +59,8 @@ pub fn send_draft<O: Outside>(
     requires ready { IsReady party.now.identity (O.seen o.old) (Some state.old.last) state.old }
     requires small { state.old.last < 999999999 }
     ensures ready { IsReady party.now.identity (O.seen o.new) (open_sent result state.new) state.new }
-    ensures notes { Goes (O.seen o.old) (O.seen o.new) (λ notes. Drafting party.now.identity draft.now state.old notes result state.new) }
+    ensures notes { Goes (O.seen o.old) (O.seen o.new)
+        (λ notes. Drafting party.now.identity draft.now state.old notes result state.new) }
 {
     match state.phase {
         Phase::Up => write_draft(o, party, state, draft),
@@ -76,7 +78,8 @@ fn send_at_time<O: Outside>(
     requires ready { IsReady party.now.identity (O.seen o.old) (Some state.old.last) state.old }
     requires small { state.old.last < 999999999 }
     ensures ready { IsReady party.now.identity (O.seen o.new) (open_sent result state.new) state.new }
-    ensures notes { Goes (O.seen o.old) (O.seen o.new) (λ notes. Drafted party.now.identity draft.now state.old notes result state.new) }
+    ensures notes { Goes (O.seen o.old) (O.seen o.new)
+        (λ notes. Drafted party.now.identity draft.now state.old notes result state.new) }
 {
     match o.now() {
         Ok(reading) => {
@@ -98,7 +101,8 @@ fn write_draft<O: Outside>(
     requires small { state.old.last < 999999999 }
     requires up { state.old.phase ≡ Phase.Up }
     ensures ready { IsReady party.now.identity (O.seen o.new) (open_sent result state.new) state.new }
-    ensures notes { Goes (O.seen o.old) (O.seen o.new) (λ notes. Drafting party.now.identity draft.now state.old notes result state.new) }
+    ensures notes { Goes (O.seen o.old) (O.seen o.new)
+        (λ notes. Drafting party.now.identity draft.now state.old notes result state.new) }
 {
     // Memory is taken first: a refusal leaves nothing kept.
     let frame = match frame_of(party, state.last + 1, state.reading, draft) {
@@ -125,7 +129,8 @@ fn keep_draft<O: Outside>(
     requires ready { IsReady party.now.identity (O.seen o.old) (Some state.old.last) state.old }
     requires small { state.old.last < 999999999 }
     ensures ready { IsReady party.now.identity (O.seen o.new) (open_sent result state.new) state.new }
-    ensures notes { Goes (O.seen o.old) (O.seen o.new) (λ notes. KeepsDraft draft.now state.old notes result state.new) }
+    ensures notes { Goes (O.seen o.old) (O.seen o.new)
+        (λ notes. KeepsDraft draft.now state.old notes result state.new) }
 {
     let kept = match record_of(party.alloc, state, draft) {
         Ok(kept) => kept,

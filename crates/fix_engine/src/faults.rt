@@ -2,7 +2,8 @@
 //! what the call answers, and why the session is stopped. The table of all of them stands in specs/Faults.antt. `turn`,
 //! `hand`, `drafting` and `session` call these, and they call nothing.
 ghost use Rattle.std.specs.Prelude.{◌≡◌, Some};
-ghost use Rattle.fix_engine.specs.Faults.{settles_of, is_cut_of, run_end, stop_cause, is_store_fault, sent_ending, is_link_fault, send_stop, stays_stopped};
+ghost use Rattle.fix_engine.specs.Faults.{settles_of, is_cut_of, run_end, stop_cause, is_store_fault, sent_ending};
+ghost use Rattle.fix_engine.specs.Faults.{is_link_fault, send_stop, stays_stopped};
 
 use crate::{Ending, LoadFault, RunEnd, SendFault, StopCause};
 use fix_base::SeqNum;

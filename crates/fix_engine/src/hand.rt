@@ -35,7 +35,9 @@ pub fn offer<O: Outside>(
 ) -> Result<(), Ending>
     requires ready { IsReady party.now.identity (O.seen o.old) (Some state.old.last) state.old }
     ensures ready { IsReady party.now.identity (O.seen o.new) (open_behind result state.new) state.new }
-    ensures notes { Goes (O.seen o.old) (O.seen o.new) (λ notes. Offered party.now.identity (desk (live state.old reader.now.ahead) hand.old) notes result (desk (live state.new reader.now.ahead) hand.new)) }
+    ensures notes { Goes (O.seen o.old) (O.seen o.new)
+        (λ notes. Offered party.now.identity (desk (live state.old reader.now.ahead) hand.old) notes result
+        (desk (live state.new reader.now.ahead) hand.new)) }
 {
     match state.phase {
         Phase::Up => {
@@ -82,7 +84,9 @@ fn send_in_hand<O: Outside>(
 ) -> Result<(), Ending>
     requires ready { IsReady party.now.identity (O.seen o.old) (Some state.old.last) state.old }
     ensures ready { IsReady party.now.identity (O.seen o.new) (open_behind result state.new) state.new }
-    ensures notes { Goes (O.seen o.old) (O.seen o.new) (λ notes. Holding party.now.identity (desk (live state.old reader.now.ahead) hand.old) notes result (desk (live state.new reader.now.ahead) hand.new)) }
+    ensures notes { Goes (O.seen o.old) (O.seen o.new)
+        (λ notes. Holding party.now.identity (desk (live state.old reader.now.ahead) hand.old) notes result
+        (desk (live state.new reader.now.ahead) hand.new)) }
 {
     look_at(hand);
     let Some(draft) = &hand.draft else {

@@ -23,7 +23,9 @@ pub fn take_frames<O: Outside>(
 ) -> Result<(), Ending>
     requires ready { IsReady party.now.identity (O.seen o.old) (Some state.old.last) state.old }
     ensures ready { IsReady party.now.identity (O.seen o.new) (open_behind result state.new) state.new }
-    ensures notes { Goes (O.seen o.old) (O.seen o.new) (λ notes. Taken party.now.identity (live state.old reader.old.ahead) notes result (live state.new reader.new.ahead)) }
+    ensures notes { Goes (O.seen o.old) (O.seen o.new)
+        (λ notes. Taken party.now.identity (live state.old reader.old.ahead) notes result
+        (live state.new reader.new.ahead)) }
 {
     while let Some(frame) = reader.next() {
         handle(o, party, state, frame)?;
@@ -40,7 +42,8 @@ fn handle<O: Outside>(
     requires ready { IsReady party.now.identity (O.seen o.old) (Some state.old.last) state.old }
     requires frame { IsFrame frame.now }
     ensures ready { IsReady party.now.identity (O.seen o.new) (open_behind result state.new) state.new }
-    ensures notes { Goes (O.seen o.old) (O.seen o.new) (λ notes. Handled party.now.identity state.old frame.now notes result state.new) }
+    ensures notes { Goes (O.seen o.old) (O.seen o.new)
+        (λ notes. Handled party.now.identity state.old frame.now notes result state.new) }
 {
     let inbound = present(frame);
     let decision = decide(&party.identity, state, &inbound);

@@ -71,7 +71,8 @@ fn heart_of(frame: &[u8], kind: &[u8]) -> Option<u32>
 fn is_plain_logon(frame: &[u8], kind: &[u8]) -> bool
     requires frame { IsFrame frame.now }
     requires kind { (fields : List Field) → HasFields frame.now fields → value_of 35 fields ≡ Some kind.now }
-    ensures { (fields : List Field) → HasFields frame.now fields → MatchBool result (IsPlainLogon fields) (IsPlainLogon fields → ⊥) }
+    ensures { (fields : List Field) → HasFields frame.now fields →
+        MatchBool result (IsPlainLogon fields) (IsPlainLogon fields → ⊥) }
 {
     if kind != b"A".as_slice() {
         return false;

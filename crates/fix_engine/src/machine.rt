@@ -3,7 +3,9 @@
 ghost use Rattle.std.specs.Prelude.{◌≡◌, ◌≤◌, IsTrue, Some, option_map};
 ghost use Rattle.std.specs.Option.{SomeIff};
 ghost use Rattle.fix_base.specs.Payload.{LAST_TIME};
-ghost use Rattle.fix_engine.specs.Answer.{names, is_numbered, is_near, is_addressed, is_in_order, is_app_type, number_or_0, not_built, refused, logon_steps, logout_answer, app_answer, first_answer, up_answer, answer_to};
+ghost use Rattle.fix_engine.specs.Answer.{names, is_numbered, is_near, is_addressed, is_in_order, is_app_type};
+ghost use Rattle.fix_engine.specs.Answer.{number_or_0, not_built, refused, logon_steps, logout_answer, app_answer};
+ghost use Rattle.fix_engine.specs.Answer.{first_answer, up_answer, answer_to};
 ghost use Rattle.fix_fields.specs.Header.{header_of};
 ghost use Rattle.fix_engine.specs.Presented.{inbound_of};
 
@@ -163,7 +165,8 @@ fn readable(number: Option<SeqNum>) -> u32
 // The number of the message, where it is in order.
 fn in_order(identity: &Identity, state: &State, inbound: &Presented<'_>) -> Option<SeqNum>
     requires { state.now.reading ≤ LAST_TIME }
-    ensures { SomeIff result (IsTrue (is_in_order identity.now state.now (inbound_of inbound.entry.now))) state.now.expected }
+    ensures { SomeIff result (IsTrue (is_in_order identity.now state.now (inbound_of inbound.entry.now)))
+        state.now.expected }
 {
     let number = inbound.head.number?;
     if fits(identity, state, inbound) {

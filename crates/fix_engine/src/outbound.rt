@@ -1,5 +1,5 @@
-//! Sends an administrative message: keeps its entry under the next number, and then writes its frame. `performing` calls
-//! this for the step `Send`.
+//! Sends an administrative message: keeps its entry under the next number, and then writes its frame. `performing`
+//! calls this for the step `Send`.
 ghost use Rattle.std.specs.Prelude.{◌≡◌, Some, ◌≤◌, ℕ, List, IfOk};
 ghost use Rattle.fix_base.specs.Session.{IsValidIdentity};
 ghost use Rattle.fix_base.specs.Payload.{LAST_TIME};
@@ -29,7 +29,8 @@ pub fn send<O: Outside>(
 ) -> Result<(), Ending>
     requires ready { IsReady party.now.identity (O.seen o.old) (Some state.old.last) state.old }
     ensures ready { IsReady party.now.identity (O.seen o.new) (open_behind result state.new) state.new }
-    ensures notes { (frame : List ℕ) → Goes (O.seen o.old) (O.seen o.new) (λ notes. Performed party.now.identity frame state.old (step.Send say counts) notes result state.new) }
+    ensures notes { (frame : List ℕ) → Goes (O.seen o.old) (O.seen o.new)
+        (λ notes. Performed party.now.identity frame state.old (step.Send say counts) notes result state.new) }
 {
     if state.last >= LAST_NUMBER {
         return Err(Ending::NumbersSpent);

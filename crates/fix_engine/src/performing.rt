@@ -29,7 +29,8 @@ pub fn carry_out<O: Outside>(
     requires frame { IsFrame inbound.now.frame.now }
     requires presents { IsInbound inbound.now.frame.now (inbound_of inbound.now) }
     ensures ready { IsReady party.now.identity (O.seen o.new) (open_behind result state.new) state.new }
-    ensures notes { Goes (O.seen o.old) (O.seen o.new) (λ notes. Carried party.now.identity inbound.entry.now.frame.now state.old steps.now notes result state.new) }
+    ensures notes { Goes (O.seen o.old) (O.seen o.new)
+        (λ notes. Carried party.now.identity inbound.entry.now.frame.now state.old steps.now notes result state.new) }
 {
     for step in steps {
         perform(o, party, inbound, state, *step)?;
@@ -49,7 +50,8 @@ fn perform<O: Outside>(
     requires frame { IsFrame inbound.now.frame.now }
     requires presents { IsInbound inbound.now.frame.now (inbound_of inbound.now) }
     ensures ready { IsReady party.now.identity (O.seen o.new) (open_behind result state.new) state.new }
-    ensures notes { Goes (O.seen o.old) (O.seen o.new) (λ notes. Performed party.now.identity inbound.entry.now.frame.now state.old step notes result state.new) }
+    ensures notes { Goes (O.seen o.old) (O.seen o.new)
+        (λ notes. Performed party.now.identity inbound.entry.now.frame.now state.old step notes result state.new) }
 {
     match step {
         Step::Nothing => Ok(()),
@@ -86,7 +88,9 @@ fn hand<O: Outside>(
     requires presents { IsInbound inbound.now.frame.now (inbound_of inbound.now) }
     ensures opens { (O.seen o.new).open_at ≡ (O.seen o.old).open_at }
     ensures fault { result ≢ Err Ending.StoreFault }
-    ensures notes { Goes (O.seen o.old) (O.seen o.new) (λ notes. Performed party.now.identity inbound.entry.now.frame.now state.now (step.Hand number marked) notes result state.now) }
+    ensures notes { Goes (O.seen o.old) (O.seen o.new)
+        (λ notes. Performed party.now.identity inbound.entry.now.frame.now state.now (step.Hand number marked) notes
+        result state.now) }
 {
     let body = match body_of(party.alloc, inbound.frame) {
         Ok(body) => body,

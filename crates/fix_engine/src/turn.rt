@@ -1,5 +1,5 @@
-//! The turns of a run, and what is noted after their end: a draft is sent, one read is answered, the clock is read once,
-//! and the expected number is kept. `session` calls `run_and_cut` for `Session::run_turns`.
+//! The turns of a run, and what is noted after their end. In a turn a draft is sent, one read is answered, the clock is
+//! read once, and the expected number is kept. `session` calls `run_and_cut` for `Session::run_turns`.
 ghost use Rattle.std.specs.Prelude.{◌≡◌, Some, length};
 ghost use Rattle.fix_base.specs.Seen.{Goes};
 ghost use Rattle.fix_engine.specs.State.{IsInRange};
@@ -35,7 +35,9 @@ pub fn run_and_cut<O: Outside>(
     requires ready { IsReady party.now.identity (O.seen o.old) (Some state.old.last) state.old }
     requires room { length room.old ≡ 65536 }
     ensures ready { IsReady party.now.identity (O.seen o.new) (open_behind result state.new) state.new }
-    ensures notes { Goes (O.seen o.old) (O.seen o.new) (λ notes. Ran party.now.identity turns (desk (live state.old reader.old.ahead) hand.old) notes result (desk (live state.new reader.new.ahead) hand.new)) }
+    ensures notes { Goes (O.seen o.old) (O.seen o.new)
+        (λ notes. Ran party.now.identity turns (desk (live state.old reader.old.ahead) hand.old) notes result
+        (desk (live state.new reader.new.ahead) hand.new)) }
 {
     let ran = run(o, party, state, reader, room, hand, turns);
     match ran {
@@ -65,7 +67,9 @@ fn run<O: Outside>(
     requires ready { IsReady party.now.identity (O.seen o.old) (Some state.old.last) state.old }
     requires room { length room.old ≡ 65536 }
     ensures ready { IsReady party.now.identity (O.seen o.new) (open_behind result state.new) state.new }
-    ensures notes { Goes (O.seen o.old) (O.seen o.new) (λ notes. Turns party.now.identity turns (desk (live state.old reader.old.ahead) hand.old) notes result (desk (live state.new reader.new.ahead) hand.new)) }
+    ensures notes { Goes (O.seen o.old) (O.seen o.new)
+        (λ notes. Turns party.now.identity turns (desk (live state.old reader.old.ahead) hand.old) notes result
+        (desk (live state.new reader.new.ahead) hand.new)) }
 {
     for done in 0..turns {
         turn(o, party, state, reader, room, hand)?;
@@ -84,7 +88,9 @@ fn turn<O: Outside>(
     requires ready { IsReady party.now.identity (O.seen o.old) (Some state.old.last) state.old }
     requires room { length room.old ≡ 65536 }
     ensures ready { IsReady party.now.identity (O.seen o.new) (open_behind result state.new) state.new }
-    ensures notes { Goes (O.seen o.old) (O.seen o.new) (λ notes. Turn party.now.identity (desk (live state.old reader.old.ahead) hand.old) notes result (desk (live state.new reader.new.ahead) hand.new)) }
+    ensures notes { Goes (O.seen o.old) (O.seen o.new)
+        (λ notes. Turn party.now.identity (desk (live state.old reader.old.ahead) hand.old) notes result
+        (desk (live state.new reader.new.ahead) hand.new)) }
 {
     let met = meet(o, party, state, reader, room, hand);
     if settles(&met) {
@@ -105,7 +111,9 @@ fn meet<O: Outside>(
     requires ready { IsReady party.now.identity (O.seen o.old) (Some state.old.last) state.old }
     requires room { length room.old ≡ 65536 }
     ensures ready { IsReady party.now.identity (O.seen o.new) (open_behind result state.new) state.new }
-    ensures notes { Goes (O.seen o.old) (O.seen o.new) (λ notes. Met party.now.identity (desk (live state.old reader.old.ahead) hand.old) notes result (desk (live state.new reader.new.ahead) hand.new)) }
+    ensures notes { Goes (O.seen o.old) (O.seen o.new)
+        (λ notes. Met party.now.identity (desk (live state.old reader.old.ahead) hand.old) notes result
+        (desk (live state.new reader.new.ahead) hand.new)) }
 {
     offer(o, party, state, reader, hand)?;
     hear_and_look(o, party, state, reader, room)
@@ -121,7 +129,9 @@ fn hear_and_look<O: Outside>(
     requires ready { IsReady party.now.identity (O.seen o.old) (Some state.old.last) state.old }
     requires room { length room.old ≡ 65536 }
     ensures ready { IsReady party.now.identity (O.seen o.new) (open_behind result state.new) state.new }
-    ensures notes { Goes (O.seen o.old) (O.seen o.new) (λ notes. AndThen (Heard party.now.identity) Clocked (live state.old reader.old.ahead) notes result (live state.new reader.new.ahead)) }
+    ensures notes { Goes (O.seen o.old) (O.seen o.new)
+        (λ notes. AndThen (Heard party.now.identity) Clocked (live state.old reader.old.ahead) notes result
+        (live state.new reader.new.ahead)) }
 {
     hear(o, party, state, reader, room)?;
     look(o, state, reader)
@@ -138,7 +148,9 @@ fn hear<O: Outside>(
     requires ready { IsReady party.now.identity (O.seen o.old) (Some state.old.last) state.old }
     requires room { length room.old ≡ 65536 }
     ensures ready { IsReady party.now.identity (O.seen o.new) (open_behind result state.new) state.new }
-    ensures notes { Goes (O.seen o.old) (O.seen o.new) (λ notes. Heard party.now.identity (live state.old reader.old.ahead) notes result (live state.new reader.new.ahead)) }
+    ensures notes { Goes (O.seen o.old) (O.seen o.new)
+        (λ notes. Heard party.now.identity (live state.old reader.old.ahead) notes result
+        (live state.new reader.new.ahead)) }
 {
     match o.read(room) {
         ReadTurn::Bytes(n) => take_bytes(o, party, state, reader, &room[..n]),
@@ -162,7 +174,9 @@ fn take_bytes<O: Outside>(
 ) -> Result<(), Ending>
     requires ready { IsReady party.now.identity (O.seen o.old) (Some state.old.last) state.old }
     ensures ready { IsReady party.now.identity (O.seen o.new) (open_behind result state.new) state.new }
-    ensures notes { Goes (O.seen o.old) (O.seen o.new) (λ notes. Fed party.now.identity bytes.now (live state.old reader.old.ahead) notes result (live state.new reader.new.ahead)) }
+    ensures notes { Goes (O.seen o.old) (O.seen o.new)
+        (λ notes. Fed party.now.identity bytes.now (live state.old reader.old.ahead) notes result
+        (live state.new reader.new.ahead)) }
 {
     match reader.feed(bytes) {
         Ok(()) => take_frames(o, party, state, reader),
@@ -175,7 +189,8 @@ fn look<O: Outside>(o: &mut O, state: &mut State, reader: &Reader) -> Result<(),
     requires opens { (O.seen o.old).open_at ≡ Some state.old.last }
     ensures range { IsInRange state.new }
     ensures opens { (O.seen o.new).open_at ≡ open_behind result state.new }
-    ensures notes { Goes (O.seen o.old) (O.seen o.new) (λ notes. Clocked (live state.old reader.now.ahead) notes result (live state.new reader.now.ahead)) }
+    ensures notes { Goes (O.seen o.old) (O.seen o.new)
+        (λ notes. Clocked (live state.old reader.now.ahead) notes result (live state.new reader.now.ahead)) }
 {
     match o.now() {
         Ok(reading) => {
@@ -193,7 +208,8 @@ fn keep_expected<O: Outside>(o: &mut O, state: &mut State, reader: &Reader) -> R
     requires opens { (O.seen o.old).open_at ≡ Some state.old.last }
     ensures range { IsInRange state.new }
     ensures opens { (O.seen o.new).open_at ≡ open_behind result state.new }
-    ensures notes { Goes (O.seen o.old) (O.seen o.new) (λ notes. KeptExpected (live state.old reader.now.ahead) notes result (live state.new reader.now.ahead)) }
+    ensures notes { Goes (O.seen o.old) (O.seen o.new)
+        (λ notes. KeptExpected (live state.old reader.now.ahead) notes result (live state.new reader.now.ahead)) }
 {
     if state.kept == state.expected {
         return Ok(());
