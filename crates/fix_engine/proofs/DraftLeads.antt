@@ -28,8 +28,7 @@ use Rattle.fix_engine.proofs.DraftFrames.{draft_is_body}
 
 -- ---- a draft is the original of its entry
 
-draft_original : (id : Identity) (n : ℕ) (s : State) (d : DraftText) (text : List ℕ) →
-    IsOfDraft id n s.reading d text → IsOriginal id n (entry_of_draft s d) text
+draft_original : (id : Identity) (n : ℕ) (s : State) (d : DraftText) (text : List ℕ) → IsOfDraft id n s.reading d text → IsOriginal id n (entry_of_draft s d) text
 draft_original id n s d text h = record {
   type = d.kind;
   at = h.at;
@@ -51,8 +50,7 @@ BehindDraft Q (Err fault.StoreFault) s e = IsInDoubt s e
 BehindDraft Q (Err (fault.LinkFault n)) s e = IsCertain s e
 
 -- where Q is enough for another
-pub behind_weaker : (Q P : EndState → Type 0) (r : Result ℕ SendFault) (s : State) (e : EndState) → (Q e → P e) →
-    BehindDraft Q r s e → BehindDraft P r s e
+pub behind_weaker : (Q P : EndState → Type 0) (r : Result ℕ SendFault) (s : State) (e : EndState) → (Q e → P e) → BehindDraft Q r s e → BehindDraft P r s e
 behind_weaker Q P (Ok n) s e f h = f h
 behind_weaker Q P (Err (fault.Stopped why)) s e f h = h
 behind_weaker Q P (Err fault.NumbersSpent) s e f h = h
@@ -61,69 +59,45 @@ behind_weaker Q P (Err fault.StoreFault) s e f h = h
 behind_weaker Q P (Err (fault.LinkFault n)) s e f h = h
 
 module _ (id : Identity) (a : Ahead) (d : DraftText) where
-  pub lost_leads : (s s' : State) (notes : List Note) → KeepsDraft d s notes (Err fault.StoreFault) s' →
-      (e : EndState) → IsCertain s e → Leads id e (acts_of notes) (IsInDoubt s')
+  pub lost_leads : (s s' : State) (notes : List Note) → KeepsDraft d s notes (Err fault.StoreFault) s' → (e : EndState) → IsCertain s e → Leads id e (acts_of notes) (IsInDoubt s')
   lost_leads s s' notes (drafted.kept_lost is) e h = push_lost id s (entry_of_draft s d) e (lawful.draft d is) h
 
-  pub stored_alone : (s s' : State) (n : ℕ) (notes : List Note) → KeepsDraft d s notes (Ok n) s' → (e : EndState) →
-      IsCertain s e → Leads id e (acts_of notes) (IsCertain s')
+  pub stored_alone : (s s' : State) (n : ℕ) (notes : List Note) → KeepsDraft d s notes (Ok n) s' → (e : EndState) → IsCertain s e → Leads id e (acts_of notes) (IsCertain s')
   stored_alone s s' n notes (drafted.was_kept is) e h = push_alone id s (entry_of_draft s d) e h
 
-  stored_leads : (s s' : State) (n : ℕ) (notes : List Note) → KeepsDraft d s notes (Ok n) s' → (e : EndState) →
-      Fits id (live s a) e → Leads id e (acts_of notes) (Fits id (live s' a))
+  stored_leads : (s s' : State) (n : ℕ) (notes : List Note) → KeepsDraft d s notes (Ok n) s' → (e : EndState) → Fits id (live s a) e → Leads id e (acts_of notes) (Fits id (live s' a))
   stored_leads s s' n notes (drafted.was_kept is) e f =
       let to = pushed e (entry_of_draft s d) in
       let end = live (with_last s (s.last + 1)) a in
       push_kept id (entry_of_draft s d) e [] (Fits id end) f.on.settled.doubt
-      (leads_nowhere id to (Fits id end) (record {
-        connection = f.connection;
-        on = on_pushed id s a f.connection e (entry_of_draft s d) f.on;
-        counted = f.counted;
-      }))
+      (leads_nowhere id to (Fits id end) (record { connection = f.connection; on = on_pushed id s a f.connection e (entry_of_draft s d) f.on; counted = f.counted }))
 
-  sent_leads : (s s' : State) (n : ℕ) (notes : List Note) (text : List ℕ) → s.last < 999999999 →
-      IsOfDraft id (s.last + 1) s.reading d text → KeepsDraft d s notes (Ok n) s' → (e : EndState) →
-      Fits id (live s a) e → Leads id e (acts_of (notes ++ Did (act.Wrote text) ∷ [])) (Fits id (live s' a))
+  sent_leads : (s s' : State) (n : ℕ) (notes : List Note) (text : List ℕ) → s.last < 999999999 → IsOfDraft id (s.last + 1) s.reading d text → KeepsDraft d s notes (Ok n) s' → (e : EndState) → Fits id (live s a) e → Leads id e (acts_of (notes ++ Did (act.Wrote text) ∷ [])) (Fits id (live s' a))
   sent_leads s s' n notes text small said (drafted.was_kept is) e f =
       let c = f.connection in
       let entry = entry_of_draft s d in
       let end = live (with_last s (s.last + 1)) a in
       let original = draft_original id (s.last + 1) s d text said in
       push_wrote id s a c entry e text [] (Fits id end) f.on (original_all id s a c e entry text small original f.on)
-      (leads_nowhere id (connected (pushed e entry) (writing c text)) (Fits id end)
-      (record {
-        connection = writing c text;
-        on = on_original id s a c e entry text small original f.on;
-        counted = f.counted;
-      }))
+      (leads_nowhere id (connected (pushed e entry) (writing c text)) (Fits id end) (record { connection = writing c text; on = on_original id s a c e entry text small original f.on; counted = f.counted }))
 
-  write_lost_leads : (s s' : State) (n many : ℕ) (notes more : List Note) (text : List ℕ) → s.last < 999999999 →
-      IsOfDraft id (s.last + 1) s.reading d text → KeepsDraft d s notes (Ok n) s' → acts_of more ≡ [] →
-      (e : EndState) → Fits id (live s a) e → Leads id e (acts_of (notes ++ Did (act.Wrote (take many text)) ∷ more))
-      (IsCertain s')
+  write_lost_leads : (s s' : State) (n many : ℕ) (notes more : List Note) (text : List ℕ) → s.last < 999999999 → IsOfDraft id (s.last + 1) s.reading d text → KeepsDraft d s notes (Ok n) s' → acts_of more ≡ [] → (e : EndState) → Fits id (live s a) e → Leads id e (acts_of (notes ++ Did (act.Wrote (take many text)) ∷ more)) (IsCertain s')
   write_lost_leads s s' n many notes more text small said (drafted.was_kept is) nothing e f =
       let c = f.connection in
       let entry = entry_of_draft s d in
       let end = with_last s (s.last + 1) in
       let part = take many text in
       let original = draft_original id (s.last + 1) s d text said in
-      subst (λ (acts : List Act). Leads id e (act.Kept (Push entry) ∷ act.Wrote part ∷ acts) (IsCertain end))
-      (sym nothing)
-      (push_wrote id s a c entry e part [] (IsCertain end) f.on
-      (original_some id s a c e entry text many small original f.on)
-      (leads_nowhere id (connected (pushed e entry) (writing c part)) (IsCertain end)
-      (settled_sent id s c entry e part f.on.settled)))
+      subst (λ (acts : List Act). Leads id e (act.Kept (Push entry) ∷ act.Wrote part ∷ acts) (IsCertain end)) (sym nothing)
+      (push_wrote id s a c entry e part [] (IsCertain end) f.on (original_some id s a c e entry text many small original f.on)
+      (leads_nowhere id (connected (pushed e entry) (writing c part)) (IsCertain end) (settled_sent id s c entry e part f.on.settled)))
 
-  pub drafting_fits : (s : State) (notes : List Note) (r : Result ℕ SendFault) (s' : State) →
-      Drafting id d s notes r s' → s.last < 999999999 → (e : EndState) → Fits id (live s a) e →
-      Leads id e (acts_of notes) (BehindDraft (Fits id (live s' a)) r s')
+  pub drafting_fits : (s : State) (notes : List Note) (r : Result ℕ SendFault) (s' : State) → Drafting id d s notes r s' → s.last < 999999999 → (e : EndState) → Fits id (live s a) e → Leads id e (acts_of notes) (BehindDraft (Fits id (live s' a)) r s')
   drafting_fits s notes r s' drafted.no_memory small e f = leads_nowhere id e (IsCertain s) f.on.settled
   drafting_fits s notes r s' (drafted.lost k) small e f = lost_leads s s' notes k e f.on.settled
   drafting_fits s notes r s' (drafted.stored {n = n} other k) small e f = stored_leads s s' n notes k e f
-  drafting_fits s notes r s' (drafted.sent {notes = first} {n = n} text up said k) small e f =
-      sent_leads s s' n first text small said k e f
-  drafting_fits s notes r s' (drafted.write_lost {notes = first} {n = n} text many up said k) small e f =
-      write_lost_leads s s' n many first _ text small said k refl e f
+  drafting_fits s notes r s' (drafted.sent {notes = first} {n = n} text up said k) small e f = sent_leads s s' n first text small said k e f
+  drafting_fits s notes r s' (drafted.write_lost {notes = first} {n = n} text many up said k) small e f = write_lost_leads s s' n many first _ text small said k refl e f
   drafting_fits s notes r s' (drafted.write_memory {n = n} up k) small e f = stored_alone s s' n notes k e f.on.settled
 
 -- ---- in a turn
@@ -135,8 +109,7 @@ state_at d = d.live.state
 abbrev pub FitsAt : Identity → Desk → EndState → Type 0
 FitsAt id d e = Fits id d.live e
 
-behind_sent : (Q : EndState → Type 0) (r : Result ℕ SendFault) (s : State) (e : EndState) → BehindDraft Q r s e →
-    Behind Q (sent_ending r) s e
+behind_sent : (Q : EndState → Type 0) (r : Result ℕ SendFault) (s : State) (e : EndState) → BehindDraft Q r s e → Behind Q (sent_ending r) s e
 behind_sent Q (Ok n) s e h = h
 behind_sent Q (Err (fault.Stopped why)) s e h = absurd h
 behind_sent Q (Err fault.NumbersSpent) s e h = absurd h
@@ -147,8 +120,7 @@ behind_sent Q (Err (fault.LinkFault n)) s e h = h
 sends_leads : (id : Identity) (draft : DraftText) → Triple id state_at (FitsAt id) (Sends id draft) (FitsAt id)
 sends_leads id draft d notes r to (turns.spent h) e f = leads_nowhere id e (IsCertain d.live.state) f.on.settled
 sends_leads id draft d notes r to (turns.sends {r = sent} {s = s} small is k) e f =
-    leads_weaker id e (acts_of notes) (BehindDraft (Fits id (live s d.live.ahead)) sent s)
-    (Behind (FitsAt id to) (sent_ending sent) s) (λ m q. behind_sent (FitsAt id to) sent s m q)
+    leads_weaker id e (acts_of notes) (BehindDraft (Fits id (live s d.live.ahead)) sent s) (Behind (FitsAt id to) (sent_ending sent) s) (λ m q. behind_sent (FitsAt id to) sent s m q)
     (drafting_fits id d.live.ahead draft d.live.state notes sent s k small e f)
 
 holding_leads : (id : Identity) → Triple id state_at (FitsAt id) (Holding id) (FitsAt id)
@@ -158,6 +130,5 @@ holding_leads id d notes r to (turns.holds draft is k) e f = sends_leads id draf
 -- a draft that the application gives, or that is in hand
 pub offered_leads : (id : Identity) → Triple id state_at (FitsAt id) (Offered id) (FitsAt id)
 offered_leads id d notes r to (turns.not_up other) e f = leads_nowhere id e (FitsAt id d) f
-offered_leads id d notes r to (turns.asked {notes = more} given up empty k) e f =
-    holding_leads id (turns.desk d.live (record { draft = given; tried = d.hand.tried })) more r to k e f
+offered_leads id d notes r to (turns.asked {notes = more} given up empty k) e f = holding_leads id (turns.desk d.live (record { draft = given; tried = d.hand.tried })) more r to k e f
 offered_leads id d notes r to (turns.was_in_hand draft up is k) e f = sends_leads id draft d notes r to k e f
