@@ -13,6 +13,7 @@ use crate::faults::{is_cut, settles};
 use crate::hand::{Hand, offer};
 use crate::handling::take_frames;
 use crate::party::Party;
+use crate::state::take_reading;
 use crate::{Ending, KeepFault, Outside, Phase, State, Why};
 use fix_base::Record;
 use fix_frame::Reader;
