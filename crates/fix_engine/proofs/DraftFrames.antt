@@ -1,6 +1,6 @@
 -- The frame of a draft of the application.
-use Rattle.std.proofs.Common.{◌≡◌, ◌≢◌, ℕ, ◌+◌, ◌<◌, ◌≤◌, ◌^◌, List, [], ◌∷◌, ◌++◌, length, Option, None, refl, sym, ap}
-use Rattle.std.proofs.Common.{◌∙◌, subst, append_assoc, length-append, lit<, lit≤, arith}
+use Rattle.std.proofs.Common.{◌≡◌, ℕ, ◌+◌, ◌≤◌, List, [], ◌∷◌, ◌++◌, length, Option, None, refl, sym, ap}
+use Rattle.std.proofs.Common.{◌∙◌, subst, append_assoc, length-append, lit≤, arith}
 use Rattle.std.specs.List.{AllByRecursion}
 use Rattle.std.specs.Fmt.{decimal}
 use Rattle.fix_base.specs.declared.identity.Identity.{Identity}
@@ -8,13 +8,12 @@ use Rattle.fix_base.specs.Session.{IsValidIdentity}
 use Rattle.fix_base.specs.Fields.{Field, FieldsAfter}
 use Rattle.fix_base.specs.Sealed.{sealed}
 use Rattle.fix_base.specs.Says.{field_text, fields_text}
-use Rattle.fix_base.specs.Payload.{field, IsEntryField, IsBodyOf, IsAppPayload, IsPersistentEntry, LONGEST_BODY}
+use Rattle.fix_base.specs.Payload.{field, IsEntryField, IsBodyOf, IsPersistentEntry}
 use Rattle.fix_base.specs.Payload.{LAST_TIME}
 use Rattle.fix_base.specs.Times.{IsTimeTextOf}
 use Rattle.fix_base.specs.Wrote.{original_fields}
 use Rattle.fix_base.proofs.PlainFields.{IsPlainField, plain_announces_nothing}
 use Rattle.fix_base.proofs.ShortFields.{comp_id_clear, comp_id_short, IsShortField, short_fields}
-use Rattle.fix_base.proofs.Seals.{type_tag}
 use Rattle.fix_base.proofs.TimeTexts.{time_text_no_soh}
 use Rattle.fix_fields.specs.Drafts.{body_with}
 use Rattle.fix_fields.specs.Drafted.{DraftText, IsDraft, draft_body}

@@ -21,8 +21,7 @@ use Rattle.fix_engine.specs.Run.{Seat}
 use Rattle.fix_engine.specs.Drafted as drafted
 use Rattle.fix_engine.specs.Drafted.{KeepsDraft, Drafting, Drafted, SentTo, SendsTo, entry_of_draft, SendHasCause}
 use Rattle.fix_engine.specs.Faults.{is_link_fault, open_sent, send_stop}
-use Rattle.fix_engine.specs.Lawful as lawful
-use Rattle.fix_engine.specs.Lawful.{HasNumbers, IsCertain, Fits, HasLeft, IsLost, Leads}
+use Rattle.fix_engine.specs.Lawful.{HasNumbers, IsCertain, Fits, HasLeft, Leads}
 use Rattle.fix_engine.specs.InStep as step
 use Rattle.fix_engine.specs.InStep.{IsBeside, IsTape, IsInStep, StandsInStep, Trails, IsConnected, AreOfRun}
 use Rattle.fix_engine.specs.LawfulSend.{AfterSend, IsLawfulSend}

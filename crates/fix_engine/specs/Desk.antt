@@ -1,6 +1,6 @@
 -- The turns of a session: a draft of the application is sent, what comes over the connection is answered, the clock
 -- is read, and the expected number is kept.
-use Rattle.std.specs.Prelude.{◌≡◌, ◌≢◌, ◌<◌, ◌≤◌, ◌==◌, ◌&&◌, ◌∷◌, ◌++◌, if◌then◌else◌, nat_lt, ℕ, List, [], Bool, true}
+use Rattle.std.specs.Prelude.{◌≡◌, ◌≢◌, ◌<◌, ◌≤◌, ◌==◌, ◌&&◌, ◌∷◌, ◌++◌, if◌then◌else◌, nat_lt, ℕ, List, [], true}
 use Rattle.std.specs.Prelude.{false, Option, Some, None, option_map, Result, Ok, Err, ⊤, replicate}
 use Rattle.fix_base.specs.declared.identity.Identity.{Identity}
 use Rattle.fix_base.specs.declared.act.Act.TheVariants as act

@@ -1,6 +1,6 @@
 -- What comes of sending a draft of the application.
-use Rattle.std.specs.Prelude.{◌≡◌, ◌≢◌, ℕ, ◌+◌, ◌-◌, ◌<◌, ◌≤◌, List, [], ◌∷◌, ◌++◌, length, take, Bool, true, false}
-use Rattle.std.specs.Prelude.{Option, Some, None, Result, Ok, Err, ⊤}
+use Rattle.std.specs.Prelude.{◌≡◌, ◌≢◌, ℕ, ◌+◌, ◌-◌, ◌<◌, ◌≤◌, List, [], ◌∷◌, ◌++◌, length, take, true, false}
+use Rattle.std.specs.Prelude.{Result, Ok, Err, ⊤}
 use Rattle.std.specs.Fmt.{decimal}
 use Rattle.fix_base.specs.declared.identity.Identity.{Identity}
 use Rattle.fix_base.specs.declared.entry.Entry.{Entry}
@@ -16,7 +16,7 @@ use Rattle.fix_engine.specs.State.{State, Down, Up, with_phase, with_last, with_
 use Rattle.fix_engine.specs.declared.stop.SendFault.{SendFault}
 use Rattle.fix_engine.specs.declared.stop.SendFault.TheVariants as fault
 use Rattle.fix_engine.specs.Faults.{is_link_fault}
-use Rattle.fix_engine.specs.Turn.{Live, live, down}
+use Rattle.fix_engine.specs.Turn.{Live, live}
 
 -- the entry that is kept of a draft
 abbrev pub entry_of_draft : State → DraftText → Entry

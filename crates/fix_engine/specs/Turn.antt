@@ -1,6 +1,6 @@
 -- What a turn does on a connection: one read with the frames that it completes, one look at the clock, and the
 -- expected number kept.
-use Rattle.std.specs.Prelude.{◌≡◌, ◌≢◌, ◌<◌, ◌≤◌, ◌∷◌, ◌++◌, ℕ, List, [], length, Bool, true, false, Result, Ok, Err, ⊤}
+use Rattle.std.specs.Prelude.{◌≡◌, ◌≢◌, ◌<◌, ◌≤◌, ◌∷◌, ◌++◌, ℕ, List, [], length, Result, Ok, Err, ⊤}
 use Rattle.fix_base.specs.declared.identity.Identity.{Identity}
 use Rattle.fix_base.specs.Stream.{Ahead}
 use Rattle.fix_base.specs.declared.entry.Record.TheVariants.{Expect}
