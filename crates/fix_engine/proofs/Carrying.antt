@@ -1,6 +1,7 @@
 -- What the calls of one step may come to, for the exits that need no more.
 use Rattle.fix_base.proofs.SeenLemmas.{Moves-nil, Moves-append}
-use Rattle.fix_engine.specs.Answer.{nothing, count, go_up, close, give_up, hand_memory, spent, keep_memory, keep_lost, write_memory}
+use Rattle.fix_engine.specs.Answer.{nothing, count, go_up, close, give_up, hand_memory, spent, keep_memory, keep_lost}
+use Rattle.fix_engine.specs.Answer.{write_memory}
 use Rattle.fix_engine.specs.Turn.{same, kept, expect_lost, expect_memory, now, now_memory}
 
 -- what a step may come to

@@ -16,7 +16,8 @@ use Rattle.fix_engine.specs.declared.stop.SendFault.{SendFault}
 use Rattle.fix_engine.specs.declared.stop.SendFault.TheVariants as fault
 use Rattle.fix_engine.specs.Turn.{live}
 use Rattle.fix_engine.specs.Desk as turns
-use Rattle.fix_engine.specs.Desk.{Desk, sent_ending, Sends, Holding, Offered}
+use Rattle.fix_engine.specs.Desk.{Desk, Sends, Holding, Offered}
+use Rattle.fix_engine.specs.Faults.{sent_ending}
 use Rattle.fix_engine.specs.Drafted as drafted
 use Rattle.fix_engine.specs.Drafted.{IsOfDraft, KeepsDraft, Drafting, entry_of_draft}
 use Rattle.fix_engine.specs.Lawful as lawful

@@ -9,11 +9,13 @@ use Rattle.fix_engine.specs.Drafted as drafted
 use Rattle.fix_engine.specs.Drafted.{KeepsDraft, Drafting}
 
 -- what isn't kept isn't written
-pub unsent : (id : Identity) (d : DraftText) (s s' : State) (notes : List Note) (why : SendFault) → KeepsDraft d s notes (Err why) s' → Drafting id d s notes (Err why) s'
+pub unsent : (id : Identity) (d : DraftText) (s s' : State) (notes : List Note) (why : SendFault) →
+    KeepsDraft d s notes (Err why) s' → Drafting id d s notes (Err why) s'
 unsent id d s s' notes why drafted.unkept = drafted.no_memory
 unsent id d s s' notes why (drafted.kept_lost is) = drafted.lost (drafted.kept_lost is)
 
 -- in a phase other than Up nothing is written
-pub not_up : (id : Identity) (d : DraftText) (s s' : State) (notes : List Note) (r : Result ℕ SendFault) → s.phase ≢ Up → KeepsDraft d s notes r s' → Drafting id d s notes r s'
+pub not_up : (id : Identity) (d : DraftText) (s s' : State) (notes : List Note) (r : Result ℕ SendFault) →
+    s.phase ≢ Up → KeepsDraft d s notes r s' → Drafting id d s notes r s'
 not_up id d s s' notes (Ok n) other k = drafted.stored other k
 not_up id d s s' notes (Err why) other k = unsent id d s s' notes why k

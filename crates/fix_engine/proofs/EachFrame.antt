@@ -1,9 +1,11 @@
 -- What can't fail to be there: the next frame of bytes or none, and what a frame presents.
-use Rattle.std.proofs.Common.{◌≡◌, ◌⊎◌, inl, inr, ℕ, zero, suc, ◌-◌, ◌<◌, ◌≤◌, List, [], ◌∷◌, ◌++◌, length, take, drop, Bool, true, false, Option, Some, None, refl, sym, ap, subst, ◌∙◌, arith, ℤ, pos, neg_ℤ}
+use Rattle.std.proofs.Common.{◌≡◌, ◌⊎◌, inl, inr, ℕ, zero, suc, ◌-◌, ◌<◌, ◌≤◌, List, [], ◌∷◌, ◌++◌, length, take, drop}
+use Rattle.std.proofs.Common.{Bool, true, false, Option, Some, None, refl, sym, ap, subst, ◌∙◌, arith, ℤ, pos, neg_ℤ}
 use Rattle.std.specs.Str.Parse.{AllDigits}
 use Rattle.std.proofs.lemmas.Bool.{cases_lt}
 use Rattle.std.proofs.lemmas.Int.{ints}
-use Rattle.std.proofs.lemmas.List.{length-append, length-drop, length-take-le, take-append-drop, take-append-le, take_at}
+use Rattle.std.proofs.lemmas.List.{length-append, length-drop, length-take-le, take-append-drop, take-append-le}
+use Rattle.std.proofs.lemmas.List.{take_at}
 use Rattle.fix_base.specs.Fields.{Field}
 use Rattle.fix_base.specs.Front.{Begins, IsPartOf}
 use Rattle.fix_base.specs.Shape.{IsShape, IsFrame}
@@ -36,7 +38,8 @@ pub decided : (A : Type 0) → CanNotFail (A ⊎ (A → ⊥))
 decided A k = k (inr (λ a. k (inl a)))
 
 -- the only value that has P, or that there is none
-only : {A : Type 0} (P : A → Type 0) → ((x y : A) → P x → P y → x ≡ y) → CanNotFail ((found : Option A) × IsOnly P found)
+only : {A : Type 0} (P : A → Type 0) → ((x y : A) → P x → P y → x ≡ y) →
+    CanNotFail ((found : Option A) × IsOnly P found)
 only {A} P one = map_sure by-case (decided ((x : A) × P x))
   where
     by-case : ((x : A) × P x) ⊎ (((x : A) × P x) → ⊥) → (found : Option A) × IsOnly P found
@@ -49,7 +52,8 @@ digits_same : (value : List ℕ) (m n : ℕ) → IsDigitsOf m value → IsDigits
 digits_same value m n p q = p.says ∙ sym q.says
 
 no_minus : (value digits : List ℕ) (n : ℕ) → value ≡ 45 ∷ digits → IsDigitsOf n value → ⊥
-no_minus value digits n e p = let all : AllDigits 10 (45 ∷ digits) = subst (AllDigits 10) e p.digits in omega (arith, all.0)
+no_minus value digits n e p = let all : AllDigits 10 (45 ∷ digits) = subst (AllDigits 10) e p.digits in
+    omega (arith, all.0)
 
 -- an int says one number
 int_same : (value : List ℕ) (x y : ℤ) → IsInt value x → IsInt value y → x ≡ y
@@ -80,7 +84,14 @@ each_presents frame f =
     let begin : List ℕ = drop 2 line.value in
     on_sure (each_sent (value_of 52 fields)) (λ sent. map_sure (λ heart. (
       record { header = header_of_fields begin fields; sent = sent.0; heart = heart.0 },
-      record { fields = fields; has = frame_has f; begins = begin_is frame line.value line.rest f line.is; header = refl; sent = sent.1; heart = heart.1 },
+      record {
+        fields = fields;
+        has = frame_has f;
+        begins = begin_is frame line.value line.rest f line.is;
+        header = refl;
+        sent = sent.1;
+        heart = heart.1;
+      },
     )) (only (IsLogon fields) (heart_same fields)))
 
 -- ---- the next frame
@@ -90,31 +101,54 @@ shape_most : (text : List ℕ) → IsShape text → length text ≤ 1048612
 shape_most text s =
     let some : 0 < length text = shape_long s.0 text s.1 in
     let n : ℕ = length text - 1 in
-    let part : IsPartOf IsShape (take n text) = record { missing = drop n text; nonempty = omega (arith, length-drop n text); is = subst IsShape (sym (take-append-drop n text)) s } in
+    let part : IsPartOf IsShape (take n text) =
+    record {
+      missing = drop n text;
+      nonempty = omega (arith, length-drop n text);
+      is = subst IsShape (sym (take-append-drop n text)) s;
+    } in
     omega (arith, part_short (take n text) part, length-take-le n text (omega arith))
 
 -- a text at the front of bytes with more behind them stands in the bytes, where these are long enough
-front_there : (bytes more text rest : List ℕ) → bytes ++ more ≡ text ++ rest → length text ≤ length bytes → bytes ≡ text ++ drop (length text) bytes
+front_there : (bytes more text rest : List ℕ) → bytes ++ more ≡ text ++ rest → length text ≤ length bytes →
+    bytes ≡ text ++ drop (length text) bytes
 front_there bytes more text rest e fits =
-    let front : take (length text) bytes ≡ text = sym (take-append-le (length text) bytes more fits) ∙ ap (take (length text)) e ∙ take_at text rest (length text) refl in
+    let front : take (length text) bytes ≡ text = sym (take-append-le (length text) bytes more fits) ∙
+    ap (take (length text)) e ∙ take_at text rest (length text) refl in
     sym (take-append-drop (length text) bytes) ∙ ap (λ (w : List ℕ). w ++ drop (length text) bytes) front
 
 -- as many bytes as the longest shape has show an item
-long_has_item : (mark : Bool) (bytes : List ℕ) → 1048612 ≤ length bytes → HasNoItem (record { may_mark = mark; bytes = bytes }) → ⊥
+long_has_item : (mark : Bool) (bytes : List ℕ) → 1048612 ≤ length bytes →
+    HasNoItem (record { may_mark = mark; bytes = bytes }) → ⊥
 long_has_item mark [] long never = omega arith
-long_has_item false (b ∷ bytes) long never = never.none (Byte b) (record { may_mark = ends_in_soh (b ∷ []); bytes = bytes }) (record { is = λ h. absurd cc; spelled = refl; mark = refl })
+long_has_item false (b ∷ bytes) long never =
+    never.none (Byte b) (record { may_mark = ends_in_soh (b ∷ []); bytes = bytes })
+    (record { is = λ h. absurd cc; spelled = refl; mark = refl })
 long_has_item true (b ∷ bytes) long never =
-    never.none (Byte b) (record { may_mark = ends_in_soh (b ∷ []); bytes = bytes }) (record { is = λ h. record { refutes = λ more rest s. no_shape more rest s }; spelled = refl; mark = refl })
+    never.none (Byte b) (record { may_mark = ends_in_soh (b ∷ []); bytes = bytes })
+    (record { is = λ h. record { refutes = λ more rest s. no_shape more rest s }; spelled = refl; mark = refl })
   where
     no_shape : (more rest : List ℕ) → Begins IsShape ((b ∷ bytes) ++ more) rest → ⊥
     no_shape more rest s =
         let fits : length s.text ≤ length (b ∷ bytes) = omega (arith, shape_most s.text s.is) in
-        let there : b ∷ bytes ≡ s.text ++ drop (length s.text) (b ∷ bytes) = front_there (b ∷ bytes) more s.text rest s.spelled fits in
+        let there : b ∷ bytes ≡ s.text ++ drop (length s.text) (b ∷ bytes) =
+        front_there (b ∷ bytes) more s.text rest s.spelled fits in
         let behind : Ahead = record { may_mark = ends_in_soh s.text; bytes = drop (length s.text) (b ∷ bytes) } in
-        never.none (Span s.text) behind (record { is = (refl, s.is, λ f. never.none (Frame s.text) behind (record { is = (refl, f); spelled = there; mark = refl })); spelled = there; mark = refl })
+        never.none (Span s.text) behind
+        (record {
+          is = (
+            refl,
+            s.is,
+            λ f. never.none (Frame s.text) behind
+                (record { is = (refl, f); spelled = there; mark = refl }),
+          );
+          spelled = there;
+          mark = refl;
+        })
 
 few_bytes : (a : Ahead) → HasNoItem a → length a.bytes < 1048612
-few_bytes a never = elim (cases_lt (length a.bytes) 1048612) [ inl less ↦ less | inr long ↦ absurd (long_has_item a.may_mark a.bytes long never) ]
+few_bytes a never = elim (cases_lt (length a.bytes) 1048612)
+    [ inl less ↦ less | inr long ↦ absurd (long_has_item a.may_mark a.bytes long never) ]
 
 -- the next frame from a place on, or that the bytes have none yet
 pub data Next (a : Ahead) : Type 0 where
@@ -122,22 +156,52 @@ pub data Next (a : Ahead) : Type 0 where
   none_next : (b : Ahead) → GivesNone a b → Next a
 
 -- an item that is no frame is skipped
-skip_on : (a b : Ahead) (item : Item) → ((items : List Item) → frames (item ∷ items) ≡ frames items) → Takes a item b → Next b → Next a
-skip_on a b item no_frame t (frame_next c frame g) = frame_next c frame (record { at = g.at; skips = record { items = item ∷ g.skips.items; take = (b, t, g.skips.take); none = no_frame g.skips.items ∙ g.skips.none }; frame_there = g.frame_there })
-skip_on a b item no_frame t (none_next c g) = none_next c (record { skips = record { items = item ∷ g.skips.items; take = (b, t, g.skips.take); none = no_frame g.skips.items ∙ g.skips.none }; end = g.end })
+skip_on : (a b : Ahead) (item : Item) → ((items : List Item) → frames (item ∷ items) ≡ frames items) →
+    Takes a item b → Next b → Next a
+skip_on a b item no_frame t (frame_next c frame g) =
+    frame_next c frame
+    (record {
+      at = g.at;
+      skips = record {
+        items = item ∷ g.skips.items;
+        take = (b, t, g.skips.take);
+        none = no_frame g.skips.items ∙ g.skips.none;
+      };
+      frame_there = g.frame_there;
+    })
+skip_on a b item no_frame t (none_next c g) =
+    none_next c
+    (record {
+      skips = record {
+        items = item ∷ g.skips.items;
+        take = (b, t, g.skips.take);
+        none = no_frame g.skips.items ∙ g.skips.none;
+      };
+      end = g.end;
+    })
 
 abbrev There : Ahead → Type 0
 There a = (item : Item) × (b : Ahead) × Takes a item b
 
 -- what stands first, where the next of fewer bytes is known
-by_first : (a : Ahead) → ((b : Ahead) → length b.bytes < length a.bytes → CanNotFail (Next b)) → There a ⊎ (There a → ⊥) → CanNotFail (Next a)
-by_first a fewer (inr never) = let none : HasNoItem a = record { none = λ item b t. never (item, b, t) } in sure (none_next a (record { skips = record { items = []; take = refl; none = refl }; end = record { none = none; few = few_bytes a none } }))
+by_first : (a : Ahead) → ((b : Ahead) → length b.bytes < length a.bytes → CanNotFail (Next b)) → There a ⊎
+    (There a → ⊥) → CanNotFail (Next a)
+by_first a fewer (inr never) = let none : HasNoItem a = record { none = λ item b t. never (item, b, t) } in
+    sure (none_next a
+    (record {
+      skips = record { items = []; take = refl; none = refl };
+      end = record { none = none; few = few_bytes a none };
+    }))
 by_first a fewer (inl h) = at_item h.0 h.1 h.2
   where
     at_item : (item : Item) (b : Ahead) → Takes a item b → CanNotFail (Next a)
-    at_item (Frame text) b t = sure (frame_next b text (record { at = a; skips = record { items = []; take = refl; none = refl }; frame_there = t }))
-    at_item (Span text) b t = map_sure (skip_on a b (Span text) (λ items. refl) t) (fewer b (omega (arith, ap length t.spelled, length-append text b.bytes, shape_long t.is.1.0 text t.is.1.1)))
-    at_item (Byte byte) b t = map_sure (skip_on a b (Byte byte) (λ items. refl) t) (fewer b (omega (arith, ap length t.spelled, length-append (byte ∷ []) b.bytes)))
+    at_item (Frame text) b t =
+        sure (frame_next b text
+        (record { at = a; skips = record { items = []; take = refl; none = refl }; frame_there = t }))
+    at_item (Span text) b t = map_sure (skip_on a b (Span text) (λ items. refl) t)
+        (fewer b (omega (arith, ap length t.spelled, length-append text b.bytes, shape_long t.is.1.0 text t.is.1.1)))
+    at_item (Byte byte) b t = map_sure (skip_on a b (Byte byte) (λ items. refl) t)
+        (fewer b (omega (arith, ap length t.spelled, length-append (byte ∷ []) b.bytes)))
 
 next_of_few : (n : ℕ) (a : Ahead) → length a.bytes < n → CanNotFail (Next a)
 next_of_few zero a few = absurd (omega arith)

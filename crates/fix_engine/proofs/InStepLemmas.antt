@@ -21,7 +21,7 @@ use Rattle.fix_base.proofs.SeenLemmas.{Moves-nil}
 use Rattle.fix_base.proofs.RunLemmas.{EndRun-append}
 use Rattle.fix_base.proofs.ReaderLemmas.{reader}
 use Rattle.fix_base.proofs.WholeLemmas.{whole_start}
-use Rattle.fix_engine.specs.State.{State, Down, Ending, first_state, open_behind}
+use Rattle.fix_engine.specs.State.{State, Down, Ending, first_state}
 use Rattle.fix_engine.specs.declared.state.Ending.TheVariants as ending
 use Rattle.fix_engine.specs.declared.stop.RunEnd.{RunEnd}
 use Rattle.fix_engine.specs.declared.stop.RunEnd.TheVariants as run
@@ -31,7 +31,8 @@ use Rattle.fix_engine.specs.Turn.{Live, live}
 use Rattle.fix_engine.specs.declared.hand.Hand.{Hand}
 use Rattle.fix_engine.specs.Desk.{desk, Ran, no_draft}
 use Rattle.fix_engine.specs.declared.stop.BeginFault.TheVariants as begins
-use Rattle.fix_engine.specs.Run.{Seat, desk_of, seated_at, seated_again, no_bytes, run_end, stop_cause, stopped_for_memory, Opens, BeginsTo, opened_to, no_memory, no_memory_to_open, begun}
+use Rattle.fix_engine.specs.Run.{Seat, desk_of, seated_at, seated_again, no_bytes, stopped_for_memory, Opens, BeginsTo, opened_to, no_memory, no_memory_to_open, begun}
+use Rattle.fix_engine.specs.Faults.{open_behind, run_end, stop_cause}
 use Rattle.fix_engine.specs.Lawful.{HasNumbers, IsCertain, MayHold, silent, Fits, Leads, After, AfterBegin, IsLawfulBegin}
 use Rattle.fix_engine.specs.InStep as step
 use Rattle.fix_engine.specs.InStep.{IsBeside, IsTape, IsStored, IsInStep, StandsInStep, Trails, IsConnected, AreOfRun, HasServed, bytes_written}

@@ -11,10 +11,10 @@ use Rattle.fix_engine.specs.State.{State, Down, Ending, with_phase, with_kept, w
 use Rattle.fix_engine.specs.declared.state.Ending.TheVariants as ending
 use Rattle.fix_engine.specs.Fold.{Each, none, ends, goes, AndThen, first_ends, both}
 use Rattle.fix_engine.specs.Turn as turn
-use Rattle.fix_engine.specs.Turn.{Live, live, fed, Taken, Fed, Heard, Clocked, KeptExpected, settles_of, is_cut_of, down}
+use Rattle.fix_engine.specs.Turn.{Live, live, fed, Taken, Fed, Heard, Clocked, KeptExpected, down}
 use Rattle.fix_engine.specs.Desk as turns
 use Rattle.fix_engine.specs.Desk.{Desk, Offered, Beside, Met, Turn, OneTurn, Ran}
-use Rattle.fix_engine.specs.Run.{run_end}
+use Rattle.fix_engine.specs.Faults.{settles_of, is_cut_of, run_end}
 use Rattle.fix_engine.specs.Lawful as lawful
 use Rattle.fix_engine.specs.Lawful.{IsCertain, Fits, HasLeft, IsLost, IsInDoubt, Leads, After, IsLawful}
 use Rattle.fix_engine.proofs.LeadsLemmas.{certain_settled, settled_phase, lost_down, leads_nowhere, leads_step, leads_lost, leads_on, leads_weaker}

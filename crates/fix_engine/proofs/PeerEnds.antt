@@ -1,5 +1,6 @@
 -- A run answers that the other side ended the connection just where it read so.
-use Rattle.std.proofs.Common.{◌≡◌, ◌⊎◌, inl, inr, ℕ, ◌<◌, List, [], ◌∷◌, ◌++◌, Result, Ok, Err, refl, sym, subst, arith, replicate}
+use Rattle.std.proofs.Common.{◌≡◌, ◌⊎◌, inl, inr, ℕ, ◌<◌, List, [], ◌∷◌, ◌++◌, Result, Ok, Err, refl, sym, subst, arith}
+use Rattle.std.proofs.Common.{replicate}
 use Rattle.std.specs.Prelude.{⊤}
 use Rattle.fix_base.specs.declared.identity.Identity.{Identity}
 use Rattle.fix_base.specs.declared.act.Act.{Act}
@@ -19,8 +20,8 @@ use Rattle.fix_engine.specs.Fold.{Each, AndThen, first_ends, both}
 use Rattle.fix_engine.specs.Turn as turn
 use Rattle.fix_engine.specs.Turn.{Live, Taken, Fed, Heard, Clocked, KeptExpected}
 use Rattle.fix_engine.specs.Desk as desk
-use Rattle.fix_engine.specs.Desk.{Desk, sent_ending, Sends, Holding, Offered, beside, Met, Turn, OneTurn, Ran}
-use Rattle.fix_engine.specs.Run.{run_end}
+use Rattle.fix_engine.specs.Desk.{Desk, Sends, Holding, Offered, beside, Met, Turn, OneTurn, Ran}
+use Rattle.fix_engine.specs.Faults.{sent_ending, run_end}
 use Rattle.fix_engine.specs.Turns.{reads_in, ShowsPeerEnd}
 use Rattle.fix_engine.proofs.Turns.{reads_in-append, Answers, Offered-once, Fed-answers, KeptExpected-answers}
 use Rattle.fix_engine.proofs.Shown.{among_before, among_behind, frame_not_over}
@@ -38,8 +39,10 @@ among_either x [] ys a = inr a
 among_either x (y ∷ xs) ys here = inl here
 among_either x (y ∷ xs) ys (there a) = elim (among_either x xs ys a) [ inl l ↦ inl (there l) | inr r ↦ inr r ]
 
-either_notes : (xs ys : List Note) → Among act.Ended (acts_of (xs ++ ys)) → Among act.Ended (acts_of xs) ⊎ Among act.Ended (acts_of ys)
-either_notes xs ys a = among_either act.Ended (acts_of xs) (acts_of ys) (subst (Among act.Ended) (acts_of-append xs ys) a)
+either_notes : (xs ys : List Note) → Among act.Ended (acts_of (xs ++ ys)) → Among act.Ended (acts_of xs) ⊎
+    Among act.Ended (acts_of ys)
+either_notes xs ys a = among_either act.Ended (acts_of xs) (acts_of ys)
+    (subst (Among act.Ended) (acts_of-append xs ys) a)
 
 abbrev Shows : Result ⊤ Ending → List Note → Type 0
 Shows r notes = ShowsPeerEnd (run_end r) (acts_of notes)
@@ -47,27 +50,34 @@ Shows r notes = ShowsPeerEnd (run_end r) (acts_of notes)
 -- notes without a read change nothing
 shows_too : (r : Result ⊤ Ending) (xs ys : List Note) → Shows r xs → Answers ys → Shows r (xs ++ ys)
 shows_too r xs ys s t = record {
-  read = λ h. subst (Among act.Ended) (sym (acts_of-append xs ys)) (among_before act.Ended (acts_of xs) (acts_of ys) (s.read h));
+  read = λ h. subst (Among act.Ended) (sym (acts_of-append xs ys))
+      (among_before act.Ended (acts_of xs) (acts_of ys) (s.read h));
   only = λ a. elim (either_notes xs ys a) [ inl l ↦ s.only l | inr m ↦ absurd (no_end ys t.reads m) ];
 }
 
 -- what went on has no end, and another part follows
 shows_then : (r : Result ⊤ Ending) (xs ys : List Note) → Shows (Ok tt) xs → Shows r ys → Shows r (xs ++ ys)
 shows_then r xs ys s t = record {
-  read = λ h. subst (Among act.Ended) (sym (acts_of-append xs ys)) (among_behind act.Ended (acts_of xs) (acts_of ys) (t.read h));
+  read = λ h. subst (Among act.Ended) (sym (acts_of-append xs ys))
+      (among_behind act.Ended (acts_of xs) (acts_of ys) (t.read h));
   only = λ a. elim (either_notes xs ys a) [ inl l ↦ absurd (s.only l) | inr m ↦ t.only m ];
 }
 
 -- nothing was read of an end, and none is answered
-shows_none : (r : Result ⊤ Ending) (notes : List Note) → (run_end r ≡ run.Closed PeerEnd → ⊥) → (Among act.Ended (acts_of notes) → ⊥) → Shows r notes
+shows_none : (r : Result ⊤ Ending) (notes : List Note) → (run_end r ≡ run.Closed PeerEnd → ⊥) →
+    (Among act.Ended (acts_of notes) → ⊥) → Shows r notes
 shows_none r notes h never = record { read = λ e. absurd (h e); only = λ a. absurd (never a) }
 
-Taken-not_over : (id : Identity) (l : Live) (notes : List Note) (r : Result ⊤ Ending) (to : Live) → Taken id l notes r to → run_end r ≡ run.Closed PeerEnd → ⊥
+Taken-not_over : (id : Identity) (l : Live) (notes : List Note) (r : Result ⊤ Ending) (to : Live) →
+    Taken id l notes r to → run_end r ≡ run.Closed PeerEnd → ⊥
 Taken-not_over id l notes r to (turn.no_more gives) h = cc
-Taken-not_over id l notes r to (turn.ends {s = s} {s' = s'} {e = e} frame gives d) h = frame_not_over id frame s s' notes e d h
-Taken-not_over id l notes r to (turn.goes {mid = mid} {b = b} {more = more} frame gives d k) h = Taken-not_over id (turn.live mid b) more r to k h
+Taken-not_over id l notes r to (turn.ends {s = s} {s' = s'} {e = e} frame gives d) h =
+    frame_not_over id frame s s' notes e d h
+Taken-not_over id l notes r to (turn.goes {mid = mid} {b = b} {more = more} frame gives d k) h =
+    Taken-not_over id (turn.live mid b) more r to k h
 
-Fed-not_over : (id : Identity) (b : List ℕ) (l : Live) (notes : List Note) (r : Result ⊤ Ending) (to : Live) → Fed id b l notes r to → run_end r ≡ run.Closed PeerEnd → ⊥
+Fed-not_over : (id : Identity) (b : List ℕ) (l : Live) (notes : List Note) (r : Result ⊤ Ending) (to : Live) →
+    Fed id b l notes r to → run_end r ≡ run.Closed PeerEnd → ⊥
 Fed-not_over id b l notes r to (turn.fed_frames d) h = Taken-not_over id _ notes r to d h
 Fed-not_over id b l notes r to turn.fed_memory h = cc
 
@@ -81,20 +91,28 @@ none_of_one x (there a) other = elim a [ ]
 none_of_none : Among act.Ended [] → ⊥
 none_of_none a = elim a [ ]
 
-Heard-shows : (id : Identity) (l : Live) (notes : List Note) (r : Result ⊤ Ending) (to : Live) → Heard id l notes r to → Shows r notes
-Heard-shows id l notes r to (turn.bytes {more = more} b some fits d) = shows_none r (Did (act.Read b) ∷ more) (Fed-not_over id b l more r to d) (behind_read b more (Fed-answers id b l more r to d))
-Heard-shows id l notes r to turn.idle = shows_none (Ok tt) (Did act.Idle ∷ []) (λ h. cc) (λ a. none_of_one act.Idle a (λ e. cc))
+Heard-shows : (id : Identity) (l : Live) (notes : List Note) (r : Result ⊤ Ending) (to : Live) →
+    Heard id l notes r to → Shows r notes
+Heard-shows id l notes r to (turn.bytes {more = more} b some fits d) =
+    shows_none r (Did (act.Read b) ∷ more) (Fed-not_over id b l more r to d)
+    (behind_read b more (Fed-answers id b l more r to d))
+Heard-shows id l notes r to turn.idle = shows_none (Ok tt) (Did act.Idle ∷ []) (λ h. cc)
+    (λ a. none_of_one act.Idle a (λ e. cc))
 Heard-shows id l notes r to turn.over = record { read = λ h. here; only = λ a. tt }
-Heard-shows id l notes r to turn.read_lost = shows_none (Err ending.LinkFault) (Failed (LinkPart 0) ∷ []) (λ h. cc) none_of_none
+Heard-shows id l notes r to turn.read_lost =
+    shows_none (Err ending.LinkFault) (Failed (LinkPart 0) ∷ []) (λ h. cc) none_of_none
 Heard-shows id l notes r to turn.read_memory = shows_none (Err ending.OutOfMemory) [] (λ h. cc) none_of_none
 
 Clocked-shows : (l : Live) (notes : List Note) (r : Result ⊤ Ending) (to : Live) → Clocked l notes r to → Shows r notes
-Clocked-shows l notes r to (turn.now t) = shows_none (Ok tt) (Did (act.Now t) ∷ []) (λ h. cc) (λ a. none_of_one (act.Now t) a (λ e. cc))
+Clocked-shows l notes r to (turn.now t) =
+    shows_none (Ok tt) (Did (act.Now t) ∷ []) (λ h. cc) (λ a. none_of_one (act.Now t) a (λ e. cc))
 Clocked-shows l notes r to turn.now_memory = shows_none (Err ending.OutOfMemory) [] (λ h. cc) none_of_none
 
-Looked-shows : (id : Identity) (l : Live) (notes : List Note) (r : Result ⊤ Ending) (to : Live) → AndThen (Heard id) Clocked l notes r to → Shows r notes
+Looked-shows : (id : Identity) (l : Live) (notes : List Note) (r : Result ⊤ Ending) (to : Live) →
+    AndThen (Heard id) Clocked l notes r to → Shows r notes
 Looked-shows id l notes r to (first_ends {e = e} d) = Heard-shows id l notes (Err e) to d
-Looked-shows id l notes r to (both {mid = mid} {first = first} {more = more} d k) = shows_then r first more (Heard-shows id l first (Ok tt) mid d) (Clocked-shows mid more r to k)
+Looked-shows id l notes r to (both {mid = mid} {first = first} {more = more} d k) =
+    shows_then r first more (Heard-shows id l first (Ok tt) mid d) (Clocked-shows mid more r to k)
 
 -- the sending of a draft ends no connection
 sent_not_over : (r : Result ℕ SendFault) → run_end (sent_ending r) ≡ run.Closed PeerEnd → ⊥
@@ -107,48 +125,63 @@ sent_not_over (Err fault.OutOfMemory) h = cc
 sent_not_over (Err fault.StoreFault) h = cc
 sent_not_over (Err (fault.LinkFault n)) h = cc
 
-Sends-not_over : (id : Identity) (draft : DraftText) {d to : Desk} {notes : List Note} {r : Result ⊤ Ending} → Sends id draft d notes r to → run_end r ≡ run.Closed PeerEnd → ⊥
+Sends-not_over : (id : Identity) (draft : DraftText) {d to : Desk} {notes : List Note} {r : Result ⊤ Ending} →
+    Sends id draft d notes r to → run_end r ≡ run.Closed PeerEnd → ⊥
 Sends-not_over id draft (desk.spent full) h = cc
 Sends-not_over id draft (desk.sends {r = x} small is k) h = sent_not_over x h
 
-Holding-not_over : (id : Identity) {d to : Desk} {notes : List Note} {r : Result ⊤ Ending} → Holding id d notes r to → run_end r ≡ run.Closed PeerEnd → ⊥
+Holding-not_over : (id : Identity) {d to : Desk} {notes : List Note} {r : Result ⊤ Ending} → Holding id d notes r to →
+    run_end r ≡ run.Closed PeerEnd → ⊥
 Holding-not_over id (desk.empty held_none) h = cc
 Holding-not_over id (desk.holds draft some k) h = Sends-not_over id draft k h
 
-Offered-not_over : (id : Identity) {d to : Desk} {notes : List Note} {r : Result ⊤ Ending} → Offered id d notes r to → run_end r ≡ run.Closed PeerEnd → ⊥
+Offered-not_over : (id : Identity) {d to : Desk} {notes : List Note} {r : Result ⊤ Ending} → Offered id d notes r to →
+    run_end r ≡ run.Closed PeerEnd → ⊥
 Offered-not_over id (desk.not_up other) h = cc
 Offered-not_over id (desk.asked given up held_none k) h = Holding-not_over id k h
 Offered-not_over id (desk.was_in_hand draft up some k) h = Sends-not_over id draft k h
 
-Offered-shows : (id : Identity) (d : Desk) (notes : List Note) (r : Result ⊤ Ending) (to : Desk) → Offered id d notes r to → Shows r notes
+Offered-shows : (id : Identity) (d : Desk) (notes : List Note) (r : Result ⊤ Ending) (to : Desk) →
+    Offered id d notes r to → Shows r notes
 Offered-shows id d notes r to k =
     let o = Offered-once id d notes r to k in
     shows_none r notes (λ h. Offered-not_over id k h) (λ a. no_end notes o.tallies.reads a)
 
-Met-shows : (id : Identity) (d : Desk) (notes : List Note) (r : Result ⊤ Ending) (to : Desk) → Met id d notes r to → Shows r notes
+Met-shows : (id : Identity) (d : Desk) (notes : List Note) (r : Result ⊤ Ending) (to : Desk) → Met id d notes r to →
+    Shows r notes
 Met-shows id d notes r to (first_ends {e = e} k) = Offered-shows id d notes (Err e) to k
-Met-shows id d notes r to (both {mid = mid} {first = first} {more = more} k (beside {to = end} h)) = shows_then r first more (Offered-shows id d first (Ok tt) mid k) (Looked-shows id mid.live more r end h)
+Met-shows id d notes r to (both {mid = mid} {first = first} {more = more} k (beside {to = end} h)) =
+    shows_then r first more (Offered-shows id d first (Ok tt) mid k) (Looked-shows id mid.live more r end h)
 
 unkept : (l to : Live) (notes all : List Note) (e : Ending) → KeptExpected l notes (Err e) to → Shows (Err e) all
 unkept l to notes all e (turn.expect_lost h) = record { read = λ h. absurd cc; only = λ a. tt }
 unkept l to notes all e (turn.expect_memory h) = record { read = λ h. absurd cc; only = λ a. tt }
 
-Turn-shows : (id : Identity) (d : Desk) (notes : List Note) (r : Result ⊤ Ending) (to : Desk) → Turn id d notes r to → Shows r notes
+Turn-shows : (id : Identity) (d : Desk) (notes : List Note) (r : Result ⊤ Ending) (to : Desk) → Turn id d notes r to →
+    Shows r notes
 Turn-shows id d notes r to (desk.stops h k) = Met-shows id d notes r to k
-Turn-shows id d notes r to (desk.keeps {mid = mid} {first = first} {more = more} h k (beside {to = end} e)) = shows_too r first more (Met-shows id d first r mid k) (KeptExpected-answers mid.live more (Ok tt) end e)
-Turn-shows id d notes r to (desk.keeps_not {mid = mid} {first = first} {more = more} {e = e} h k (beside {to = end} lost)) = unkept mid.live end more (first ++ more) e lost
+Turn-shows id d notes r to (desk.keeps {mid = mid} {first = first} {more = more} h k (beside {to = end} e)) =
+    shows_too r first more (Met-shows id d first r mid k) (KeptExpected-answers mid.live more (Ok tt) end e)
+Turn-shows id d notes r to (desk.keeps_not {mid = mid} {first = first} {more = more} {e = e} h k
+    (beside {to = end} lost)) = unkept mid.live end more (first ++ more) e lost
 
-Turns-show : (id : Identity) (us : List ⊤) (d : Desk) (notes : List Note) (r : Result ⊤ Ending) (to : Desk) → Each (OneTurn id) d us notes r to → Shows r notes
+Turns-show : (id : Identity) (us : List ⊤) (d : Desk) (notes : List Note) (r : Result ⊤ Ending) (to : Desk) →
+    Each (OneTurn id) d us notes r to → Shows r notes
 Turns-show id [] d notes r to fold.none = shows_none (Ok tt) [] (λ h. cc) none_of_none
 Turns-show id (u ∷ us) d notes r to (fold.ends {e = e} k) = Turn-shows id d notes (Err e) to k
-Turns-show id (u ∷ us) d notes r to (fold.goes {mid = mid} {first = first} {more = more} k rest) = shows_then r first more (Turn-shows id d first (Ok tt) mid k) (Turns-show id us mid more r to rest)
+Turns-show id (u ∷ us) d notes r to (fold.goes {mid = mid} {first = first} {more = more} k rest) =
+    shows_then r first more (Turn-shows id d first (Ok tt) mid k) (Turns-show id us mid more r to rest)
 
-Ran-shows : (id : Identity) (n : ℕ) (d : Desk) (notes : List Note) (r : Result ⊤ Ending) (to : Desk) → Ran id n d notes r to → Shows r notes
+Ran-shows : (id : Identity) (n : ℕ) (d : Desk) (notes : List Note) (r : Result ⊤ Ending) (to : Desk) →
+    Ran id n d notes r to → Shows r notes
 Ran-shows id n d notes r to (desk.all_turns k) = Turns-show id (replicate n tt) d notes (Ok tt) to k
-Ran-shows id n d notes r to (desk.cut {to = at} {notes = xs} {e = e} h k) = shows_too (Err e) xs (Did act.Cut ∷ []) (Turns-show id (replicate n tt) d xs (Err e) at k) (record { reads = refl; looks = refl; asks = refl })
+Ran-shows id n d notes r to (desk.cut {to = at} {notes = xs} {e = e} h k) =
+    shows_too (Err e) xs (Did act.Cut ∷ []) (Turns-show id (replicate n tt) d xs (Err e) at k)
+    (record { reads = refl; looks = refl; asks = refl })
 Ran-shows id n d notes r to (desk.cut_memory h k) = record { read = λ h. absurd cc; only = λ a. tt }
 Ran-shows id n d notes r to (desk.no_cut {to = at} {e = e} h k) = Turns-show id (replicate n tt) d notes (Err e) at k
 
 -- a run answers the other side's end just where it read it
-pub shows_peer_end : (id : Identity) (n : ℕ) (d : Desk) (r : Result ⊤ Ending) (to : Desk) (old new : Seen) → Goes old new (λ notes. Ran id n d notes r to) → Goes old new (λ notes. ShowsPeerEnd (run_end r) (acts_of notes))
+pub shows_peer_end : (id : Identity) (n : ℕ) (d : Desk) (r : Result ⊤ Ending) (to : Desk) (old new : Seen) →
+    Goes old new (λ notes. Ran id n d notes r to) → Goes old new (λ notes. ShowsPeerEnd (run_end r) (acts_of notes))
 shows_peer_end id n d r to old new g = (g.0, g.1, Ran-shows id n d g.0 r to g.2)

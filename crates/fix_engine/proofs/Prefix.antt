@@ -1,5 +1,7 @@
 -- Where no part failed, a run is as stated, or memory was refused and it would have gone on.
-use Rattle.std.proofs.Common.{◌≡◌, ◌≢◌, inl, inr, ℕ, zero, suc, ◌+◌, ◌<◌, ◌≤◌, List, [], ◌∷◌, ◌++◌, length, Bool, true, false, Option, Some, None, Result, Ok, Err, refl, sym, ap, subst, append_assoc, arith, replicate}
+use Rattle.std.proofs.Common.{◌≡◌, ◌≢◌, inl, inr, ℕ, zero, suc, ◌+◌, ◌<◌, ◌≤◌, List, [], ◌∷◌, ◌++◌, length, Bool, true}
+use Rattle.std.proofs.Common.{false, Option, Some, None, Result, Ok, Err, refl, sym, ap, subst, append_assoc, arith}
+use Rattle.std.proofs.Common.{replicate}
 use Rattle.std.specs.Prelude.{⊤, ◌==◌, IfSome, option_map, if◌then◌else◌, not, codes}
 use Rattle.std.specs.List.{AllByRecursion}
 use Rattle.std.proofs.lemmas.List.{append-nil}
@@ -14,7 +16,8 @@ use Rattle.fix_base.specs.Says.{fields_text, body_of}
 use Rattle.fix_base.specs.Sealed.{sealed}
 use Rattle.fix_base.specs.declared.act.Act.TheVariants as act
 use Rattle.fix_base.specs.declared.entry.Record.TheVariants.{Push, Expect}
-use Rattle.fix_base.specs.Seen.{Note, Did, Failed, Asked, StorePart, LinkPart, AppPart, Seen, Faults, Counts, NoneRose, Goes}
+use Rattle.fix_base.specs.Seen.{Note, Did, Failed, Asked, StorePart, LinkPart, AppPart, Seen, Faults, Counts, NoneRose}
+use Rattle.fix_base.specs.Seen.{Goes}
 use Rattle.fix_fields.specs.Drafted.{DraftText, IsDraft, draft_body}
 use Rattle.fix_frame.specs.Sealable.{message_text}
 use Rattle.fix_frame.specs.Given.{GivesFrame}
@@ -27,14 +30,17 @@ use Rattle.fix_engine.specs.Fold.{Each, none, ends, goes, AndThen, first_ends, b
 use Rattle.fix_engine.specs.Inbound.{Inbound, IsInbound, IsLogon}
 use Rattle.fix_engine.specs.Written.{header_fields}
 use Rattle.fix_engine.specs.Answer as answer
-use Rattle.fix_engine.specs.Answer.{Performed, Handled, IsSaid, IsSayable, kind_of, fields_of, entry_of, answer_to, answer_in, logon_answer, logout_answer, app_answer, not_built, refused, is_in_order, is_app_type, names}
+use Rattle.fix_engine.specs.Answer.{Performed, Handled, IsSaid, IsSayable, kind_of, fields_of, entry_of, answer_to}
+use Rattle.fix_engine.specs.Answer.{answer_in, logon_answer, logout_answer, app_answer, not_built, refused, is_in_order}
+use Rattle.fix_engine.specs.Answer.{is_app_type, names}
 use Rattle.fix_engine.specs.Turn as turn
-use Rattle.fix_engine.specs.Turn.{Live, live, fed, Taken, Heard, Clocked, KeptExpected, settles_of, is_cut_of}
+use Rattle.fix_engine.specs.Turn.{Live, live, fed, Taken, Heard, Clocked, KeptExpected}
 use Rattle.fix_engine.specs.Drafted as drafted
 use Rattle.fix_engine.specs.Drafted.{IsOfDraft, Drafting, entry_of_draft}
 use Rattle.fix_engine.specs.Desk as turns
-use Rattle.fix_engine.specs.Desk.{Desk, desk, put_down, Sends, Offered, Beside, beside, Met, Turn, OneTurn, Turns, Ran, sent_ending, hand_behind, is_store_fault, no_draft, in_hand}
-use Rattle.fix_engine.specs.Run.{run_end}
+use Rattle.fix_engine.specs.Desk.{Desk, desk, put_down, Sends, Offered, Beside, beside, Met, Turn, OneTurn, Turns, Ran}
+use Rattle.fix_engine.specs.Desk.{hand_behind, no_draft, in_hand}
+use Rattle.fix_engine.specs.Faults.{settles_of, is_cut_of, sent_ending, is_store_fault, run_end}
 use Rattle.fix_engine.specs.Stated.{IsFaultless, GoesOn, CanNotFail, IsAsStated}
 use Rattle.fix_engine.proofs.EachTime.{each_time}
 use Rattle.fix_engine.proofs.EachFrame.{Next, frame_next, none_next, each_presents, each_next}
@@ -52,14 +58,17 @@ IsFaultless-append (Asked d ∷ xs) ys h k = IsFaultless-append xs ys h k
 -- where no count rose nothing failed
 faultless : (old new : Faults) (notes : List Note) → Counts old new notes → NoneRose old new → IsFaultless notes
 faultless old new [] c n = tt
-faultless old new (Did a ∷ notes) c n = faultless old new notes (record { store = c.store; link = c.link; app = c.app }) n
+faultless old new (Did a ∷ notes) c n = faultless old new notes
+    (record { store = c.store; link = c.link; app = c.app }) n
 faultless old new (Failed StorePart ∷ notes) c n = absurd (n.store (let h = c.store in omega arith))
 faultless old new (Failed (LinkPart unsent) ∷ notes) c n = absurd (n.link (let h = c.link in omega arith))
 faultless old new (Failed AppPart ∷ notes) c n = absurd (n.app (let h = c.app in omega arith))
-faultless old new (Asked d ∷ notes) c n = faultless old new notes (record { store = c.store; link = c.link; app = c.app }) n
+faultless old new (Asked d ∷ notes) c n =
+    faultless old new notes (record { store = c.store; link = c.link; app = c.app }) n
 
 -- it goes on to some end, with no further fault and with memory, at which Good holds
-record Onward {S : Type 0} (Good : S → Type 0) (R : S → List Note → Result ⊤ Ending → S → Type 0) (s : S) (notes : List Note) : Type 0 where
+record Onward {S : Type 0} (Good : S → Type 0) (R : S → List Note → Result ⊤ Ending → S → Type 0) (s : S)
+    (notes : List Note) : Type 0 where
   more : List Note
   faultless : IsFaultless more
   r : Result ⊤ Ending
@@ -74,7 +83,8 @@ Total {S} Good R = (s : S) → Good s → Onward Good R s []
 
 -- where memory was refused it would have gone on
 abbrev Resumes : {S : Type 0} → (S → Type 0) → (S → List Note → Result ⊤ Ending → S → Type 0) → Type 0
-Resumes {S} Good R = (s : S) (notes : List Note) (s' : S) → Good s → R s notes (Err ending.OutOfMemory) s' → CanNotFail (Onward Good R s notes)
+Resumes {S} Good R = (s : S) (notes : List Note) (s' : S) → Good s → R s notes (Err ending.OutOfMemory) s' →
+    CanNotFail (Onward Good R s notes)
 
 -- however it ends, the state stays good
 abbrev Stays : {S : Type 0} → (S → Type 0) → (S → List Note → Result ⊤ Ending → S → Type 0) → Type 0
@@ -82,7 +92,8 @@ Stays {S} Good R = (s : S) (notes : List Note) (r : Result ⊤ Ending) (s' : S) 
 
 -- the same, where the expected number is kept behind this end
 abbrev Settles : {S : Type 0} → (S → Type 0) → (S → List Note → Result ⊤ Ending → S → Type 0) → Type 0
-Settles {S} Good R = (s : S) (notes : List Note) (r : Result ⊤ Ending) (s' : S) → settles_of r ≡ true → Good s → R s notes r s' → Good s'
+Settles {S} Good R = (s : S) (notes : List Note) (r : Result ⊤ Ending) (s' : S) → settles_of r ≡ true → Good s →
+    R s notes r s' → Good s'
 
 abbrev failed : Ending → Result ⊤ Ending
 failed e = Err e
@@ -97,11 +108,21 @@ Ok-no_want h = cc
 
 module _ {S X : Type 0} (Good : S → Type 0) (R : S → X → List Note → Result ⊤ Ending → S → Type 0) where
   -- a part and then another, where the first is known so far
-  then_onward : (x : X) (xs : List X) (s : S) (notes : List Note) → Total Good (λ s. Each R s xs) → Onward Good (λ s. R s x) s notes → Onward Good (λ s. Each R s (x ∷ xs)) s notes
+  then_onward : (x : X) (xs : List X) (s : S) (notes : List Note) → Total Good (λ s. Each R s xs) →
+      Onward Good (λ s. R s x) s notes → Onward Good (λ s. Each R s (x ∷ xs)) s notes
   then_onward x xs s notes total g = by-answer g.r g.to g.good g.whole g.no_want
     where
-      by-answer : (r : Result ⊤ Ending) (to : S) → Good to → R s x (notes ++ g.more) r to → r ≢ Err ending.OutOfMemory → Onward Good (λ s. Each R s (x ∷ xs)) s notes
-      by-answer (Err e) to ok d n = record { more = g.more; faultless = g.faultless; r = Err e; to = to; good = ok; whole = ends d; no_want = n }
+      by-answer : (r : Result ⊤ Ending) (to : S) → Good to → R s x (notes ++ g.more) r to →
+          r ≢ Err ending.OutOfMemory → Onward Good (λ s. Each R s (x ∷ xs)) s notes
+      by-answer (Err e) to ok d n = record {
+        more = g.more;
+        faultless = g.faultless;
+        r = Err e;
+        to = to;
+        good = ok;
+        whole = ends d;
+        no_want = n;
+      }
       by-answer (Ok tt') to ok d n =
           let t = total to ok in
           record {
@@ -114,15 +135,28 @@ module _ {S X : Type 0} (Good : S → Type 0) (R : S → X → List Note → Res
             no_want = t.no_want;
           }
 
-  Each-total : (Fit : X → Type 0) → ((x : X) → Fit x → Total Good (λ s. R s x)) → (xs : List X) → AllByRecursion Fit xs → Total Good (λ s. Each R s xs)
-  Each-total Fit one [] fit s ok = record { more = []; faultless = tt; r = Ok tt; to = s; good = ok; whole = none; no_want = Ok-no_want }
+  Each-total : (Fit : X → Type 0) → ((x : X) → Fit x → Total Good (λ s. R s x)) → (xs : List X) →
+      AllByRecursion Fit xs → Total Good (λ s. Each R s xs)
+  Each-total Fit one [] fit s ok = record {
+    more = [];
+    faultless = tt;
+    r = Ok tt;
+    to = s;
+    good = ok;
+    whole = none;
+    no_want = Ok-no_want;
+  }
   Each-total Fit one (x ∷ xs) fit s ok = then_onward x xs s [] (Each-total Fit one xs fit.1) (one x fit.0 s ok)
 
-  Each-resumes : (Fit : X → Type 0) → ((x : X) → Fit x → Total Good (λ s. R s x)) → ((x : X) → Fit x → Resumes Good (λ s. R s x)) → ((x : X) → Settles Good (λ s. R s x)) → (xs : List X) → AllByRecursion Fit xs → Resumes Good (λ s. Each R s xs)
+  Each-resumes : (Fit : X → Type 0) → ((x : X) → Fit x → Total Good (λ s. R s x)) →
+      ((x : X) → Fit x → Resumes Good (λ s. R s x)) → ((x : X) → Settles Good (λ s. R s x)) → (xs : List X) →
+      AllByRecursion Fit xs → Resumes Good (λ s. Each R s xs)
   Each-resumes Fit one again stays [] fit s notes s' ok d = elim d [ ]
-  Each-resumes Fit one again stays (x ∷ xs) fit s notes s' ok (ends d) = λ k. again x fit.0 s notes s' ok d (λ t. k (then_onward x xs s notes (Each-total Fit one xs fit.1) t))
+  Each-resumes Fit one again stays (x ∷ xs) fit s notes s' ok (ends d) =
+      λ k. again x fit.0 s notes s' ok d (λ t. k (then_onward x xs s notes (Each-total Fit one xs fit.1) t))
   Each-resumes Fit one again stays (x ∷ xs) fit s notes s' ok (goes {mid = mid} {first = a} {more = b} d k) =
-      λ hold. Each-resumes Fit one again stays xs fit.1 mid b s' (stays x s a (Ok tt) mid refl ok d) k (λ t. hold (record {
+      λ hold. Each-resumes Fit one again stays xs fit.1 mid b s' (stays x s a (Ok tt) mid refl ok d) k
+      (λ t. hold (record {
         more = t.more;
         faultless = t.faultless;
         r = t.r;
@@ -135,7 +169,8 @@ module _ {S X : Type 0} (Good : S → Type 0) (R : S → X → List Note → Res
   Each-stays : ((x : X) → Stays Good (λ s. R s x)) → (xs : List X) → Stays Good (λ s. Each R s xs)
   Each-stays stays [] s notes r s' ok none = ok
   Each-stays stays (x ∷ xs) s notes r s' ok (ends {e = e} d) = stays x s notes (Err e) s' ok d
-  Each-stays stays (x ∷ xs) s notes r s' ok (goes {mid = mid} {first = a} {more = b} d k) = Each-stays stays xs mid b r s' (stays x s a (Ok tt) mid ok d) k
+  Each-stays stays (x ∷ xs) s notes r s' ok (goes {mid = mid} {first = a} {more = b} d k) =
+      Each-stays stays xs mid b r s' (stays x s a (Ok tt) mid ok d) k
 
 -- ---- one and then another
 
@@ -143,8 +178,17 @@ module _ {S : Type 0} (Good : S → Type 0) (A B : S → List Note → Result �
   both_onward : Total Good B → (s : S) (notes : List Note) → Onward Good A s notes → Onward Good (AndThen A B) s notes
   both_onward total s notes g = by-answer g.r g.to g.good g.whole g.no_want
     where
-      by-answer : (r : Result ⊤ Ending) (to : S) → Good to → A s (notes ++ g.more) r to → r ≢ Err ending.OutOfMemory → Onward Good (AndThen A B) s notes
-      by-answer (Err e) to ok d n = record { more = g.more; faultless = g.faultless; r = Err e; to = to; good = ok; whole = first_ends d; no_want = n }
+      by-answer : (r : Result ⊤ Ending) (to : S) → Good to → A s (notes ++ g.more) r to → r ≢ Err ending.OutOfMemory →
+          Onward Good (AndThen A B) s notes
+      by-answer (Err e) to ok d n = record {
+        more = g.more;
+        faultless = g.faultless;
+        r = Err e;
+        to = to;
+        good = ok;
+        whole = first_ends d;
+        no_want = n;
+      }
       by-answer (Ok x) to ok d n =
           let t = total to ok in
           record {
@@ -161,20 +205,23 @@ module _ {S : Type 0} (Good : S → Type 0) (A B : S → List Note → Result �
   both-total first total s ok = both_onward total s [] (first s ok)
 
   both-resumes : Total Good B → Resumes Good A → Resumes Good B → Settles Good A → Resumes Good (AndThen A B)
-  both-resumes total first more stays s notes s' ok (first_ends d) = λ hold. first s notes s' ok d (λ g. hold (both_onward total s notes g))
-  both-resumes total first more stays s notes s' ok (both {mid = mid} {first = a} {more = b} d k) = λ hold. more mid b s' (stays s a (Ok tt) mid refl ok d) k (λ t. hold (record {
-    more = t.more;
-    faultless = t.faultless;
-    r = t.r;
-    to = t.to;
-    good = t.good;
-    whole = subst (λ w. AndThen A B s w t.r t.to) (sym (append_assoc a b t.more)) (both d t.whole);
-    no_want = t.no_want;
-  }))
+  both-resumes total first more stays s notes s' ok (first_ends d) =
+      λ hold. first s notes s' ok d (λ g. hold (both_onward total s notes g))
+  both-resumes total first more stays s notes s' ok (both {mid = mid} {first = a} {more = b} d k) =
+      λ hold. more mid b s' (stays s a (Ok tt) mid refl ok d) k (λ t. hold (record {
+        more = t.more;
+        faultless = t.faultless;
+        r = t.r;
+        to = t.to;
+        good = t.good;
+        whole = subst (λ w. AndThen A B s w t.r t.to) (sym (append_assoc a b t.more)) (both d t.whole);
+        no_want = t.no_want;
+      }))
 
   both-settles : Settles Good A → Settles Good B → Settles Good (AndThen A B)
   both-settles first more s notes r s' h ok (first_ends {e = e} d) = first s notes (Err e) s' h ok d
-  both-settles first more s notes r s' h ok (both {mid = mid} {first = a} {more = b} d k) = more mid b r s' h (first s a (Ok tt) mid refl ok d) k
+  both-settles first more s notes r s' h ok (both {mid = mid} {first = a} {more = b} d k) =
+      more mid b r s' h (first s a (Ok tt) mid refl ok d) k
 
 -- ---- the steps of an answer
 
@@ -196,36 +243,116 @@ IsFit step.Nothing = ⊤
 abbrev Said : Identity → State → Say → Type 0
 Said id s say = (text : List ℕ) × IsSaid id (s.last + 1) s.reading say text
 
-said : (id : Identity) (s : State) (say : Say) → IsValidIdentity id → s.last < 999999999 → IsTimely s → IsSayable say → Said id s say
+said : (id : Identity) (s : State) (say : Say) → IsValidIdentity id → s.last < 999999999 → IsTimely s →
+    IsSayable say → Said id s say
 said id s say valid few timely fits =
     let at = each_time s.reading timely in
     let header : List ℕ = fields_text (header_fields id (s.last + 1) at.0) in
-    let rest : List ℕ = fields_text (fields_of say) in
-    (sealed id.begin (message_text (kind_of say ∷ []) header rest), said_frame id (s.last + 1) s.reading say header rest _ valid (omega arith) fits (record { at = at.0; sent_at = at.1; spelled = refl }) refl refl)
+    let rest : List ℕ = fields_text (fields_of say) in (
+      sealed id.begin (message_text (kind_of say ∷ []) header rest),
+      said_frame id (s.last + 1) s.reading say header rest _ valid (omega arith) fits
+          (record { at = at.0; sent_at = at.1; spelled = refl }) refl refl,
+    )
 
-Performed-total : (id : Identity) (frame : List ℕ) → IsValidIdentity id → IsFrame frame → (x : Step) → IsFit x → Total IsTimely (λ s. Performed id frame s x)
-Performed-total id frame valid f step.Nothing fit s ok = record { more = []; faultless = tt; r = Ok tt; to = s; good = ok; whole = answer.nothing; no_want = Ok-no_want }
-Performed-total id frame valid f (step.Count n) fit s ok = record { more = []; faultless = tt; r = Ok tt; to = _; good = ok; whole = answer.count n; no_want = Ok-no_want }
-Performed-total id frame valid f step.GoUp fit s ok = record { more = []; faultless = tt; r = Ok tt; to = _; good = ok; whole = answer.go_up; no_want = Ok-no_want }
-Performed-total id frame valid f (step.Close why) fit s ok = record { more = []; faultless = tt; r = Err (ending.Closed why); to = _; good = ok; whole = answer.close why; no_want = λ h. cc }
-Performed-total id frame valid f (step.GiveUp n) fit s ok = record { more = []; faultless = tt; r = Err (ending.NotBuilt n); to = _; good = ok; whole = answer.give_up n; no_want = λ h. cc }
-Performed-total id frame valid f (step.Hand n marked) fit s ok = record { more = Did (act.Handed n marked (body_of (fields_in f))) ∷ []; faultless = tt; r = Ok tt; to = s; good = ok; whole = answer.taken n marked (fields_in f) (frame_has f); no_want = Ok-no_want }
+Performed-total : (id : Identity) (frame : List ℕ) → IsValidIdentity id → IsFrame frame → (x : Step) → IsFit x →
+    Total IsTimely (λ s. Performed id frame s x)
+Performed-total id frame valid f step.Nothing fit s ok =
+    record { more = []; faultless = tt; r = Ok tt; to = s; good = ok; whole = answer.nothing; no_want = Ok-no_want }
+Performed-total id frame valid f (step.Count n) fit s ok =
+    record { more = []; faultless = tt; r = Ok tt; to = _; good = ok; whole = answer.count n; no_want = Ok-no_want }
+Performed-total id frame valid f step.GoUp fit s ok =
+    record { more = []; faultless = tt; r = Ok tt; to = _; good = ok; whole = answer.go_up; no_want = Ok-no_want }
+Performed-total id frame valid f (step.Close why) fit s ok =
+    record {
+      more = [];
+      faultless = tt;
+      r = Err (ending.Closed why);
+      to = _;
+      good = ok;
+      whole = answer.close why;
+      no_want = λ h. cc;
+    }
+Performed-total id frame valid f (step.GiveUp n) fit s ok =
+    record {
+      more = [];
+      faultless = tt;
+      r = Err (ending.NotBuilt n);
+      to = _;
+      good = ok;
+      whole = answer.give_up n;
+      no_want = λ h. cc;
+    }
+Performed-total id frame valid f (step.Hand n marked) fit s ok =
+    record {
+      more = Did (act.Handed n marked (body_of (fields_in f))) ∷ [];
+      faultless = tt;
+      r = Ok tt;
+      to = s;
+      good = ok;
+      whole = answer.taken n marked (fields_in f) (frame_has f);
+      no_want = Ok-no_want;
+    }
 Performed-total id frame valid f (step.Send say n) fit s ok =
     elim (cases_lt s.last 999999999) [
-      | inr h ↦ record { more = []; faultless = tt; r = Err ending.NumbersSpent; to = _; good = ok; whole = answer.spent say n h; no_want = λ h. cc }
+      | inr h ↦ record {
+        more = [];
+        faultless = tt;
+        r = Err ending.NumbersSpent;
+        to = _;
+        good = ok;
+        whole = answer.spent say n h;
+        no_want = λ h. cc;
+      }
       | inl h ↦
           let t = said id s say valid h ok fit in
-          record { more = Did (act.Kept (Push (entry_of s say))) ∷ Did (act.Wrote t.0) ∷ []; faultless = tt; r = Ok tt; to = with_last s (s.last + 1); good = ok; whole = answer.sent say n t.0 h t.1; no_want = Ok-no_want }
+          record {
+            more = Did (act.Kept (Push (entry_of s say))) ∷ Did (act.Wrote t.0) ∷ [];
+            faultless = tt;
+            r = Ok tt;
+            to = with_last s (s.last + 1);
+            good = ok;
+            whole = answer.sent say n t.0 h t.1;
+            no_want = Ok-no_want;
+          }
     ]
 
-Performed-resumes : (id : Identity) (frame : List ℕ) → IsValidIdentity id → IsFrame frame → (x : Step) → IsFit x → Resumes IsTimely (λ s. Performed id frame s x)
-Performed-resumes id frame valid f x fit s notes s' ok (answer.hand_memory n marked) = λ hold. hold (record { more = Did (act.Handed n marked (body_of (fields_in f))) ∷ []; faultless = tt; r = Ok tt; to = s; good = ok; whole = answer.taken n marked (fields_in f) (frame_has f); no_want = Ok-no_want })
+Performed-resumes : (id : Identity) (frame : List ℕ) → IsValidIdentity id → IsFrame frame → (x : Step) → IsFit x →
+    Resumes IsTimely (λ s. Performed id frame s x)
+Performed-resumes id frame valid f x fit s notes s' ok (answer.hand_memory n marked) =
+    λ hold. hold
+    (record {
+      more = Did (act.Handed n marked (body_of (fields_in f))) ∷ [];
+      faultless = tt;
+      r = Ok tt;
+      to = s;
+      good = ok;
+      whole = answer.taken n marked (fields_in f) (frame_has f);
+      no_want = Ok-no_want;
+    })
 Performed-resumes id frame valid f x fit s notes s' ok (answer.keep_memory say n h) =
     let t = said id s say valid h ok fit in
-    λ hold. hold (record { more = Did (act.Kept (Push (entry_of s say))) ∷ Did (act.Wrote t.0) ∷ []; faultless = tt; r = Ok tt; to = with_last s (s.last + 1); good = ok; whole = answer.sent say n t.0 h t.1; no_want = Ok-no_want })
+    λ hold. hold
+    (record {
+      more = Did (act.Kept (Push (entry_of s say))) ∷ Did (act.Wrote t.0) ∷ [];
+      faultless = tt;
+      r = Ok tt;
+      to = with_last s (s.last + 1);
+      good = ok;
+      whole = answer.sent say n t.0 h t.1;
+      no_want = Ok-no_want;
+    })
 Performed-resumes id frame valid f x fit s notes s' ok (answer.write_memory say n h) =
     let t = said id s say valid h ok fit in
-    λ hold. hold (record { more = Did (act.Wrote t.0) ∷ []; faultless = tt; r = Ok tt; to = with_last s (s.last + 1); good = ok; whole = answer.sent say n t.0 h t.1; no_want = Ok-no_want })
+    λ hold. hold
+    (record {
+      more = Did (act.Wrote t.0) ∷ [];
+      faultless = tt;
+      r = Ok tt;
+      to = with_last s (s.last + 1);
+      good = ok;
+      whole = answer.sent say n t.0 h t.1;
+      no_want = Ok-no_want;
+    })
 
 counted_timely : (s : State) (n : Option ℕ) → IsTimely s → IsTimely (counted s n)
 counted_timely s None ok = ok
@@ -244,7 +371,8 @@ Performed-stays id frame x s notes r s' ok (answer.spent say n h) = ok
 Performed-stays id frame x s notes r s' ok (answer.keep_memory say n h) = ok
 Performed-stays id frame x s notes r s' ok (answer.keep_lost say n h) = ok
 Performed-stays id frame x s notes r s' ok (answer.sent say n text h is) = ok
-Performed-stays id frame x s notes r s' ok (answer.write_lost say n text k h is) = counted_timely (with_last s (s.last + 1)) n ok
+Performed-stays id frame x s notes r s' ok (answer.write_lost say n text k h is) =
+    counted_timely (with_last s (s.last + 1)) n ok
 Performed-stays id frame x s notes r s' ok (answer.write_memory say n h) = ok
 
 -- ---- what is answered can be said
@@ -253,7 +381,8 @@ by-test : {A : Type 0} (P : A → Type 0) (t : Bool) (x y : A) → P x → P y �
 by-test P true x y h k = h
 by-test P false x y h k = k
 
-logon-fits : (n : ℕ) (heart : Option ℕ) (i : Inbound) → IfSome heart (λ h. h ≤ 86400) → AllByRecursion IsFit (logon_answer n heart i)
+logon-fits : (n : ℕ) (heart : Option ℕ) (i : Inbound) → IfSome heart (λ h. h ≤ 86400) →
+    AllByRecursion IsFit (logon_answer n heart i)
 logon-fits n None i h = (tt, (tt, (tt, (tt, tt))))
 logon-fits n (Some heart) i h = (omega arith, (tt, (tt, (tt, tt))))
 
@@ -264,98 +393,187 @@ heart_small frame i p = small i.heart p.heart.known
     small None h = tt
     small (Some heart) h = h.at_most_a_day
 
-answers-fit : (frame : List ℕ) (phase : Phase) (id : Identity) (s : State) (i : Inbound) → IsInbound frame i → AllByRecursion IsFit (answer_in phase id s i)
+answers-fit : (frame : List ℕ) (phase : Phase) (id : Identity) (s : State) (i : Inbound) → IsInbound frame i →
+    AllByRecursion IsFit (answer_in phase id s i)
 answers-fit frame Down id s i p = (tt, (tt, (tt, (tt, tt))))
 answers-fit frame AwaitLogon id s i p =
-    by-test (AllByRecursion IsFit) (not (names i.header.type (codes "A"))) (refused i) (if is_in_order id s i then logon_answer s.expected i.heart i else not_built i) (tt, (tt, (tt, (tt, tt))))
-    (by-test (AllByRecursion IsFit) (is_in_order id s i) (logon_answer s.expected i.heart i) (not_built i) (logon-fits s.expected i.heart i (heart_small frame i p)) (tt, (tt, (tt, (tt, tt)))))
+    by-test (AllByRecursion IsFit) (not (names i.header.type (codes "A"))) (refused i)
+    (if is_in_order id s i then logon_answer s.expected i.heart i else not_built i) (tt, (tt, (tt, (tt, tt))))
+    (by-test (AllByRecursion IsFit) (is_in_order id s i) (logon_answer s.expected i.heart i) (not_built i)
+    (logon-fits s.expected i.heart i (heart_small frame i p)) (tt, (tt, (tt, (tt, tt)))))
 answers-fit frame Up id s i p =
     by-test (AllByRecursion IsFit) _ (not_built i) _ (tt, (tt, (tt, (tt, tt))))
-    (by-test (AllByRecursion IsFit) (names i.header.type (codes "5")) (logout_answer s.expected) _ (tt, (tt, (tt, (tt, tt))))
-    (by-test (AllByRecursion IsFit) (is_app_type i.header.type) (app_answer s.expected) (not_built i) (tt, (tt, (tt, (tt, tt)))) (tt, (tt, (tt, (tt, tt))))))
+    (by-test (AllByRecursion IsFit) (names i.header.type (codes "5")) (logout_answer s.expected) _
+    (tt, (tt, (tt, (tt, tt))))
+    (by-test (AllByRecursion IsFit) (is_app_type i.header.type) (app_answer s.expected) (not_built i)
+    (tt, (tt, (tt, (tt, tt)))) (tt, (tt, (tt, (tt, tt))))))
 
 -- ---- the frames
 
-Handled-total : (id : Identity) (frame : List ℕ) → IsValidIdentity id → IsFrame frame → (s : State) → IsTimely s → CanNotFail (Onward IsTimely (λ s. Handled id s frame) s [])
+Handled-total : (id : Identity) (frame : List ℕ) → IsValidIdentity id → IsFrame frame → (s : State) → IsTimely s →
+    CanNotFail (Onward IsTimely (λ s. Handled id s frame) s [])
 Handled-total id frame valid f s ok = λ hold. each_presents frame f (λ p.
-    let t = Each-total IsTimely (Performed id frame) IsFit (Performed-total id frame valid f) (answer_to id s p.0) (answers-fit frame s.phase id s p.0 p.1) s ok in
-    hold (record { more = t.more; faultless = t.faultless; r = t.r; to = t.to; good = t.good; whole = record { inbound = p.0; presents = p.1; carried = t.whole }; no_want = t.no_want }))
+    let t = Each-total IsTimely (Performed id frame) IsFit (Performed-total id frame valid f) (answer_to id s p.0)
+    (answers-fit frame s.phase id s p.0 p.1) s ok in
+    hold (record {
+      more = t.more;
+      faultless = t.faultless;
+      r = t.r;
+      to = t.to;
+      good = t.good;
+      whole = record { inbound = p.0; presents = p.1; carried = t.whole };
+      no_want = t.no_want;
+    }))
 
-Handled-resumes : (id : Identity) (frame : List ℕ) → IsValidIdentity id → IsFrame frame → Resumes IsTimely (λ s. Handled id s frame)
+Handled-resumes : (id : Identity) (frame : List ℕ) → IsValidIdentity id → IsFrame frame →
+    Resumes IsTimely (λ s. Handled id s frame)
 Handled-resumes id frame valid f s notes s' ok d = λ hold.
-    Each-resumes IsTimely (Performed id frame) IsFit (Performed-total id frame valid f) (Performed-resumes id frame valid f) (λ x s notes r s' h. Performed-stays id frame x s notes r s') (answer_to id s d.inbound) (answers-fit frame s.phase id s d.inbound d.presents) s notes s' ok d.carried
-    (λ t. hold (record { more = t.more; faultless = t.faultless; r = t.r; to = t.to; good = t.good; whole = record { inbound = d.inbound; presents = d.presents; carried = t.whole }; no_want = t.no_want }))
+    Each-resumes IsTimely (Performed id frame) IsFit (Performed-total id frame valid f)
+    (Performed-resumes id frame valid f) (λ x s notes r s' h. Performed-stays id frame x s notes r s')
+    (answer_to id s d.inbound) (answers-fit frame s.phase id s d.inbound d.presents) s notes s' ok d.carried
+    (λ t. hold
+    (record {
+      more = t.more;
+      faultless = t.faultless;
+      r = t.r;
+      to = t.to;
+      good = t.good;
+      whole = record { inbound = d.inbound; presents = d.presents; carried = t.whole };
+      no_want = t.no_want;
+    }))
 
 Handled-stays : (id : Identity) (frame : List ℕ) → Stays IsTimely (λ s. Handled id s frame)
-Handled-stays id frame s notes r s' ok d = Each-stays IsTimely (Performed id frame) (Performed-stays id frame) (answer_to id s d.inbound) s notes r s' ok d.carried
+Handled-stays id frame s notes r s' ok d =
+    Each-stays IsTimely (Performed id frame) (Performed-stays id frame) (answer_to id s d.inbound) s notes r s' ok
+    d.carried
 
 -- the state's reading has a text
 abbrev IsOnTime : Live → Type 0
 IsOnTime l = IsTimely l.state
 
-frame_onward : (id : Identity) (s : State) (from behind : Ahead) (frame : List ℕ) (notes : List Note) → GivesFrame from behind frame → ((mid : State) → IsTimely mid → CanNotFail (Onward IsOnTime (Taken id) (live mid behind) [])) → Onward IsTimely (λ s. Handled id s frame) s notes → CanNotFail (Onward IsOnTime (Taken id) (live s from) notes)
+frame_onward : (id : Identity) (s : State) (from behind : Ahead) (frame : List ℕ) (notes : List Note) →
+    GivesFrame from behind frame → ((mid : State) → IsTimely mid →
+    CanNotFail (Onward IsOnTime (Taken id) (live mid behind) [])) →
+    Onward IsTimely (λ s. Handled id s frame) s notes → CanNotFail (Onward IsOnTime (Taken id) (live s from) notes)
 frame_onward id s from behind frame notes gives total g = by-answer g.r g.to g.good g.whole g.no_want
   where
-    by-answer : (r : Result ⊤ Ending) (to : State) → IsTimely to → Handled id s frame (notes ++ g.more) r to → r ≢ Err ending.OutOfMemory → CanNotFail (Onward IsOnTime (Taken id) (live s from) notes)
-    by-answer (Err e) to ok d n = λ hold. hold (record { more = g.more; faultless = g.faultless; r = Err e; to = live to behind; good = ok; whole = turn.ends frame gives d; no_want = n })
+    by-answer : (r : Result ⊤ Ending) (to : State) → IsTimely to → Handled id s frame (notes ++ g.more) r to →
+        r ≢ Err ending.OutOfMemory → CanNotFail (Onward IsOnTime (Taken id) (live s from) notes)
+    by-answer (Err e) to ok d n = λ hold. hold
+        (record {
+          more = g.more;
+          faultless = g.faultless;
+          r = Err e;
+          to = live to behind;
+          good = ok;
+          whole = turn.ends frame gives d;
+          no_want = n;
+        })
     by-answer (Ok x) to ok d n = λ hold. total to ok (λ t. hold (record {
       more = g.more ++ t.more;
       faultless = IsFaultless-append g.more t.more g.faultless t.faultless;
       r = t.r;
       to = t.to;
       good = t.good;
-      whole = subst (λ l. Taken id (live s from) l t.r t.to) (append_assoc notes g.more t.more) (turn.goes frame gives d t.whole);
+      whole = subst (λ l. Taken id (live s from) l t.r t.to) (append_assoc notes g.more t.more)
+          (turn.goes frame gives d t.whole);
       no_want = t.no_want;
     }))
 
 -- what stands next in the bytes, where the frames of fewer bytes are known
-next_onward : (id : Identity) → IsValidIdentity id → (s : State) (from : Ahead) → IsTimely s → ((mid : State) (b : Ahead) → length b.bytes < length from.bytes → IsTimely mid → CanNotFail (Onward IsOnTime (Taken id) (live mid b) [])) → Next from → CanNotFail (Onward IsOnTime (Taken id) (live s from) [])
-next_onward id valid s from ok fewer (none_next b gives) = λ hold. hold (record { more = []; faultless = tt; r = Ok tt; to = live s b; good = ok; whole = turn.no_more gives; no_want = Ok-no_want })
+next_onward : (id : Identity) → IsValidIdentity id → (s : State) (from : Ahead) → IsTimely s →
+    ((mid : State) (b : Ahead) → length b.bytes < length from.bytes → IsTimely mid →
+    CanNotFail (Onward IsOnTime (Taken id) (live mid b) [])) → Next from →
+    CanNotFail (Onward IsOnTime (Taken id) (live s from) [])
+next_onward id valid s from ok fewer (none_next b gives) =
+    λ hold. hold
+    (record {
+      more = [];
+      faultless = tt;
+      r = Ok tt;
+      to = live s b;
+      good = ok;
+      whole = turn.no_more gives;
+      no_want = Ok-no_want;
+    })
 next_onward id valid s from ok fewer (frame_next b frame gives) = λ hold.
-    Handled-total id frame valid gives.frame_there.is.1 s ok (λ g. frame_onward id s from b frame [] gives (λ mid timely. fewer mid b (frame_shortens from b frame gives) timely) g hold)
+    Handled-total id frame valid gives.frame_there.is.1 s ok
+    (λ g. frame_onward id s from b frame [] gives
+    (λ mid timely. fewer mid b (frame_shortens from b frame gives) timely) g hold)
 
 -- the frames of fewer bytes than that
-Taken-few : (id : Identity) → IsValidIdentity id → (n : ℕ) (s : State) (from : Ahead) → length from.bytes < n → IsTimely s → CanNotFail (Onward IsOnTime (Taken id) (live s from) [])
+Taken-few : (id : Identity) → IsValidIdentity id → (n : ℕ) (s : State) (from : Ahead) → length from.bytes < n →
+    IsTimely s → CanNotFail (Onward IsOnTime (Taken id) (live s from) [])
 Taken-few id valid zero s from few ok = absurd (omega arith)
-Taken-few id valid (suc n) s from few ok = λ hold. each_next from (λ next. next_onward id valid s from ok (λ mid b less timely. Taken-few id valid n mid b (omega arith) timely) next hold)
+Taken-few id valid (suc n) s from few ok =
+    λ hold. each_next from (λ next. next_onward id valid s from ok
+    (λ mid b less timely. Taken-few id valid n mid b (omega arith) timely) next hold)
 
-Taken-total : (id : Identity) → IsValidIdentity id → (s : State) (from : Ahead) → IsTimely s → CanNotFail (Onward IsOnTime (Taken id) (live s from) [])
+Taken-total : (id : Identity) → IsValidIdentity id → (s : State) (from : Ahead) → IsTimely s →
+    CanNotFail (Onward IsOnTime (Taken id) (live s from) [])
 Taken-total id valid s from ok = Taken-few id valid (suc (length from.bytes)) s from (omega arith) ok
 
 Taken-resumes : (id : Identity) → IsValidIdentity id → Resumes IsOnTime (Taken id)
 Taken-resumes id valid l notes to ok (turn.ends {s = s} {s' = s'} {a = from} {b = b} frame gives h) = λ hold.
-    Handled-resumes id frame valid gives.frame_there.is.1 s notes s' ok h (λ g. frame_onward id s from b frame notes gives (λ mid timely. Taken-total id valid mid b timely) g hold)
-Taken-resumes id valid l notes to ok (turn.goes {s = s} {mid = mid} {a = from} {b = b} {first = first} {more = more} frame gives h k) = λ hold.
+    Handled-resumes id frame valid gives.frame_there.is.1 s notes s' ok h
+    (λ g. frame_onward id s from b frame notes gives (λ mid timely. Taken-total id valid mid b timely) g hold)
+Taken-resumes id valid l notes to ok (turn.goes {s = s} {mid = mid} {a = from} {b = b} {first = first} {more = more}
+    frame gives h k) = λ hold.
     Taken-resumes id valid (live mid b) more to (Handled-stays id frame s first (Ok tt) mid ok h) k (λ t. hold (record {
       more = t.more;
       faultless = t.faultless;
       r = t.r;
       to = t.to;
       good = t.good;
-      whole = subst (λ l. Taken id (live s from) l t.r t.to) (sym (append_assoc first more t.more)) (turn.goes frame gives h t.whole);
+      whole = subst (λ l. Taken id (live s from) l t.r t.to) (sym (append_assoc first more t.more))
+          (turn.goes frame gives h t.whole);
       no_want = t.no_want;
     }))
 
 Taken-stays : (id : Identity) → Stays IsOnTime (Taken id)
 Taken-stays id l notes r to ok (turn.no_more gives) = ok
-Taken-stays id l notes r to ok (turn.ends {s = s} {s' = s'} {e = e} frame gives h) = Handled-stays id frame s notes (Err e) s' ok h
-Taken-stays id l notes r to ok (turn.goes {s = s} {mid = mid} {b = b} {first = first} {more = more} frame gives h k) = Taken-stays id (live mid b) more r to (Handled-stays id frame s first (Ok tt) mid ok h) k
+Taken-stays id l notes r to ok (turn.ends {s = s} {s' = s'} {e = e} frame gives h) =
+    Handled-stays id frame s notes (Err e) s' ok h
+Taken-stays id l notes r to ok (turn.goes {s = s} {mid = mid} {b = b} {first = first} {more = more} frame gives h k) =
+    Taken-stays id (live mid b) more r to (Handled-stays id frame s first (Ok tt) mid ok h) k
 
 -- ---- a turn
 
 Heard-total : (id : Identity) → Total IsOnTime (Heard id)
-Heard-total id l ok = record { more = Did act.Idle ∷ []; faultless = tt; r = Ok tt; to = l; good = ok; whole = turn.idle; no_want = Ok-no_want }
+Heard-total id l ok = record {
+  more = Did act.Idle ∷ [];
+  faultless = tt;
+  r = Ok tt;
+  to = l;
+  good = ok;
+  whole = turn.idle;
+  no_want = Ok-no_want;
+}
 
-heard_onward : (id : Identity) (l : Live) (b : List ℕ) (notes : List Note) → 0 < length b → length b ≤ 65536 → Onward IsOnTime (Taken id) (live l.state (fed l.ahead b)) notes → Onward IsOnTime (Heard id) l (Did (act.Read b) ∷ notes)
-heard_onward id l b notes some fits t = record { more = t.more; faultless = t.faultless; r = t.r; to = t.to; good = t.good; whole = turn.bytes b some fits (turn.fed_frames t.whole); no_want = t.no_want }
+heard_onward : (id : Identity) (l : Live) (b : List ℕ) (notes : List Note) → 0 < length b → length b ≤ 65536 →
+    Onward IsOnTime (Taken id) (live l.state (fed l.ahead b)) notes →
+    Onward IsOnTime (Heard id) l (Did (act.Read b) ∷ notes)
+heard_onward id l b notes some fits t = record {
+  more = t.more;
+  faultless = t.faultless;
+  r = t.r;
+  to = t.to;
+  good = t.good;
+  whole = turn.bytes b some fits (turn.fed_frames t.whole);
+  no_want = t.no_want;
+}
 
 Heard-resumes : (id : Identity) → IsValidIdentity id → Resumes IsOnTime (Heard id)
-Heard-resumes id valid l notes to ok (turn.bytes {more = more} b some fits (turn.fed_frames d)) = λ hold. Taken-resumes id valid (live l.state (fed l.ahead b)) more to ok d (λ t. hold (heard_onward id l b more some fits t))
-Heard-resumes id valid l notes to ok (turn.bytes b some fits turn.fed_memory) = λ hold. Taken-total id valid l.state (fed l.ahead b) ok (λ t. hold (heard_onward id l b [] some fits t))
+Heard-resumes id valid l notes to ok (turn.bytes {more = more} b some fits (turn.fed_frames d)) =
+    λ hold. Taken-resumes id valid (live l.state (fed l.ahead b)) more to ok d
+    (λ t. hold (heard_onward id l b more some fits t))
+Heard-resumes id valid l notes to ok (turn.bytes b some fits turn.fed_memory) =
+    λ hold. Taken-total id valid l.state (fed l.ahead b) ok (λ t. hold (heard_onward id l b [] some fits t))
 Heard-resumes id valid l notes to ok turn.read_memory = λ hold. hold (Heard-total id l ok)
 
 Heard-stays : (id : Identity) → Stays IsOnTime (Heard id)
-Heard-stays id l notes r to ok (turn.bytes {more = more} b some fits (turn.fed_frames d)) = Taken-stays id (live l.state (fed l.ahead b)) more r to ok d
+Heard-stays id l notes r to ok (turn.bytes {more = more} b some fits (turn.fed_frames d)) =
+    Taken-stays id (live l.state (fed l.ahead b)) more r to ok d
 Heard-stays id l notes r to ok (turn.bytes b some fits turn.fed_memory) = ok
 Heard-stays id l notes r to ok turn.idle = ok
 Heard-stays id l notes r to ok turn.over = ok
@@ -366,7 +584,15 @@ Heard-settles : (id : Identity) → Settles IsOnTime (Heard id)
 Heard-settles id l notes r to h ok d = Heard-stays id l notes r to ok d
 
 Clocked-total : Total IsOnTime Clocked
-Clocked-total l ok = record { more = Did (act.Now 0) ∷ []; faultless = tt; r = Ok tt; to = _; good = omega arith; whole = turn.now 0; no_want = Ok-no_want }
+Clocked-total l ok = record {
+  more = Did (act.Now 0) ∷ [];
+  faultless = tt;
+  r = Ok tt;
+  to = _;
+  good = omega arith;
+  whole = turn.now 0;
+  no_want = Ok-no_want;
+}
 
 Clocked-resumes : Resumes IsOnTime Clocked
 Clocked-resumes l notes to ok turn.now_memory = λ hold. hold (Clocked-total l ok)
@@ -382,7 +608,8 @@ Read-total : (id : Identity) → Total IsOnTime (Read id)
 Read-total id = both-total IsOnTime (Heard id) Clocked (Heard-total id) Clocked-total
 
 Read-resumes : (id : Identity) → IsValidIdentity id → Resumes IsOnTime (Read id)
-Read-resumes id valid = both-resumes IsOnTime (Heard id) Clocked Clocked-total (Heard-resumes id valid) Clocked-resumes (Heard-settles id)
+Read-resumes id valid = both-resumes IsOnTime (Heard id) Clocked Clocked-total (Heard-resumes id valid)
+    Clocked-resumes (Heard-settles id)
 
 Read-settles : (id : Identity) → Settles IsOnTime (Read id)
 Read-settles id = both-settles IsOnTime (Heard id) Clocked (Heard-settles id) Clocked-settles
@@ -402,20 +629,29 @@ record IsReady (d : Desk) : Type 0 where
 abbrev Framed : Identity → State → DraftText → Type 0
 Framed id s draft = (text : List ℕ) × IsOfDraft id (s.last + 1) s.reading draft text
 
-framed : (id : Identity) (s : State) (draft : DraftText) → IsValidIdentity id → s.last < 999999999 → IsTimely s → IsDraft draft → Framed id s draft
+framed : (id : Identity) (s : State) (draft : DraftText) → IsValidIdentity id → s.last < 999999999 → IsTimely s →
+    IsDraft draft → Framed id s draft
 framed id s draft valid few timely is =
     let at = each_time s.reading timely in
-    let header : List ℕ = fields_text (header_fields id (s.last + 1) at.0) in
-    (sealed id.begin (message_text draft.kind header draft.rest), draft_frame id (s.last + 1) s.reading draft header draft.rest _ valid (omega arith) is (record { at = at.0; sent_at = at.1; spelled = refl }) refl refl)
+    let header : List ℕ = fields_text (header_fields id (s.last + 1) at.0) in (
+      sealed id.begin (message_text draft.kind header draft.rest),
+      draft_frame id (s.last + 1) s.reading draft header draft.rest _ valid (omega arith) is
+          (record { at = at.0; sent_at = at.1; spelled = refl }) refl refl,
+    )
 
-behind_drafts : {T : Type 0} (draft : DraftText) (before last : ℕ) (r : Result T SendFault) → IsDraft draft → IsOfDrafts (hand_behind draft before last r)
-behind_drafts draft before last r is = by-test IsOfDrafts (last == before) (record { draft = Some draft; tried = is_store_fault r }) no_draft is tt
+behind_drafts : {T : Type 0} (draft : DraftText) (before last : ℕ) (r : Result T SendFault) → IsDraft draft →
+    IsOfDrafts (hand_behind draft before last r)
+behind_drafts draft before last r is = by-test IsOfDrafts (last == before)
+    (record { draft = Some draft; tried = is_store_fault r }) no_draft is tt
 
 -- the draft is kept and written, of which this is noted so far
 abbrev draft_notes : State → DraftText → List ℕ → List Note
 draft_notes s draft text = Did (act.Kept (Push (entry_of_draft s draft))) ∷ Did (act.Wrote text) ∷ []
 
-draft_onward : (id : Identity) (draft : DraftText) (d : Desk) (notes more : List Note) (text : List ℕ) → IsOnTime d.live → d.live.state.last < 999999999 → IsDraft draft → d.live.state.phase ≡ Up → IsOfDraft id (d.live.state.last + 1) d.live.state.reading draft text → IsFaultless more → notes ++ more ≡ draft_notes d.live.state draft text → Onward IsReady (Sends id draft) d notes
+draft_onward : (id : Identity) (draft : DraftText) (d : Desk) (notes more : List Note) (text : List ℕ) →
+    IsOnTime d.live → d.live.state.last < 999999999 → IsDraft draft → d.live.state.phase ≡ Up →
+    IsOfDraft id (d.live.state.last + 1) d.live.state.reading draft text → IsFaultless more →
+    notes ++ more ≡ draft_notes d.live.state draft text → Onward IsReady (Sends id draft) d notes
 draft_onward id draft d notes more text ok few is up framed calm same =
     let s = d.live.state in
     let sent : Result ℕ SendFault = Ok (s.last + 1) in
@@ -426,18 +662,32 @@ draft_onward id draft d notes more text ok few is up framed calm same =
       r = Ok tt;
       to = to;
       good = record { on_time = ok; drafts = behind_drafts draft s.last (s.last + 1) sent is };
-      whole = subst (λ w. Sends id draft d w (Ok tt) to) (sym same) (turns.sends few is (drafted.sent text up framed (drafted.was_kept is)));
+      whole = subst (λ w. Sends id draft d w (Ok tt) to) (sym same)
+          (turns.sends few is (drafted.sent text up framed (drafted.was_kept is)));
       no_want = Ok-no_want;
     }
 
-Sends-total : (id : Identity) → IsValidIdentity id → (draft : DraftText) (d : Desk) → IsOnTime d.live → IsDraft draft → d.live.state.phase ≡ Up → Onward IsReady (Sends id draft) d []
+Sends-total : (id : Identity) → IsValidIdentity id → (draft : DraftText) (d : Desk) → IsOnTime d.live →
+    IsDraft draft → d.live.state.phase ≡ Up → Onward IsReady (Sends id draft) d []
 Sends-total id valid draft d ok is up =
     elim (cases_lt d.live.state.last 999999999) [
-      | inr h ↦ record { more = []; faultless = tt; r = Err ending.NumbersSpent; to = desk d.live (in_hand draft); good = record { on_time = ok; drafts = is }; whole = turns.spent h; no_want = λ h. cc }
-      | inl h ↦ (let t = framed id d.live.state draft valid h ok is in draft_onward id draft d [] (draft_notes d.live.state draft t.0) t.0 ok h is up t.1 tt refl)
+      | inr h ↦ record {
+        more = [];
+        faultless = tt;
+        r = Err ending.NumbersSpent;
+        to = desk d.live (in_hand draft);
+        good = record { on_time = ok; drafts = is };
+        whole = turns.spent h;
+        no_want = λ h. cc;
+      }
+      | inl h ↦ (let t = framed id d.live.state draft valid h ok is in
+          draft_onward id draft d [] (draft_notes d.live.state draft t.0) t.0 ok h is up t.1 tt refl)
     ]
 
-draft_resumes : (id : Identity) → IsValidIdentity id → (draft : DraftText) (d : Desk) (notes : List Note) (r : Result ℕ SendFault) (s' : State) → IsOnTime d.live → d.live.state.last < 999999999 → IsDraft draft → d.live.state.phase ≡ Up → sent_ending r ≡ Err ending.OutOfMemory → Drafting id draft d.live.state notes r s' → Onward IsReady (Sends id draft) d notes
+draft_resumes : (id : Identity) → IsValidIdentity id →
+    (draft : DraftText) (d : Desk) (notes : List Note) (r : Result ℕ SendFault) (s' : State) → IsOnTime d.live →
+    d.live.state.last < 999999999 → IsDraft draft → d.live.state.phase ≡ Up → sent_ending r ≡ Err ending.OutOfMemory →
+    Drafting id draft d.live.state notes r s' → Onward IsReady (Sends id draft) d notes
 draft_resumes id valid draft d notes r s' ok few is up want drafted.no_memory =
     let t = framed id d.live.state draft valid few ok is in
     draft_onward id draft d [] (draft_notes d.live.state draft t.0) t.0 ok few is up t.1 tt refl
@@ -449,12 +699,17 @@ draft_resumes id valid draft d notes r s' ok few is up want (drafted.stored othe
 draft_resumes id valid draft d notes r s' ok few is up want (drafted.sent text up' said k) = absurd cc
 draft_resumes id valid draft d notes r s' ok few is up want (drafted.write_lost text n up' said k) = absurd cc
 
-Sends-resumes : (id : Identity) → IsValidIdentity id → (draft : DraftText) (d : Desk) (notes : List Note) (r : Result ⊤ Ending) (to : Desk) → IsOnTime d.live → d.live.state.phase ≡ Up → r ≡ Err ending.OutOfMemory → Sends id draft d notes r to → Onward IsReady (Sends id draft) d notes
+Sends-resumes : (id : Identity) → IsValidIdentity id →
+    (draft : DraftText) (d : Desk) (notes : List Note) (r : Result ⊤ Ending) (to : Desk) → IsOnTime d.live →
+    d.live.state.phase ≡ Up → r ≡ Err ending.OutOfMemory → Sends id draft d notes r to →
+    Onward IsReady (Sends id draft) d notes
 Sends-resumes id valid draft d notes r to ok up want (turns.spent few) = absurd cc
-Sends-resumes id valid draft d notes r to ok up want (turns.sends {r = sent} {s = s} few is k) = draft_resumes id valid draft d notes sent s ok few is up want k
+Sends-resumes id valid draft d notes r to ok up want (turns.sends {r = sent} {s = s} few is k) =
+    draft_resumes id valid draft d notes sent s ok few is up want k
 
 -- a draft changes no reading
-draft_timely : (id : Identity) (draft : DraftText) (s : State) (notes : List Note) (r : Result ℕ SendFault) (s' : State) → IsTimely s → Drafting id draft s notes r s' → IsTimely s'
+draft_timely : (id : Identity) (draft : DraftText) (s : State) (notes : List Note) (r : Result ℕ SendFault)
+    (s' : State) → IsTimely s → Drafting id draft s notes r s' → IsTimely s'
 draft_timely id draft s notes r s' ok drafted.no_memory = ok
 draft_timely id draft s notes r s' ok (drafted.lost (drafted.kept_lost is)) = ok
 draft_timely id draft s notes r s' ok (drafted.stored other (drafted.was_kept is)) = ok
@@ -462,15 +717,21 @@ draft_timely id draft s notes r s' ok (drafted.sent text up said (drafted.was_ke
 draft_timely id draft s notes r s' ok (drafted.write_lost text n up said (drafted.was_kept is)) = ok
 draft_timely id draft s notes r s' ok (drafted.write_memory up (drafted.was_kept is)) = ok
 
-Sends-settles : (id : Identity) (draft : DraftText) (d : Desk) (notes : List Note) (r : Result ⊤ Ending) (to : Desk) → settles_of r ≡ true → IsOnTime d.live → Sends id draft d notes r to → IsReady to
+Sends-settles : (id : Identity) (draft : DraftText) (d : Desk) (notes : List Note) (r : Result ⊤ Ending) (to : Desk) →
+    settles_of r ≡ true → IsOnTime d.live → Sends id draft d notes r to → IsReady to
 Sends-settles id draft d notes r to h ok (turns.spent few) = absurd cc
-Sends-settles id draft d notes r to h ok (turns.sends {r = sent} {s = s} few is k) = record { on_time = draft_timely id draft d.live.state notes sent s ok k; drafts = behind_drafts draft d.live.state.last s.last sent is }
+Sends-settles id draft d notes r to h ok (turns.sends {r = sent} {s = s} few is k) =
+    record {
+      on_time = draft_timely id draft d.live.state notes sent s ok k;
+      drafts = behind_drafts draft d.live.state.last s.last sent is;
+    }
 
 in_hand_is : (h : Hand) (draft : DraftText) → IsOfDrafts h → h.draft ≡ Some draft → IsDraft draft
 in_hand_is h draft ok some = subst (λ (x : Option DraftText). IfSome x IsDraft) some ok
 
 -- the application was asked, and has none
-asked_none : (id : Identity) (d : Desk) → IsReady d → d.live.state.phase ≡ Up → d.hand.draft ≡ None → Onward IsReady (Offered id) d []
+asked_none : (id : Identity) (d : Desk) → IsReady d → d.live.state.phase ≡ Up → d.hand.draft ≡ None →
+    Onward IsReady (Offered id) d []
 asked_none id d ok up free = record {
   more = Asked None ∷ [];
   faultless = tt;
@@ -481,21 +742,41 @@ asked_none id d ok up free = record {
   no_want = Ok-no_want;
 }
 
-hand_onward : (id : Identity) (d : Desk) (draft : DraftText) (notes : List Note) → d.live.state.phase ≡ Up → d.hand.draft ≡ Some draft → Onward IsReady (Sends id draft) d notes → Onward IsReady (Offered id) d notes
-hand_onward id d draft notes up some t = record { more = t.more; faultless = t.faultless; r = t.r; to = t.to; good = t.good; whole = turns.was_in_hand draft up some t.whole; no_want = t.no_want }
+hand_onward : (id : Identity) (d : Desk) (draft : DraftText) (notes : List Note) → d.live.state.phase ≡ Up →
+    d.hand.draft ≡ Some draft → Onward IsReady (Sends id draft) d notes → Onward IsReady (Offered id) d notes
+hand_onward id d draft notes up some t =
+    record {
+      more = t.more;
+      faultless = t.faultless;
+      r = t.r;
+      to = t.to;
+      good = t.good;
+      whole = turns.was_in_hand draft up some t.whole;
+      no_want = t.no_want;
+    }
 
-Offered-up : (id : Identity) → IsValidIdentity id → (d : Desk) → IsReady d → d.live.state.phase ≡ Up → Onward IsReady (Offered id) d []
+Offered-up : (id : Identity) → IsValidIdentity id → (d : Desk) → IsReady d → d.live.state.phase ≡ Up →
+    Onward IsReady (Offered id) d []
 Offered-up id valid d ok up = by-hand d.hand.draft refl
   where
     by-hand : (x : Option DraftText) → d.hand.draft ≡ x → Onward IsReady (Offered id) d []
     by-hand None free = asked_none id d ok up free
-    by-hand (Some draft) some = hand_onward id d draft [] up some (Sends-total id valid draft d ok.on_time (in_hand_is d.hand draft ok.drafts some) up)
+    by-hand (Some draft) some = hand_onward id d draft [] up some
+        (Sends-total id valid draft d ok.on_time (in_hand_is d.hand draft ok.drafts some) up)
 
 Offered-total : (id : Identity) → IsValidIdentity id → Total IsReady (Offered id)
 Offered-total id valid d ok = by-phase d.live.state.phase refl
   where
     not_up : d.live.state.phase ≢ Up → Onward IsReady (Offered id) d []
-    not_up other = record { more = []; faultless = tt; r = Ok tt; to = d; good = ok; whole = turns.not_up other; no_want = Ok-no_want }
+    not_up other = record {
+      more = [];
+      faultless = tt;
+      r = Ok tt;
+      to = d;
+      good = ok;
+      whole = turns.not_up other;
+      no_want = Ok-no_want;
+    }
 
     by-phase : (p : Phase) → d.live.state.phase ≡ p → Onward IsReady (Offered id) d []
     by-phase Down is = not_up (λ h. cc)
@@ -506,23 +787,43 @@ Offered-total id valid d ok = by-phase d.live.state.phase refl
 abbrev given_to : Desk → Option DraftText → Desk
 given_to d given = desk d.live (record { draft = given; tried = d.hand.tried })
 
-asked_onward : (id : Identity) (d : Desk) (given : Option DraftText) (draft : DraftText) (notes : List Note) → d.live.state.phase ≡ Up → d.hand.draft ≡ None → given ≡ Some draft → Onward IsReady (Sends id draft) (given_to d given) notes → Onward IsReady (Offered id) d (Asked (option_map draft_body given) ∷ notes)
-asked_onward id d given draft notes up free some t = record { more = t.more; faultless = t.faultless; r = t.r; to = t.to; good = t.good; whole = turns.asked given up free (turns.holds draft some t.whole); no_want = t.no_want }
+asked_onward : (id : Identity) (d : Desk) (given : Option DraftText) (draft : DraftText) (notes : List Note) →
+    d.live.state.phase ≡ Up → d.hand.draft ≡ None → given ≡ Some draft →
+    Onward IsReady (Sends id draft) (given_to d given) notes →
+    Onward IsReady (Offered id) d (Asked (option_map draft_body given) ∷ notes)
+asked_onward id d given draft notes up free some t =
+    record {
+      more = t.more;
+      faultless = t.faultless;
+      r = t.r;
+      to = t.to;
+      good = t.good;
+      whole = turns.asked given up free (turns.holds draft some t.whole);
+      no_want = t.no_want;
+    }
 
 Offered-resumes : (id : Identity) → IsValidIdentity id → Resumes IsReady (Offered id)
-Offered-resumes id valid d notes to ok (turns.asked given up free (turns.holds {notes = more} draft some k)) = λ hold. hold (asked_onward id d given draft more up free some (Sends-resumes id valid draft (given_to d given) more (Err ending.OutOfMemory) to ok.on_time up refl k))
-Offered-resumes id valid d notes to ok (turns.was_in_hand draft up some k) = λ hold. hold (hand_onward id d draft notes up some (Sends-resumes id valid draft d notes (Err ending.OutOfMemory) to ok.on_time up refl k))
+Offered-resumes id valid d notes to ok (turns.asked given up free (turns.holds {notes = more} draft some k)) =
+    λ hold. hold (asked_onward id d given draft more up free some
+    (Sends-resumes id valid draft (given_to d given) more (Err ending.OutOfMemory) to ok.on_time up refl k))
+Offered-resumes id valid d notes to ok (turns.was_in_hand draft up some k) =
+    λ hold. hold (hand_onward id d draft notes up some
+    (Sends-resumes id valid draft d notes (Err ending.OutOfMemory) to ok.on_time up refl k))
 
 Offered-settles : (id : Identity) → Settles IsReady (Offered id)
 Offered-settles id d notes r to h ok (turns.not_up other) = ok
-Offered-settles id d notes r to h ok (turns.asked given up free (turns.empty nothing)) = record { on_time = ok.on_time; drafts = subst (λ (x : Option DraftText). IfSome x IsDraft) (sym nothing) tt }
-Offered-settles id d notes r to h ok (turns.asked given up free (turns.holds {notes = more} draft some k)) = Sends-settles id draft (given_to d given) more r to h ok.on_time k
-Offered-settles id d notes r to h ok (turns.was_in_hand draft up some k) = Sends-settles id draft d notes r to h ok.on_time k
+Offered-settles id d notes r to h ok (turns.asked given up free (turns.empty nothing)) =
+    record { on_time = ok.on_time; drafts = subst (λ (x : Option DraftText). IfSome x IsDraft) (sym nothing) tt }
+Offered-settles id d notes r to h ok (turns.asked given up free (turns.holds {notes = more} draft some k)) =
+    Sends-settles id draft (given_to d given) more r to h ok.on_time k
+Offered-settles id d notes r to h ok (turns.was_in_hand draft up some k) =
+    Sends-settles id draft d notes r to h ok.on_time k
 
 -- ---- what leaves the draft in hand as it is
 
 module _ (R : Live → List Note → Result ⊤ Ending → Live → Type 0) where
-  beside_onward : (d : Desk) (notes : List Note) → IsReady d → Onward IsOnTime R d.live notes → Onward IsReady (Beside R) d notes
+  beside_onward : (d : Desk) (notes : List Note) → IsReady d → Onward IsOnTime R d.live notes →
+      Onward IsReady (Beside R) d notes
   beside_onward d notes ok t = record {
     more = t.more;
     faultless = t.faultless;
@@ -537,21 +838,26 @@ module _ (R : Live → List Note → Result ⊤ Ending → Live → Type 0) wher
   Beside-total total d ok = beside_onward d [] ok (total d.live ok.on_time)
 
   Beside-resumes : Resumes IsOnTime R → Resumes IsReady (Beside R)
-  Beside-resumes again d notes to ok (beside {to = at} k) = λ hold. again d.live notes at ok.on_time k (λ t. hold (beside_onward d notes ok t))
+  Beside-resumes again d notes to ok (beside {to = at} k) =
+      λ hold. again d.live notes at ok.on_time k (λ t. hold (beside_onward d notes ok t))
 
   Beside-settles : Settles IsOnTime R → Settles IsReady (Beside R)
-  Beside-settles stays d notes r to h ok (beside {to = at} k) = record { on_time = stays d.live notes r at h ok.on_time k; drafts = ok.drafts }
+  Beside-settles stays d notes r to h ok (beside {to = at} k) =
+      record { on_time = stays d.live notes r at h ok.on_time k; drafts = ok.drafts }
 
 -- ---- a turn
 
 Met-total : (id : Identity) → IsValidIdentity id → Total IsReady (Met id)
-Met-total id valid = both-total IsReady (Offered id) (Beside (Read id)) (Offered-total id valid) (Beside-total (Read id) (Read-total id))
+Met-total id valid = both-total IsReady (Offered id) (Beside (Read id)) (Offered-total id valid)
+    (Beside-total (Read id) (Read-total id))
 
 Met-resumes : (id : Identity) → IsValidIdentity id → Resumes IsReady (Met id)
-Met-resumes id valid = both-resumes IsReady (Offered id) (Beside (Read id)) (Beside-total (Read id) (Read-total id)) (Offered-resumes id valid) (Beside-resumes (Read id) (Read-resumes id valid)) (Offered-settles id)
+Met-resumes id valid = both-resumes IsReady (Offered id) (Beside (Read id)) (Beside-total (Read id) (Read-total id))
+    (Offered-resumes id valid) (Beside-resumes (Read id) (Read-resumes id valid)) (Offered-settles id)
 
 Met-settles : (id : Identity) → Settles IsReady (Met id)
-Met-settles id = both-settles IsReady (Offered id) (Beside (Read id)) (Offered-settles id) (Beside-settles (Read id) (Read-settles id))
+Met-settles id = both-settles IsReady (Offered id) (Beside (Read id)) (Offered-settles id)
+    (Beside-settles (Read id) (Read-settles id))
 
 -- the expected number can be kept
 record Keeps (l : Live) : Type 0 where
@@ -565,14 +871,29 @@ keeps-total : (l : Live) → Keeps l
 keeps-total l =
     elim (eqb_tells l.state.kept l.state.expected) [
       | inl h ↦ record { more = []; faultless = tt; to = l; good = λ ok. ok; whole = turn.same h.1 }
-      | inr h ↦ record { more = Did (act.Kept (Expect l.state.expected)) ∷ []; faultless = tt; to = live (with_kept l.state) l.ahead; good = λ ok. ok; whole = turn.kept h.1 }
+      | inr h ↦ record {
+        more = Did (act.Kept (Expect l.state.expected)) ∷ [];
+        faultless = tt;
+        to = live (with_kept l.state) l.ahead;
+        good = λ ok. ok;
+        whole = turn.kept h.1;
+      }
     ]
 
-turn_onward : (id : Identity) (d : Desk) (notes : List Note) → Onward IsReady (Met id) d notes → Onward IsReady (Turn id) d notes
+turn_onward : (id : Identity) (d : Desk) (notes : List Note) → Onward IsReady (Met id) d notes →
+    Onward IsReady (Turn id) d notes
 turn_onward id d notes g = by-answer (settles_of g.r) refl
   where
     by-answer : (t : Bool) → settles_of g.r ≡ t → Onward IsReady (Turn id) d notes
-    by-answer false h = record { more = g.more; faultless = g.faultless; r = g.r; to = g.to; good = g.good; whole = turns.stops h g.whole; no_want = g.no_want }
+    by-answer false h = record {
+      more = g.more;
+      faultless = g.faultless;
+      r = g.r;
+      to = g.to;
+      good = g.good;
+      whole = turns.stops h g.whole;
+      no_want = g.no_want;
+    }
     by-answer true h =
         let k = keeps-total g.to.live in
         let to = desk k.to g.to.hand in
@@ -582,7 +903,8 @@ turn_onward id d notes g = by-answer (settles_of g.r) refl
           r = g.r;
           to = to;
           good = record { on_time = k.good g.good.on_time; drafts = g.good.drafts };
-          whole = subst (λ w. Turn id d w g.r to) (append_assoc notes g.more k.more) (turns.keeps h g.whole (beside k.whole));
+          whole = subst (λ w. Turn id d w g.r to) (append_assoc notes g.more k.more)
+              (turns.keeps h g.whole (beside k.whole));
           no_want = g.no_want;
         }
 
@@ -597,13 +919,19 @@ KeptExpected-settles l notes r to h ok (turn.expect_memory other) = ok
 
 Turn-settles : (id : Identity) → Settles IsReady (Turn id)
 Turn-settles id d notes r to h ok (turns.stops other m) = absurd cc
-Turn-settles id d notes r to h ok (turns.keeps {mid = mid} {met = met} {first = first} {more = more} same m k) = Beside-settles KeptExpected KeptExpected-settles mid more (Ok tt) to refl (Met-settles id d first met mid same ok m) k
-Turn-settles id d notes r to h ok (turns.keeps_not {mid = mid} {met = met} {first = first} {more = more} {e = e} same m k) = Beside-settles KeptExpected KeptExpected-settles mid more (Err e) to h (Met-settles id d first met mid same ok m) k
+Turn-settles id d notes r to h ok (turns.keeps {mid = mid} {met = met} {first = first} {more = more} same m k) =
+    Beside-settles KeptExpected KeptExpected-settles mid more (Ok tt) to refl
+    (Met-settles id d first met mid same ok m) k
+Turn-settles id d notes r to h ok (turns.keeps_not {mid = mid} {met = met} {first = first} {more = more} {e = e} same
+    m k) = Beside-settles KeptExpected KeptExpected-settles mid more (Err e) to h
+    (Met-settles id d first met mid same ok m) k
 
 Turn-resumes : (id : Identity) → IsValidIdentity id → Resumes IsReady (Turn id)
-Turn-resumes id valid d notes to ok (turns.stops h m) = λ hold. Met-resumes id valid d notes to ok m (λ g. hold (turn_onward id d notes g))
+Turn-resumes id valid d notes to ok (turns.stops h m) =
+    λ hold. Met-resumes id valid d notes to ok m (λ g. hold (turn_onward id d notes g))
 Turn-resumes id valid d notes to ok (turns.keeps h m k) = absurd cc
-Turn-resumes id valid d notes to ok (turns.keeps_not {mid = mid} {met = met} {first = first} h m (beside (turn.expect_memory n))) =
+Turn-resumes id valid d notes to ok (turns.keeps_not {mid = mid} {met = met} {first = first} h m
+    (beside (turn.expect_memory n))) =
     let good = Met-settles id d first met mid h ok m in
     let kept = desk (live (with_kept mid.live.state) mid.live.ahead) mid.hand in
     λ hold. hold (record {
@@ -612,42 +940,65 @@ Turn-resumes id valid d notes to ok (turns.keeps_not {mid = mid} {met = met} {fi
       r = met;
       to = kept;
       good = record { on_time = good.on_time; drafts = good.drafts };
-      whole = subst (λ w. Turn id d w met kept) (ap (λ w. w ++ Did (act.Kept (Expect mid.live.state.expected)) ∷ []) (sym (append-nil first))) (turns.keeps h m (beside (turn.kept n)));
+      whole = subst (λ w. Turn id d w met kept)
+          (ap (λ w. w ++ Did (act.Kept (Expect mid.live.state.expected)) ∷ []) (sym (append-nil first)))
+          (turns.keeps h m (beside (turn.kept n)));
       no_want = λ e. (let t : settles_of (Err ending.OutOfMemory) ≡ true = subst (λ r. settles_of r ≡ true) e h in cc);
     })
 
 -- ---- a run
 
 Turns-resume : (id : Identity) → IsValidIdentity id → (n : ℕ) → Resumes IsReady (Turns id n)
-Turns-resume id valid n d notes to ok t = Each-resumes IsReady (OneTurn id) (λ u. ⊤) (λ u fit. Turn-total id valid) (λ u fit. Turn-resumes id valid) (λ u. Turn-settles id) (replicate n tt) (all_fit (replicate n tt)) d notes to ok t
+Turns-resume id valid n d notes to ok t =
+    Each-resumes IsReady (OneTurn id) (λ u. ⊤) (λ u fit. Turn-total id valid) (λ u fit. Turn-resumes id valid)
+    (λ u. Turn-settles id) (replicate n tt) (all_fit (replicate n tt)) d notes to ok t
   where
     all_fit : (us : List ⊤) → AllByRecursion (λ u. ⊤) us
     all_fit [] = tt
     all_fit (u ∷ us) = (tt, all_fit us)
 
-run_onward : (id : Identity) (n : ℕ) (d : Desk) (notes : List Note) → Onward IsReady (Turns id n) d notes → GoesOn (Ran id n) d notes
+run_onward : (id : Identity) (n : ℕ) (d : Desk) (notes : List Note) → Onward IsReady (Turns id n) d notes →
+    GoesOn (Ran id n) d notes
 run_onward id n d notes g = by-answer g.r g.to g.whole g.no_want
   where
-    by-cut : (e : Ending) (to : Desk) → Turns id n d (notes ++ g.more) (Err e) to → failed e ≢ Err ending.OutOfMemory → (t : Bool) → is_cut_of e ≡ t → GoesOn (Ran id n) d notes
-    by-cut e to k h false t = record { more = g.more; faultless = g.faultless; r = Err e; to = put_down to; whole = turns.no_cut t k; no_want = h }
+    by-cut : (e : Ending) (to : Desk) → Turns id n d (notes ++ g.more) (Err e) to →
+        failed e ≢ Err ending.OutOfMemory → (t : Bool) → is_cut_of e ≡ t → GoesOn (Ran id n) d notes
+    by-cut e to k h false t = record {
+      more = g.more;
+      faultless = g.faultless;
+      r = Err e;
+      to = put_down to;
+      whole = turns.no_cut t k;
+      no_want = h;
+    }
     by-cut e to k h true t =
         record {
           more = g.more ++ Did act.Cut ∷ [];
           faultless = IsFaultless-append g.more (Did act.Cut ∷ []) g.faultless tt;
           r = Err e;
           to = put_down to;
-          whole = subst (λ w. Ran id n d w (Err e) (put_down to)) (append_assoc notes g.more (Did act.Cut ∷ [])) (turns.cut t k);
+          whole = subst (λ w. Ran id n d w (Err e) (put_down to)) (append_assoc notes g.more (Did act.Cut ∷ []))
+              (turns.cut t k);
           no_want = h;
         }
 
-    by-answer : (r : Result ⊤ Ending) (to : Desk) → Turns id n d (notes ++ g.more) r to → r ≢ Err ending.OutOfMemory → GoesOn (Ran id n) d notes
-    by-answer (Ok x) to k h = record { more = g.more; faultless = g.faultless; r = Ok tt; to = to; whole = turns.all_turns k; no_want = Ok-no_want }
+    by-answer : (r : Result ⊤ Ending) (to : Desk) → Turns id n d (notes ++ g.more) r to → r ≢ Err ending.OutOfMemory →
+        GoesOn (Ran id n) d notes
+    by-answer (Ok x) to k h = record {
+      more = g.more;
+      faultless = g.faultless;
+      r = Ok tt;
+      to = to;
+      whole = turns.all_turns k;
+      no_want = Ok-no_want;
+    }
     by-answer (Err e) to k h = by-cut e to k h (is_cut_of e) refl
 
 err_same : (e : Ending) → failed e ≡ Err ending.OutOfMemory → e ≡ ending.OutOfMemory
 err_same e k = cc
 
-Ran-resumes : (id : Identity) → IsValidIdentity id → (n : ℕ) (d : Desk) (notes : List Note) (to : Desk) → IsReady d → Ran id n d notes (Err ending.OutOfMemory) to → CanNotFail (GoesOn (Ran id n) d notes)
+Ran-resumes : (id : Identity) → IsValidIdentity id → (n : ℕ) (d : Desk) (notes : List Note) (to : Desk) → IsReady d →
+    Ran id n d notes (Err ending.OutOfMemory) to → CanNotFail (GoesOn (Ran id n) d notes)
 Ran-resumes id valid n d notes to ok (turns.cut h k) = absurd cc
 Ran-resumes id valid n d notes to ok (turns.cut_memory {to = at} {e = e} h k) =
     λ hold. hold (record {
@@ -656,20 +1007,38 @@ Ran-resumes id valid n d notes to ok (turns.cut_memory {to = at} {e = e} h k) =
       r = Err e;
       to = put_down at;
       whole = turns.cut h k;
-      no_want = λ k. (let t : is_cut_of ending.OutOfMemory ≡ true = subst (λ e. is_cut_of e ≡ true) (err_same e k) h in cc);
+      no_want = λ k. (let t : is_cut_of ending.OutOfMemory ≡ true =
+          subst (λ e. is_cut_of e ≡ true) (err_same e k) h in cc);
     })
-Ran-resumes id valid n d notes to ok (turns.no_cut {to = at} h k) = λ hold. Turns-resume id valid n d notes at ok k (λ g. hold (run_onward id n d notes g))
+Ran-resumes id valid n d notes to ok (turns.no_cut {to = at} h k) =
+    λ hold. Turns-resume id valid n d notes at ok k (λ g. hold (run_onward id n d notes g))
 
-stated : (id : Identity) → IsValidIdentity id → (n : ℕ) (d : Desk) (notes : List Note) (r : Result ⊤ Ending) (to : Desk) → IsReady d → IsFaultless notes → Ran id n d notes r to → IsAsStated id n d (run_end r) to notes
+stated : (id : Identity) → IsValidIdentity id →
+    (n : ℕ) (d : Desk) (notes : List Note) (r : Result ⊤ Ending) (to : Desk) → IsReady d → IsFaultless notes →
+    Ran id n d notes r to → IsAsStated id n d (run_end r) to notes
 stated id valid n d notes (Ok x) to ok f k = (f, inl ((λ h. cc), record { r = Ok x; answered = refl; ran = k }))
-stated id valid n d notes (Err (ending.Closed why)) to ok f k = (f, inl ((λ h. cc), record { r = Err (ending.Closed why); answered = refl; ran = k }))
-stated id valid n d notes (Err (ending.NotBuilt number)) to ok f k = (f, inl ((λ h. cc), record { r = Err (ending.NotBuilt number); answered = refl; ran = k }))
-stated id valid n d notes (Err ending.StoreFault) to ok f k = (f, inl ((λ h. cc), record { r = Err ending.StoreFault; answered = refl; ran = k }))
-stated id valid n d notes (Err ending.LinkFault) to ok f k = (f, inl ((λ h. cc), record { r = Err ending.LinkFault; answered = refl; ran = k }))
-stated id valid n d notes (Err ending.AppFault) to ok f k = (f, inl ((λ h. cc), record { r = Err ending.AppFault; answered = refl; ran = k }))
-stated id valid n d notes (Err ending.NumbersSpent) to ok f k = (f, inl ((λ h. cc), record { r = Err ending.NumbersSpent; answered = refl; ran = k }))
+stated id valid n d notes (Err (ending.Closed why)) to ok f k =
+    (f, inl ((λ h. cc), record { r = Err (ending.Closed why); answered = refl; ran = k }))
+stated id valid n d notes (Err (ending.NotBuilt number)) to ok f k =
+    (f, inl ((λ h. cc), record { r = Err (ending.NotBuilt number); answered = refl; ran = k }))
+stated id valid n d notes (Err ending.StoreFault) to ok f k =
+    (f, inl ((λ h. cc), record { r = Err ending.StoreFault; answered = refl; ran = k }))
+stated id valid n d notes (Err ending.LinkFault) to ok f k =
+    (f, inl ((λ h. cc), record { r = Err ending.LinkFault; answered = refl; ran = k }))
+stated id valid n d notes (Err ending.AppFault) to ok f k =
+    (f, inl ((λ h. cc), record { r = Err ending.AppFault; answered = refl; ran = k }))
+stated id valid n d notes (Err ending.NumbersSpent) to ok f k =
+    (f, inl ((λ h. cc), record { r = Err ending.NumbersSpent; answered = refl; ran = k }))
 stated id valid n d notes (Err ending.OutOfMemory) to ok f k = (f, inr (refl, Ran-resumes id valid n d notes to ok k))
 
 -- where no count rose a run is as stated
-pub as_stated : (id : Identity) → IsValidIdentity id → (n : ℕ) (d : Desk) (r : Result ⊤ Ending) (to : Desk) (old new : Seen) → d.live.state.reading ≤ LAST_TIME → IfSome d.hand.draft IsDraft → Goes old new (λ notes. Ran id n d notes r to) → NoneRose old.faults new.faults → Goes old new (IsAsStated id n d (run_end r) to)
-as_stated id valid n d r to old new ok drafts g h = (g.0, g.1, stated id valid n d g.0 r to (record { on_time = ok; drafts = drafts }) (faultless old.faults new.faults g.0 g.1.faults h) g.2)
+pub as_stated : (id : Identity) → IsValidIdentity id →
+    (n : ℕ) (d : Desk) (r : Result ⊤ Ending) (to : Desk) (old new : Seen) → d.live.state.reading ≤ LAST_TIME →
+    IfSome d.hand.draft IsDraft → Goes old new (λ notes. Ran id n d notes r to) → NoneRose old.faults new.faults →
+    Goes old new (IsAsStated id n d (run_end r) to)
+as_stated id valid n d r to old new ok drafts g h = (
+  g.0,
+  g.1,
+  stated id valid n d g.0 r to (record { on_time = ok; drafts = drafts })
+      (faultless old.faults new.faults g.0 g.1.faults h) g.2,
+)

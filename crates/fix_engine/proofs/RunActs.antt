@@ -1,5 +1,6 @@
 -- A run opens no connection, resets no store, and keeps what may be sent again.
-use Rattle.std.proofs.Common.{◌≡◌, ◌≢◌, ℕ, ◌+◌, ◌≤◌, List, [], ◌∷◌, ◌++◌, Option, Some, None, Result, refl, sym, subst, lit<, arith}
+use Rattle.std.proofs.Common.{◌≡◌, ◌≢◌, ℕ, ◌+◌, ◌≤◌, List, [], ◌∷◌, ◌++◌, Option, Some, None, Result, refl, sym, subst}
+use Rattle.std.proofs.Common.{lit<, arith}
 use Rattle.std.specs.Prelude.{⊤}
 use Rattle.fix_base.specs.declared.identity.Identity.{Identity}
 use Rattle.fix_base.specs.declared.act.Act.{Act}
@@ -11,12 +12,15 @@ use Rattle.fix_base.proofs.SeenLemmas.{acts_of-append}
 use Rattle.fix_fields.specs.Drafted.{DraftText}
 use Rattle.fix_engine.specs.State.{State, Ending, Step, Say, Logon, Logout, with_last, counted}
 use Rattle.fix_engine.specs.Fold.{Each, none, ends, goes, AndThen, first_ends, both}
-use Rattle.fix_engine.specs.Answer.{Performed, entry_of, nothing, count, go_up, close, give_up, taken, hand_lost, hand_memory, spent, keep_memory, keep_lost, sent, write_lost, write_memory}
+use Rattle.fix_engine.specs.Answer.{Performed, entry_of, nothing, count, go_up, close, give_up, taken, hand_lost}
+use Rattle.fix_engine.specs.Answer.{hand_memory, spent, keep_memory, keep_lost, sent, write_lost, write_memory}
 use Rattle.fix_engine.specs.declared.stop.SendFault.{SendFault}
 use Rattle.fix_engine.specs.Drafted as drafted
 use Rattle.fix_engine.specs.Drafted.{KeepsDraft, Drafting}
 use Rattle.fix_engine.specs.InStep.{IsOfRun, AreOfRun}
-use Rattle.fix_engine.specs.Turn.{Live, Taken, no_more, ends as ends_at, goes as goes_on, fed_frames, fed_memory, Heard, bytes, idle, over, read_lost, read_memory, Clocked, now, now_memory, KeptExpected, same, kept, expect_lost, expect_memory}
+use Rattle.fix_engine.specs.Turn.{Live, Taken, no_more, ends as ends_at, goes as goes_on, fed_frames, fed_memory, Heard}
+use Rattle.fix_engine.specs.Turn.{bytes, idle, over, read_lost, read_memory, Clocked, now, now_memory, KeptExpected}
+use Rattle.fix_engine.specs.Turn.{same, kept, expect_lost, expect_memory}
 use Rattle.fix_engine.specs.Desk as turns
 use Rattle.fix_engine.specs.Desk.{Desk, Sends, Holding, Offered, Beside, Met, Turn, Ran}
 use Rattle.fix_engine.proofs.DraftFrames.{draft_persistent}
@@ -50,21 +54,32 @@ plainly_then t u v xs ys first more h =
     let b = more a.1 in
     (IsRun-append xs ys a.0 b.0, b.1)
 
-Each-plainly : {S X : Type 0} (time : S → ℕ) {R : S → X → List Note → Result ⊤ Ending → S → Type 0} {s s' : S} {xs : List X} {notes : List Note} {r : Result ⊤ Ending} → ((s : S) (x : X) (notes : List Note) (r : Result ⊤ Ending) (s' : S) → R s x notes r s' → Plainly (time s) notes (time s')) → Each R s xs notes r s' → Plainly (time s) notes (time s')
+Each-plainly : {S X : Type 0} (time : S → ℕ) {R : S → X → List Note → Result ⊤ Ending → S → Type 0} {s s' : S}
+    {xs : List X} {notes : List Note} {r : Result ⊤ Ending} →
+    ((s : S) (x : X) (notes : List Note) (r : Result ⊤ Ending) (s' : S) → R s x notes r s' →
+    Plainly (time s) notes (time s')) → Each R s xs notes r s' → Plainly (time s) notes (time s')
 Each-plainly time each none = λ h. (tt, h)
 Each-plainly time each (ends d) = each _ _ _ _ _ d
-Each-plainly time {s = s} {s' = s'} each (goes {mid = mid} {first = first} {more = more} d others) = plainly_then (time s) (time mid) (time s') first more (each _ _ _ _ _ d) (Each-plainly time each others)
+Each-plainly time {s = s} {s' = s'} each (goes {mid = mid} {first = first} {more = more} d others) =
+    plainly_then (time s) (time mid) (time s') first more (each _ _ _ _ _ d) (Each-plainly time each others)
 
 -- an entry that a session keeps may be sent again
 said_persistent : (s : State) (say : Say) → s.reading ≤ LAST_TIME → IsPersistentEntry (entry_of s say)
-said_persistent s (Logon heart) h = record { payload = record { time_fits = h; kind_known = refl; about_fits = lit< tt }; kept = λ e. omega arith }
-said_persistent s Logout h = record { payload = record { time_fits = h; kind_known = refl; about_fits = lit< tt }; kept = λ e. omega arith }
+said_persistent s (Logon heart) h = record {
+  payload = record { time_fits = h; kind_known = refl; about_fits = lit< tt };
+  kept = λ e. omega arith;
+}
+said_persistent s Logout h = record {
+  payload = record { time_fits = h; kind_known = refl; about_fits = lit< tt };
+  kept = λ e. omega arith;
+}
 
 counted_reading : (s : State) (n : Option ℕ) → (counted s n).reading ≡ s.reading
 counted_reading s None = refl
 counted_reading s (Some n) = refl
 
-Performed-plainly : (id : Identity) (frame : List ℕ) (s : State) (x : Step) (notes : List Note) (r : Result ⊤ Ending) (s' : State) → Performed id frame s x notes r s' → Plainly s.reading notes s'.reading
+Performed-plainly : (id : Identity) (frame : List ℕ) (s : State) (x : Step) (notes : List Note) (r : Result ⊤ Ending)
+    (s' : State) → Performed id frame s x notes r s' → Plainly s.reading notes s'.reading
 Performed-plainly id frame s x notes r s' nothing = λ h. (tt, h)
 Performed-plainly id frame s x notes r s' (count n) = λ h. (tt, h)
 Performed-plainly id frame s x notes r s' go_up = λ h. (tt, h)
@@ -77,7 +92,11 @@ Performed-plainly id frame s x notes r s' (spent say n k) = λ h. (tt, h)
 Performed-plainly id frame s x notes r s' (keep_memory say n k) = λ h. (tt, h)
 Performed-plainly id frame s x notes r s' (keep_lost say n k) = λ h. ((said_persistent s say h, tt), h)
 Performed-plainly id frame s x notes r s' (sent say n text k said) = λ h. ((said_persistent s say h, (tt, tt)), h)
-Performed-plainly id frame s x notes r s' (write_lost say n text many k said) = λ h. ((said_persistent s say h, (tt, tt)), subst (λ t. t ≤ LAST_TIME) (sym (counted_reading (with_last s (s.last + 1)) n)) h)
+Performed-plainly id frame s x notes r s' (write_lost say n text many k said) =
+    λ h. (
+      (said_persistent s say h, (tt, tt)),
+      subst (λ t. t ≤ LAST_TIME) (sym (counted_reading (with_last s (s.last + 1)) n)) h,
+    )
 Performed-plainly id frame s x notes r s' (write_memory say n k) = λ h. ((said_persistent s say h, tt), h)
 
 abbrev reading_of : State → ℕ
@@ -86,59 +105,79 @@ reading_of s = s.reading
 abbrev time_of : Live → ℕ
 time_of l = l.state.reading
 
-Taken-plainly : (id : Identity) (l : Live) (notes : List Note) (r : Result ⊤ Ending) (to : Live) → Taken id l notes r to → Plainly l.state.reading notes to.state.reading
+Taken-plainly : (id : Identity) (l : Live) (notes : List Note) (r : Result ⊤ Ending) (to : Live) →
+    Taken id l notes r to → Plainly l.state.reading notes to.state.reading
 Taken-plainly id l notes r to (no_more gives) = λ h. (tt, h)
 Taken-plainly id l notes r to (ends_at frame gives h) = Each-plainly reading_of (Performed-plainly id frame) h.carried
-Taken-plainly id l notes r to (goes_on {s = s} {mid = mid} {first = first} {more = more} frame gives h others) = plainly_then s.reading mid.reading to.state.reading first more (Each-plainly reading_of (Performed-plainly id frame) h.carried) (Taken-plainly id _ _ _ _ others)
+Taken-plainly id l notes r to (goes_on {s = s} {mid = mid} {first = first} {more = more} frame gives h others) =
+    plainly_then s.reading mid.reading to.state.reading first more
+    (Each-plainly reading_of (Performed-plainly id frame) h.carried) (Taken-plainly id _ _ _ _ others)
 
-Heard-plainly : (id : Identity) (l : Live) (notes : List Note) (r : Result ⊤ Ending) (to : Live) → Heard id l notes r to → Plainly l.state.reading notes to.state.reading
-Heard-plainly id l notes r to (bytes b some fits (fed_frames d)) = λ h. (let t = Taken-plainly id _ _ _ _ d h in ((tt, t.0), t.1))
+Heard-plainly : (id : Identity) (l : Live) (notes : List Note) (r : Result ⊤ Ending) (to : Live) →
+    Heard id l notes r to → Plainly l.state.reading notes to.state.reading
+Heard-plainly id l notes r to (bytes b some fits (fed_frames d)) =
+    λ h. (let t = Taken-plainly id _ _ _ _ d h in ((tt, t.0), t.1))
 Heard-plainly id l notes r to (bytes b some fits fed_memory) = λ h. ((tt, tt), h)
 Heard-plainly id l notes r to idle = λ h. ((tt, tt), h)
 Heard-plainly id l notes r to over = λ h. ((tt, tt), h)
 Heard-plainly id l notes r to read_lost = λ h. (tt, h)
 Heard-plainly id l notes r to read_memory = λ h. (tt, h)
 
-Clocked-plainly : (l : Live) (notes : List Note) (r : Result ⊤ Ending) (to : Live) → Clocked l notes r to → Plainly l.state.reading notes to.state.reading
+Clocked-plainly : (l : Live) (notes : List Note) (r : Result ⊤ Ending) (to : Live) → Clocked l notes r to →
+    Plainly l.state.reading notes to.state.reading
 Clocked-plainly l notes r to (now t) = λ h. ((tt, tt), omega arith)
 Clocked-plainly l notes r to now_memory = λ h. (tt, h)
 
-KeptExpected-plainly : (l : Live) (notes : List Note) (r : Result ⊤ Ending) (to : Live) → KeptExpected l notes r to → Plainly l.state.reading notes to.state.reading
+KeptExpected-plainly : (l : Live) (notes : List Note) (r : Result ⊤ Ending) (to : Live) → KeptExpected l notes r to →
+    Plainly l.state.reading notes to.state.reading
 KeptExpected-plainly l notes r to (same k) = λ h. (tt, h)
 KeptExpected-plainly l notes r to (kept k) = λ h. ((tt, tt), h)
 KeptExpected-plainly l notes r to (expect_lost k) = λ h. ((tt, tt), h)
 KeptExpected-plainly l notes r to (expect_memory k) = λ h. (tt, h)
 
 -- one part, and then the other
-AndThen-plainly : {S : Type 0} (time : S → ℕ) {A B : S → List Note → Result ⊤ Ending → S → Type 0} {s s' : S} {notes : List Note} {r : Result ⊤ Ending} → ((s : S) (notes : List Note) (r : Result ⊤ Ending) (s' : S) → A s notes r s' → Plainly (time s) notes (time s')) → ((s : S) (notes : List Note) (r : Result ⊤ Ending) (s' : S) → B s notes r s' → Plainly (time s) notes (time s')) → AndThen A B s notes r s' → Plainly (time s) notes (time s')
+AndThen-plainly : {S : Type 0} (time : S → ℕ) {A B : S → List Note → Result ⊤ Ending → S → Type 0} {s s' : S}
+    {notes : List Note} {r : Result ⊤ Ending} →
+    ((s : S) (notes : List Note) (r : Result ⊤ Ending) (s' : S) → A s notes r s' → Plainly (time s) notes (time s')) →
+    ((s : S) (notes : List Note) (r : Result ⊤ Ending) (s' : S) → B s notes r s' → Plainly (time s) notes (time s')) →
+    AndThen A B s notes r s' → Plainly (time s) notes (time s')
 AndThen-plainly time one other (first_ends d) = one _ _ _ _ d
-AndThen-plainly time {s = s} {s' = s'} one other (both {mid = mid} {first = first} {more = more} d others) = plainly_then (time s) (time mid) (time s') first more (one _ _ _ _ d) (other _ _ _ _ others)
+AndThen-plainly time {s = s} {s' = s'} one other (both {mid = mid} {first = first} {more = more} d others) =
+    plainly_then (time s) (time mid) (time s') first more (one _ _ _ _ d) (other _ _ _ _ others)
 
 -- ---- a draft
 
 -- what is kept of a draft may be sent again
-KeepsDraft-plainly : (d : DraftText) (s : State) (notes : List Note) (r : Result ℕ SendFault) (s' : State) → KeepsDraft d s notes r s' → Plainly s.reading notes s'.reading
+KeepsDraft-plainly : (d : DraftText) (s : State) (notes : List Note) (r : Result ℕ SendFault) (s' : State) →
+    KeepsDraft d s notes r s' → Plainly s.reading notes s'.reading
 KeepsDraft-plainly d s notes r s' drafted.unkept = λ h. (tt, h)
 KeepsDraft-plainly d s notes r s' (drafted.kept_lost is) = λ h. ((draft_persistent s d is h, tt), h)
 KeepsDraft-plainly d s notes r s' (drafted.was_kept is) = λ h. ((draft_persistent s d is h, tt), h)
 
-pub Drafting-plainly : (id : Identity) (d : DraftText) (s : State) (notes : List Note) (r : Result ℕ SendFault) (s' : State) → Drafting id d s notes r s' → Plainly s.reading notes s'.reading
+pub Drafting-plainly : (id : Identity) (d : DraftText) (s : State) (notes : List Note) (r : Result ℕ SendFault)
+    (s' : State) → Drafting id d s notes r s' → Plainly s.reading notes s'.reading
 Drafting-plainly id d s notes r s' drafted.no_memory = λ h. (tt, h)
 Drafting-plainly id d s notes r s' (drafted.lost k) = KeepsDraft-plainly d s notes _ s' k
 Drafting-plainly id d s notes r s' (drafted.stored other k) = KeepsDraft-plainly d s notes _ s' k
-Drafting-plainly id d s notes r s' (drafted.sent {notes = first} text up said k) = plainly_then s.reading s'.reading s'.reading first _ (KeepsDraft-plainly d s first _ s' k) (λ h. ((tt, tt), h))
-Drafting-plainly id d s notes r s' (drafted.write_lost {notes = first} text many up said k) = plainly_then s.reading s'.reading s'.reading first _ (KeepsDraft-plainly d s first _ s' k) (λ h. ((tt, tt), h))
+Drafting-plainly id d s notes r s' (drafted.sent {notes = first} text up said k) =
+    plainly_then s.reading s'.reading s'.reading first _ (KeepsDraft-plainly d s first _ s' k) (λ h. ((tt, tt), h))
+Drafting-plainly id d s notes r s' (drafted.write_lost {notes = first} text many up said k) =
+    plainly_then s.reading s'.reading s'.reading first _ (KeepsDraft-plainly d s first _ s' k) (λ h. ((tt, tt), h))
 Drafting-plainly id d s notes r s' (drafted.write_memory up k) = KeepsDraft-plainly d s notes _ s' k
 
-Sends-plainly : (id : Identity) (draft : DraftText) (d : Desk) (notes : List Note) (r : Result ⊤ Ending) (to : Desk) → Sends id draft d notes r to → Plainly d.live.state.reading notes to.live.state.reading
+Sends-plainly : (id : Identity) (draft : DraftText) (d : Desk) (notes : List Note) (r : Result ⊤ Ending) (to : Desk) →
+    Sends id draft d notes r to → Plainly d.live.state.reading notes to.live.state.reading
 Sends-plainly id draft d notes r to (turns.spent k) = λ h. (tt, h)
-Sends-plainly id draft d notes r to (turns.sends {s = s} small is k) = Drafting-plainly id draft d.live.state notes _ s k
+Sends-plainly id draft d notes r to (turns.sends {s = s} small is k) =
+    Drafting-plainly id draft d.live.state notes _ s k
 
-Holding-plainly : (id : Identity) (d : Desk) (notes : List Note) (r : Result ⊤ Ending) (to : Desk) → Holding id d notes r to → Plainly d.live.state.reading notes to.live.state.reading
+Holding-plainly : (id : Identity) (d : Desk) (notes : List Note) (r : Result ⊤ Ending) (to : Desk) →
+    Holding id d notes r to → Plainly d.live.state.reading notes to.live.state.reading
 Holding-plainly id d notes r to (turns.empty k) = λ h. (tt, h)
 Holding-plainly id d notes r to (turns.holds draft is k) = Sends-plainly id draft d notes r to k
 
-Offered-plainly : (id : Identity) (d : Desk) (notes : List Note) (r : Result ⊤ Ending) (to : Desk) → Offered id d notes r to → Plainly d.live.state.reading notes to.live.state.reading
+Offered-plainly : (id : Identity) (d : Desk) (notes : List Note) (r : Result ⊤ Ending) (to : Desk) →
+    Offered id d notes r to → Plainly d.live.state.reading notes to.live.state.reading
 Offered-plainly id d notes r to (turns.not_up k) = λ h. (tt, h)
 Offered-plainly id d notes r to (turns.asked {notes = more} given up empty k) = λ h. Holding-plainly id _ more r to k h
 Offered-plainly id d notes r to (turns.was_in_hand draft up is k) = Sends-plainly id draft d notes r to k
@@ -148,23 +187,36 @@ Offered-plainly id d notes r to (turns.was_in_hand draft up is k) = Sends-plainl
 abbrev time_at : Desk → ℕ
 time_at d = d.live.state.reading
 
-Beside-plainly : {R : Live → List Note → Result ⊤ Ending → Live → Type 0} → ((l : Live) (notes : List Note) (r : Result ⊤ Ending) (to : Live) → R l notes r to → Plainly l.state.reading notes to.state.reading) → (d : Desk) (notes : List Note) (r : Result ⊤ Ending) (to : Desk) → Beside R d notes r to → Plainly d.live.state.reading notes to.live.state.reading
+Beside-plainly : {R : Live → List Note → Result ⊤ Ending → Live → Type 0} →
+    ((l : Live) (notes : List Note) (r : Result ⊤ Ending) (to : Live) → R l notes r to →
+    Plainly l.state.reading notes to.state.reading) →
+    (d : Desk) (notes : List Note) (r : Result ⊤ Ending) (to : Desk) → Beside R d notes r to →
+    Plainly d.live.state.reading notes to.live.state.reading
 Beside-plainly part d notes r to (turns.beside {to = mid} k) = part d.live notes r mid k
 
-HeardClocked-plainly : (id : Identity) (l : Live) (notes : List Note) (r : Result ⊤ Ending) (to : Live) → AndThen (Heard id) Clocked l notes r to → Plainly l.state.reading notes to.state.reading
+HeardClocked-plainly : (id : Identity) (l : Live) (notes : List Note) (r : Result ⊤ Ending) (to : Live) →
+    AndThen (Heard id) Clocked l notes r to → Plainly l.state.reading notes to.state.reading
 HeardClocked-plainly id l notes r to = AndThen-plainly time_of (Heard-plainly id) Clocked-plainly
 
-Met-plainly : (id : Identity) {d to : Desk} {notes : List Note} {r : Result ⊤ Ending} → Met id d notes r to → Plainly d.live.state.reading notes to.live.state.reading
+Met-plainly : (id : Identity) {d to : Desk} {notes : List Note} {r : Result ⊤ Ending} → Met id d notes r to →
+    Plainly d.live.state.reading notes to.live.state.reading
 Met-plainly id = AndThen-plainly time_at (Offered-plainly id) (Beside-plainly (HeardClocked-plainly id))
 
-Turn-plainly : (id : Identity) (d : Desk) (u : ⊤) (notes : List Note) (r : Result ⊤ Ending) (to : Desk) → Turn id d notes r to → Plainly d.live.state.reading notes to.live.state.reading
+Turn-plainly : (id : Identity) (d : Desk) (u : ⊤) (notes : List Note) (r : Result ⊤ Ending) (to : Desk) →
+    Turn id d notes r to → Plainly d.live.state.reading notes to.live.state.reading
 Turn-plainly id d u notes r to (turns.stops h k) = Met-plainly id k
-Turn-plainly id d u notes r to (turns.keeps {mid = mid} {first = first} {more = more} h k last) = plainly_then d.live.state.reading mid.live.state.reading to.live.state.reading first more (Met-plainly id k) (Beside-plainly KeptExpected-plainly _ _ _ _ last)
-Turn-plainly id d u notes r to (turns.keeps_not {mid = mid} {first = first} {more = more} h k last) = plainly_then d.live.state.reading mid.live.state.reading to.live.state.reading first more (Met-plainly id k) (Beside-plainly KeptExpected-plainly _ _ _ _ last)
+Turn-plainly id d u notes r to (turns.keeps {mid = mid} {first = first} {more = more} h k last) =
+    plainly_then d.live.state.reading mid.live.state.reading to.live.state.reading first more (Met-plainly id k)
+    (Beside-plainly KeptExpected-plainly _ _ _ _ last)
+Turn-plainly id d u notes r to (turns.keeps_not {mid = mid} {first = first} {more = more} h k last) =
+    plainly_then d.live.state.reading mid.live.state.reading to.live.state.reading first more (Met-plainly id k)
+    (Beside-plainly KeptExpected-plainly _ _ _ _ last)
 
 -- the acts of a run, from a reading on that is before the end of 2099
-pub Ran-plainly : (id : Identity) (n : ℕ) (d : Desk) (notes : List Note) (r : Result ⊤ Ending) (to : Desk) → Ran id n d notes r to → d.live.state.reading ≤ LAST_TIME → IsRun notes
+pub Ran-plainly : (id : Identity) (n : ℕ) (d : Desk) (notes : List Note) (r : Result ⊤ Ending) (to : Desk) →
+    Ran id n d notes r to → d.live.state.reading ≤ LAST_TIME → IsRun notes
 Ran-plainly id n d notes r to (turns.all_turns k) h = (Each-plainly time_at (Turn-plainly id) k h).0
-Ran-plainly id n d notes r to (turns.cut {notes = first} c k) h = IsRun-append first (Did act.Cut ∷ []) (Each-plainly time_at (Turn-plainly id) k h).0 (tt, tt)
+Ran-plainly id n d notes r to (turns.cut {notes = first} c k) h =
+    IsRun-append first (Did act.Cut ∷ []) (Each-plainly time_at (Turn-plainly id) k h).0 (tt, tt)
 Ran-plainly id n d notes r to (turns.cut_memory c k) h = (Each-plainly time_at (Turn-plainly id) k h).0
 Ran-plainly id n d notes r to (turns.no_cut c k) h = (Each-plainly time_at (Turn-plainly id) k h).0

@@ -19,7 +19,12 @@ use Rattle.fix_engine.specs.declared.stop.StopCause.{StopCause}
 use Rattle.fix_engine.specs.Turn.{Live, live}
 use Rattle.fix_engine.specs.Run.{Seat}
 use Rattle.fix_engine.specs.Drafted as drafted
+<<<<<<< HEAD
 use Rattle.fix_engine.specs.Drafted.{KeepsDraft, Drafting, Drafted, SentTo, SendsTo, entry_of_draft, is_link_fault, open_sent, send_stop, SendHasCause}
+=======
+use Rattle.fix_engine.specs.Drafted.{KeepsDraft, Drafting, Drafted, SentTo, SendsTo, entry_of_draft, SendHasCause}
+use Rattle.fix_engine.specs.Faults.{is_link_fault, open_sent, send_stop}
+>>>>>>> 96824219a17e0c1d58d40506ff6d577247a7c6f7
 use Rattle.fix_engine.specs.Lawful.{HasNumbers, IsCertain, Fits, HasLeft, Leads}
 use Rattle.fix_engine.specs.InStep as step
 use Rattle.fix_engine.specs.InStep.{IsBeside, IsTape, IsInStep, StandsInStep, Trails, IsConnected, AreOfRun}

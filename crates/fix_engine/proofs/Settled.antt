@@ -6,16 +6,18 @@ use Rattle.fix_base.specs.Seen.{Note}
 use Rattle.fix_engine.specs.State.{Ending}
 use Rattle.fix_engine.specs.declared.state.Ending.TheVariants as ending
 use Rattle.fix_engine.specs.Fold.{Each, none, ends, goes}
-use Rattle.fix_engine.specs.Turn.{Live, KeptExpected, same, kept, expect_lost, expect_memory, settles_of}
-use Rattle.fix_engine.specs.Desk.{Desk, beside, Turn, stops, keeps, keeps_not, OneTurn, Ran, all_turns, cut, cut_memory, no_cut}
-use Rattle.fix_engine.specs.Run.{run_end}
+use Rattle.fix_engine.specs.Turn.{Live, KeptExpected, same, kept, expect_lost, expect_memory}
+use Rattle.fix_engine.specs.Desk.{Desk, beside, Turn, stops, keeps, keeps_not, OneTurn, Ran, all_turns, cut, cut_memory}
+use Rattle.fix_engine.specs.Desk.{no_cut}
+use Rattle.fix_engine.specs.Faults.{settles_of, run_end}
 use Rattle.fix_engine.specs.Turns.{IsSettled}
 
 -- where the answer settles, the expected number is kept
 record Settles (r : Result ⊤ Ending) (l : Live) : Type 0 where
   holds : settles_of r ≡ true → l.state.kept ≡ l.state.expected
 
-KeptExpected-settles : (l to : Live) (notes : List Note) (r : Result ⊤ Ending) → KeptExpected l notes (Ok tt) to → Settles r to
+KeptExpected-settles : (l to : Live) (notes : List Note) (r : Result ⊤ Ending) → KeptExpected l notes (Ok tt) to →
+    Settles r to
 KeptExpected-settles l to notes r (same h) = record { holds = λ s. h }
 KeptExpected-settles l to notes r (kept h) = record { holds = λ s. refl }
 
@@ -23,12 +25,14 @@ unkept : (l to : Live) (notes : List Note) (e : Ending) → KeptExpected l notes
 unkept l to notes e (expect_lost h) = record { holds = λ s. cc }
 unkept l to notes e (expect_memory h) = record { holds = λ s. cc }
 
-Turn-settles : (id : Identity) (d : Desk) (notes : List Note) (r : Result ⊤ Ending) (to : Desk) → Turn id d notes r to → Settles r to.live
+Turn-settles : (id : Identity) (d : Desk) (notes : List Note) (r : Result ⊤ Ending) (to : Desk) →
+    Turn id d notes r to → Settles r to.live
 Turn-settles id d notes r to (stops h k) = record { holds = λ s. cc }
 Turn-settles id d notes r to (keeps h k (beside {to = end} e)) = KeptExpected-settles _ end _ r e
 Turn-settles id d notes r to (keeps_not {e = e} h k (beside {to = end} lost)) = unkept _ end _ e lost
 
-Turns-settle : (id : Identity) (us : List ⊤) (d : Desk) (notes : List Note) (r : Result ⊤ Ending) (to : Desk) → (us ≡ [] → d.live.state.kept ≡ d.live.state.expected) → Each (OneTurn id) d us notes r to → Settles r to.live
+Turns-settle : (id : Identity) (us : List ⊤) (d : Desk) (notes : List Note) (r : Result ⊤ Ending) (to : Desk) →
+    (us ≡ [] → d.live.state.kept ≡ d.live.state.expected) → Each (OneTurn id) d us notes r to → Settles r to.live
 Turns-settle id [] d notes r to held none = record { holds = λ s. held refl }
 Turns-settle id (u ∷ us) d notes r to held (ends k) = Turn-settles id d notes r to k
 Turns-settle id (u ∷ us) d notes r to held (goes {mid = mid} k more) =
@@ -39,7 +43,8 @@ none_made : (n : ℕ) → replicate {A = ⊤} n tt ≡ [] → n ≡ 0
 none_made zero e = refl
 none_made (suc n) e = cc
 
-settled_end : (r : Result ⊤ Ending) (to down : Live) → down.state.kept ≡ to.state.kept → down.state.expected ≡ to.state.expected → Settles r to → IsSettled (run_end r) down.state
+settled_end : (r : Result ⊤ Ending) (to down : Live) → down.state.kept ≡ to.state.kept →
+    down.state.expected ≡ to.state.expected → Settles r to → IsSettled (run_end r) down.state
 settled_end (Ok x) to down k e s = (let h = s.holds refl in cc)
 settled_end (Err (ending.Closed why)) to down k e s = (let h = s.holds refl in cc)
 settled_end (Err (ending.NotBuilt n)) to down k e s = (let h = s.holds refl in cc)
@@ -50,8 +55,15 @@ settled_end (Err ending.NumbersSpent) to down k e s = tt
 settled_end (Err ending.OutOfMemory) to down k e s = tt
 
 -- behind a run the expected number is kept, unless the store failed, memory was refused or the numbers are spent
-pub Ran-settled : (id : Identity) (n : ℕ) (d : Desk) (notes : List Note) (r : Result ⊤ Ending) (to : Desk) → (n ≡ 0 → d.live.state.kept ≡ d.live.state.expected) → Ran id n d notes r to → IsSettled (run_end r) to.live.state
-Ran-settled id n d notes r to held (all_turns k) = settled_end (Ok tt) to.live to.live refl refl (Turns-settle id (replicate n tt) d _ (Ok tt) to (λ e. held (none_made n e)) k)
-Ran-settled id n d notes r to held (cut {to = at} {e = e} h k) = settled_end (Err e) at.live to.live refl refl (Turns-settle id (replicate n tt) d _ (Err e) at (λ e. held (none_made n e)) k)
+pub Ran-settled : (id : Identity) (n : ℕ) (d : Desk) (notes : List Note) (r : Result ⊤ Ending) (to : Desk) →
+    (n ≡ 0 → d.live.state.kept ≡ d.live.state.expected) → Ran id n d notes r to → IsSettled (run_end r) to.live.state
+Ran-settled id n d notes r to held (all_turns k) =
+    settled_end (Ok tt) to.live to.live refl refl
+    (Turns-settle id (replicate n tt) d _ (Ok tt) to (λ e. held (none_made n e)) k)
+Ran-settled id n d notes r to held (cut {to = at} {e = e} h k) =
+    settled_end (Err e) at.live to.live refl refl
+    (Turns-settle id (replicate n tt) d _ (Err e) at (λ e. held (none_made n e)) k)
 Ran-settled id n d notes r to held (cut_memory h k) = tt
-Ran-settled id n d notes r to held (no_cut {to = at} {e = e} h k) = settled_end (Err e) at.live to.live refl refl (Turns-settle id (replicate n tt) d _ (Err e) at (λ e. held (none_made n e)) k)
+Ran-settled id n d notes r to held (no_cut {to = at} {e = e} h k) =
+    settled_end (Err e) at.live to.live refl refl
+    (Turns-settle id (replicate n tt) d _ (Err e) at (λ e. held (none_made n e)) k)

@@ -24,7 +24,14 @@ frame_nonempty : (text : List ℕ) → IsFrame text → 0 < length text
 frame_nonempty text f =
     let s = f.shape in
     let t = s.is_trailer in
-    omega (arith, ap length s.spelled, length-append f.parts.before_sum s.trailer, ap length t.spelled, length-append t.first t.second, ap length t.is_first)
+    omega (
+      arith,
+      ap length s.spelled,
+      length-append f.parts.before_sum s.trailer,
+      ap length t.spelled,
+      length-append t.first t.second,
+      ap length t.is_first,
+    )
 
 -- a frame leaves fewer
 pub frame_shortens : (a b : Ahead) (frame : List ℕ) → GivesFrame a b frame → length b.bytes < length a.bytes
@@ -40,14 +47,21 @@ Left id l from at mid = Begun (Taken id l) (Taken id) from at mid
 pub start : (id : Identity) (l : Live) (w : Seen) → Left id l w w l
 start id l w = begin (Taken id l) (Taken id) w l (λ more r t e. e)
 
-pub one_more : (id : Identity) (l : Live) (a b c : Seen) (s mid : State) (from to : Ahead) (frame : List ℕ) → Left id l a b (live s from) → GivesFrame from to frame → Goes b c (λ notes. Handled id s frame notes (Ok tt) mid) → Left id l a c (live mid to)
+pub one_more : (id : Identity) (l : Live) (a b c : Seen) (s mid : State) (from to : Ahead) (frame : List ℕ) →
+    Left id l a b (live s from) → GivesFrame from to frame →
+    Goes b c (λ notes. Handled id s frame notes (Ok tt) mid) → Left id l a c (live mid to)
 one_more id l a b c s mid from to frame before gives step =
-    on (Taken id l) (Taken id) (Taken id) a b c (live s from) (live mid to) before (step.0, step.1, λ more r t e. goes frame gives step.2 e)
+    on (Taken id l) (Taken id) (Taken id) a b c (live s from) (live mid to) before
+    (step.0, step.1, λ more r t e. goes frame gives step.2 e)
 
-pub ended : (id : Identity) (l : Live) (a b c : Seen) (s s' : State) (from to : Ahead) (frame : List ℕ) (e : Ending) → Left id l a b (live s from) → GivesFrame from to frame → Goes b c (λ notes. Handled id s frame notes (Err e) s') → Goes a c (λ notes. Taken id l notes (Err e) (live s' to))
+pub ended : (id : Identity) (l : Live) (a b c : Seen) (s s' : State) (from to : Ahead) (frame : List ℕ) (e : Ending) →
+    Left id l a b (live s from) → GivesFrame from to frame → Goes b c (λ notes. Handled id s frame notes (Err e) s') →
+    Goes a c (λ notes. Taken id l notes (Err e) (live s' to))
 ended id l a b c s s' from to frame e before gives step =
-    end_of (Taken id l) (Taken id) a b c (live s from) (live s' to) (Err e) before (step.0, step.1, ends frame gives step.2)
+    end_of (Taken id l) (Taken id) a b c (live s from) (live s' to) (Err e) before
+    (step.0, step.1, ends frame gives step.2)
 
-pub all_done : (id : Identity) (l : Live) (a b : Seen) (s : State) (from to : Ahead) → Left id l a b (live s from) → GivesNone from to → Goes a b (λ notes. Taken id l notes (Ok tt) (live s to))
+pub all_done : (id : Identity) (l : Live) (a b : Seen) (s : State) (from to : Ahead) → Left id l a b (live s from) →
+    GivesNone from to → Goes a b (λ notes. Taken id l notes (Ok tt) (live s to))
 all_done id l a b s from to before gives =
     end_of (Taken id l) (Taken id) a b b (live s from) (live s to) (Ok tt) before ([], Moves-nil b, no_more gives)

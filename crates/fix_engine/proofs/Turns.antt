@@ -19,7 +19,7 @@ use Rattle.fix_engine.specs.Drafted as drafted
 use Rattle.fix_engine.specs.Drafted.{KeepsDraft, Drafting}
 use Rattle.fix_engine.specs.Desk as desk
 use Rattle.fix_engine.specs.Desk.{Desk, Sends, Holding, Offered, beside, Met, Turn, OneTurn, stops, keeps, keeps_not, Ran, all_turns, cut, cut_memory, no_cut}
-use Rattle.fix_engine.specs.Run.{run_end}
+use Rattle.fix_engine.specs.Faults.{run_end}
 use Rattle.fix_engine.specs.Turns.{reads_in, looks_in, asks_in, IsMadeOf, HasTurns}
 
 pub reads_in-append : (xs ys : List Act) → reads_in (xs ++ ys) ≡ reads_in xs + reads_in ys

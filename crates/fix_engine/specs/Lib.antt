@@ -1,4 +1,6 @@
 pub mod State
+pub mod Ready
+pub mod Faults
 pub mod Fold
 pub mod Inbound
 pub mod Presented

@@ -7,7 +7,6 @@ use Rattle.fix_base.specs.Stream.{Ahead}
 use Rattle.fix_base.specs.declared.act.Act.TheVariants as act
 use Rattle.fix_base.specs.Seen.{Faults, Note, Did, Rises}
 use Rattle.fix_engine.specs.State.{State, Phase, Down, AwaitLogon, Ending}
-use Rattle.fix_engine.specs.declared.state.Ending.TheVariants as ending
 use Rattle.fix_engine.specs.declared.stop.RunEnd.{RunEnd}
 use Rattle.fix_engine.specs.declared.stop.RunEnd.TheVariants as run
 use Rattle.fix_engine.specs.declared.stop.StopCause.{StopCause}
@@ -18,6 +17,7 @@ use Rattle.fix_rim.specs.declared.outside.LoadFault.{LoadFault}
 use Rattle.fix_rim.specs.declared.outside.LoadFault.TheVariants as load
 use Rattle.fix_rim.specs.Outside.{loads}
 use Rattle.fix_engine.specs.declared.hand.Hand.{Hand}
+use Rattle.fix_engine.specs.Faults.{run_end, stays_stopped}
 use Rattle.fix_engine.specs.Turn.{Live, live}
 use Rattle.fix_engine.specs.Desk.{Desk, desk, Ran, no_draft, hand_again}
 
@@ -34,40 +34,23 @@ desk_of seat = desk seat.live seat.hand
 
 -- a session that starts from these numbers
 abbrev pub state_of : Stored → State
-state_of stored = record { phase = Down; expected = stored.expected; kept = stored.expected; last = stored.last; reading = 0 }
+state_of stored = record {
+  phase = Down;
+  expected = stored.expected;
+  kept = stored.expected;
+  last = stored.last;
+  reading = 0;
+}
 
 -- the first place of a stream
 abbrev pub no_bytes : Ahead
 no_bytes = record { may_mark = true; bytes = [] }
-
--- what a run answers
-abbrev pub run_end : Result ⊤ Ending → RunEnd
-run_end (Ok x) = run.TurnsSpent
-run_end (Err (ending.Closed why)) = run.Closed why
-run_end (Err (ending.NotBuilt n)) = run.NotBuilt n
-run_end (Err ending.StoreFault) = run.StoreFault
-run_end (Err ending.LinkFault) = run.LinkFault
-run_end (Err ending.AppFault) = run.AppFault
-run_end (Err ending.NumbersSpent) = run.NumbersSpent
-run_end (Err ending.OutOfMemory) = run.OutOfMemory
 
 -- these notes are a run of at most n turns with this answer, and this is behind it
 pub record RanTo (id : Identity) (n : ℕ) (d : Desk) (answer : RunEnd) (to : Desk) (notes : List Note) : Type 0 where
   pub r : Result ⊤ Ending
   pub answered : answer ≡ run_end r
   pub ran : Ran id n d notes r to
-
--- why the session is stopped after this answer
-abbrev pub stop_cause : RunEnd → Option StopCause
-stop_cause run.TurnsSpent = None
-stop_cause (run.Closed why) = None
-stop_cause (run.NotBuilt n) = None
-stop_cause run.LinkFault = None
-stop_cause run.NumbersSpent = None
-stop_cause run.StoreFault = Some cause.StoreFault
-stop_cause run.AppFault = Some cause.AppFault
-stop_cause run.OutOfMemory = Some cause.OutOfMemory
-stop_cause (run.Stopped c) = Some c
 
 -- a fault of a part is answered only where that part's count rose
 abbrev pub RunHasCause : RunEnd → Faults → Faults → Type 0
@@ -109,28 +92,30 @@ pub data OpensTo (id : Identity) : Result Seat LoadFault → Result Stored LoadF
   from_stored : (stored : Stored) → OpensTo id (Ok (seated_at id stored)) (Ok stored) (Did act.Stop ∷ [])
   no_store : (fault : LoadFault) → OpensTo id (Err fault) (Err fault) (loads {T = Stored} (Err fault))
 
--- why a session is stopped whose store wasn't opened
-abbrev pub load_stop : LoadFault → StopCause
-load_stop load.Failed = cause.StoreFault
-load_stop (load.Damaged place) = cause.StoreFault
-load_stop load.OutOfMemory = cause.OutOfMemory
-
--- a stopped session stays as it is
-abbrev pub stays_stopped : Option StopCause → LoadFault → Option StopCause
-stays_stopped None fault = Some (load_stop fault)
-stays_stopped (Some why) fault = Some why
-
--- a session that goes on from these numbers, with the draft in hand that isn't stored, and one whose store wasn't opened
+-- a session that goes on from these numbers, with the draft in hand that isn't stored; and one whose store was not
+-- opened
 abbrev pub seated_again : Seat → Stored → Seat
-seated_again old stored = record { identity = old.identity; live = live (state_of stored) old.live.ahead; hand = hand_again old.hand old.live.state.last stored.last; stopped = None }
+seated_again old stored = record {
+  identity = old.identity;
+  live = live (state_of stored) old.live.ahead;
+  hand = hand_again old.hand old.live.state.last stored.last;
+  stopped = None;
+}
 
 abbrev pub seated_refused : Seat → LoadFault → Seat
-seated_refused old fault = record { identity = old.identity; live = old.live; hand = old.hand; stopped = stays_stopped old.stopped fault }
+seated_refused old fault = record {
+  identity = old.identity;
+  live = old.live;
+  hand = old.hand;
+  stopped = stays_stopped old.stopped fault;
+}
 
 -- what comes of opening the store of a session again
-pub data ReopensTo {T : Type 0} (old : Seat) : Result T LoadFault → Result Stored LoadFault → Seat → List Note → Type 0 where
+pub data ReopensTo {T : Type 0} (old : Seat) : Result T LoadFault → Result Stored LoadFault → Seat → List Note →
+    Type 0 where
   again : {x : T} (stored : Stored) → ReopensTo old (Ok x) (Ok stored) (seated_again old stored) (Did act.Stop ∷ [])
-  refused_again : (fault : LoadFault) → ReopensTo old (Err fault) (Err fault) (seated_refused old fault) (loads {T = Stored} (Err fault))
+  refused_again : (fault : LoadFault) → ReopensTo old (Err fault) (Err fault) (seated_refused old fault)
+      (loads {T = Stored} (Err fault))
 
 -- what comes of opening a connection, with the reading
 pub data Opens : Result ℕ BeginFault → List Note → Type 0 where
@@ -140,15 +125,29 @@ pub data Opens : Result ℕ BeginFault → List Note → Type 0 where
 
 -- a session on a new connection, from this reading on
 abbrev pub begun : Live → ℕ → Live
-begun l t = live (record { phase = AwaitLogon; expected = l.state.expected; kept = l.state.kept; last = l.state.last; reading = min t LAST_TIME }) no_bytes
+begun l t =
+    live (record {
+      phase = AwaitLogon;
+      expected = l.state.expected;
+      kept = l.state.kept;
+      last = l.state.last;
+      reading = min t LAST_TIME;
+    }) no_bytes
 
 -- what a session is that memory was refused to
 abbrev pub stopped_for_memory : Seat → Seat
-stopped_for_memory old = record { identity = old.identity; live = old.live; hand = old.hand; stopped = Some cause.OutOfMemory }
+stopped_for_memory old = record {
+  identity = old.identity;
+  live = old.live;
+  hand = old.hand;
+  stopped = Some cause.OutOfMemory;
+}
 
 -- what comes of `begin` on a session that goes on: on Ok it waits for a Logon on the new connection, and where memory
 -- was refused it is stopped
 pub data BeginsTo {T : Type 0} (old : Seat) : Result T BeginFault → Seat → List Note → Type 0 where
-  opened_to : {x : T} (t : ℕ) → BeginsTo old (Ok x) (record { identity = old.identity; live = begun old.live t; hand = old.hand; stopped = None }) (Did (act.Now t) ∷ Did act.Opened ∷ [])
+  opened_to : {x : T} (t : ℕ) → BeginsTo old (Ok x)
+      (record { identity = old.identity; live = begun old.live t; hand = old.hand; stopped = None })
+      (Did (act.Now t) ∷ Did act.Opened ∷ [])
   no_memory : BeginsTo old (Err begins.OutOfMemory) (stopped_for_memory old) []
   no_memory_to_open : (t : ℕ) → BeginsTo old (Err begins.OutOfMemory) (stopped_for_memory old) (Did (act.Now t) ∷ [])

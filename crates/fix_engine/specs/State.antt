@@ -1,5 +1,5 @@
 -- The state of a session, and how each step changes it.
-use Rattle.std.specs.Prelude.{ℕ, ◌+◌, ◌≤◌, min, Option, Some, None, Result, Ok, Err, ⊤}
+use Rattle.std.specs.Prelude.{ℕ, ◌+◌, ◌≤◌, min, Option, Some, None}
 use Rattle.fix_base.specs.Payload.{LAST_TIME}
 pub use Rattle.fix_engine.specs.declared.state.Phase.{Phase}
 pub use Rattle.fix_engine.specs.declared.state.Phase.TheVariants.{Down, AwaitLogon, Up}
@@ -9,7 +9,6 @@ pub use Rattle.fix_engine.specs.declared.state.Refusal.TheVariants.{NotLogon}
 pub use Rattle.fix_engine.specs.declared.state.Why.{Why}
 pub use Rattle.fix_engine.specs.declared.state.Why.TheVariants.{PeerEnd, LoggedOut, Refused}
 pub use Rattle.fix_engine.specs.declared.state.Ending.{Ending}
-use Rattle.fix_engine.specs.declared.state.Ending.TheVariants as ending
 pub use Rattle.fix_engine.specs.declared.state.Say.{Say}
 pub use Rattle.fix_engine.specs.declared.state.Say.TheVariants.{Logon, Logout}
 pub use Rattle.fix_engine.specs.declared.state.Step.{Step}
@@ -42,18 +41,13 @@ with_kept s = record { phase = s.phase; expected = s.expected; kept = s.expected
 
 -- a reading beyond the end of 2099 counts as that
 abbrev pub with_reading : State → ℕ → State
-with_reading s t = record { phase = s.phase; expected = s.expected; kept = s.kept; last = s.last; reading = min t LAST_TIME }
-
--- how many entries a store that is open has behind this: one that failed isn't open
-abbrev pub open_behind : Result ⊤ Ending → State → Option ℕ
-open_behind (Ok x) s = Some s.last
-open_behind (Err (ending.Closed why)) s = Some s.last
-open_behind (Err (ending.NotBuilt n)) s = Some s.last
-open_behind (Err ending.StoreFault) s = None
-open_behind (Err ending.LinkFault) s = Some s.last
-open_behind (Err ending.AppFault) s = Some s.last
-open_behind (Err ending.NumbersSpent) s = Some s.last
-open_behind (Err ending.OutOfMemory) s = Some s.last
+with_reading s t = record {
+  phase = s.phase;
+  expected = s.expected;
+  kept = s.kept;
+  last = s.last;
+  reading = min t LAST_TIME;
+}
 
 -- the inbound message is counted, where there is one
 abbrev pub counted : State → Option ℕ → State

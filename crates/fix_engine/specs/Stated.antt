@@ -17,13 +17,14 @@ IsFaultless (Failed part ∷ notes) = ⊥
 IsFaultless (Asked draft ∷ notes) = IsFaultless notes
 
 -- with no further fault and with memory it goes on to some end
-pub record GoesOn {S : Type 0} (R : S → List Note → Result ⊤ Ending → S → Type 0) (s : S) (notes : List Note) : Type 0 where
-  pub more : List Note
-  pub faultless : IsFaultless more
-  pub r : Result ⊤ Ending
-  pub to : S
-  pub whole : R s (notes ++ more) r to
-  pub no_want : r ≢ Err ending.OutOfMemory
+pub record GoesOn {S : Type 0} (R : S → List Note → Result ⊤ Ending → S → Type 0) (s : S) (notes : List Note) : Type 0
+  where
+    pub more : List Note
+    pub faultless : IsFaultless more
+    pub r : Result ⊤ Ending
+    pub to : S
+    pub whole : R s (notes ++ more) r to
+    pub no_want : r ≢ Err ending.OutOfMemory
 
 -- that there is no A is refuted. Classically this is A; it computes none
 abbrev pub CanNotFail : Type 0 → Type 0
@@ -34,4 +35,5 @@ CanNotFail A = (A → ⊥) → ⊥
 -- nobody looked at, so it is said that there is one, and not which.
 abbrev pub IsAsStated : Identity → ℕ → Desk → RunEnd → Desk → List Note → Type 0
 IsAsStated id n d answer to notes =
-    IsFaultless notes × (((answer ≢ run.OutOfMemory) × RanTo id n d answer to notes) ⊎ ((answer ≡ run.OutOfMemory) × CanNotFail (GoesOn (Ran id n) d notes)))
+    IsFaultless notes × (((answer ≢ run.OutOfMemory) × RanTo id n d answer to notes) ⊎
+    ((answer ≡ run.OutOfMemory) × CanNotFail (GoesOn (Ran id n) d notes)))

@@ -1,6 +1,6 @@
 -- What a turn does on a connection: one read with the frames that it completes, one look at the clock, and the
 -- expected number kept.
-use Rattle.std.specs.Prelude.{◌≡◌, ◌≢◌, ◌<◌, ◌≤◌, ◌∷◌, ◌++◌, ℕ, List, [], length, Bool, true, false, Result, Ok, Err, ⊤}
+use Rattle.std.specs.Prelude.{◌≡◌, ◌≢◌, ◌<◌, ◌≤◌, ◌∷◌, ◌++◌, ℕ, List, [], length, Result, Ok, Err, ⊤}
 use Rattle.fix_base.specs.declared.identity.Identity.{Identity}
 use Rattle.fix_base.specs.Stream.{Ahead}
 use Rattle.fix_base.specs.declared.entry.Record.TheVariants.{Expect}
@@ -26,18 +26,23 @@ fed a bytes = record { may_mark = a.may_mark; bytes = a.bytes ++ bytes }
 -- the frames that stand whole in the bytes, in order, until one ends the run
 pub data Taken (id : Identity) : Live → List Note → Result ⊤ Ending → Live → Type 0 where
   no_more : {s : State} {a b : Ahead} → GivesNone a b → Taken id (live s a) [] (Ok tt) (live s b)
-  ends : {s s' : State} {a b : Ahead} {notes : List Note} {e : Ending} (frame : List ℕ) → GivesFrame a b frame → Handled id s frame notes (Err e) s' → Taken id (live s a) notes (Err e) (live s' b)
-  goes : {s mid : State} {to : Live} {a b : Ahead} {first more : List Note} {r : Result ⊤ Ending} (frame : List ℕ) → GivesFrame a b frame → Handled id s frame first (Ok tt) mid → Taken id (live mid b) more r to → Taken id (live s a) (first ++ more) r to
+  ends : {s s' : State} {a b : Ahead} {notes : List Note} {e : Ending} (frame : List ℕ) → GivesFrame a b frame →
+      Handled id s frame notes (Err e) s' → Taken id (live s a) notes (Err e) (live s' b)
+  goes : {s mid : State} {to : Live} {a b : Ahead} {first more : List Note} {r : Result ⊤ Ending} (frame : List ℕ) →
+      GivesFrame a b frame → Handled id s frame first (Ok tt) mid → Taken id (live mid b) more r to →
+      Taken id (live s a) (first ++ more) r to
 
 -- these bytes came, and the frames that they complete
 pub data Fed (id : Identity) (b : List ℕ) (l : Live) : List Note → Result ⊤ Ending → Live → Type 0 where
-  fed_frames : {to : Live} {notes : List Note} {r : Result ⊤ Ending} → Taken id (live l.state (fed l.ahead b)) notes r to → Fed id b l notes r to
+  fed_frames : {to : Live} {notes : List Note} {r : Result ⊤ Ending} →
+      Taken id (live l.state (fed l.ahead b)) notes r to → Fed id b l notes r to
   -- memory for the bytes was refused
   fed_memory : Fed id b l [] (Err ending.OutOfMemory) l
 
 -- one read, and the frames that it completes
 pub data Heard (id : Identity) (l : Live) : List Note → Result ⊤ Ending → Live → Type 0 where
-  bytes : {to : Live} {more : List Note} {r : Result ⊤ Ending} (b : List ℕ) → 0 < length b → length b ≤ 65536 → Fed id b l more r to → Heard id l (Did (act.Read b) ∷ more) r to
+  bytes : {to : Live} {more : List Note} {r : Result ⊤ Ending} (b : List ℕ) → 0 < length b → length b ≤ 65536 →
+      Fed id b l more r to → Heard id l (Did (act.Read b) ∷ more) r to
   idle : Heard id l (Did act.Idle ∷ []) (Ok tt) l
   over : Heard id l (Did act.Ended ∷ []) (Err (ending.Closed PeerEnd)) (live (with_phase l.state Down) l.ahead)
   read_lost : Heard id l (Failed (LinkPart 0) ∷ []) (Err ending.LinkFault) l
@@ -51,31 +56,11 @@ pub data Clocked (l : Live) : List Note → Result ⊤ Ending → Live → Type 
 -- the expected number is kept where it is another than the kept one
 pub data KeptExpected (l : Live) : List Note → Result ⊤ Ending → Live → Type 0 where
   same : l.state.kept ≡ l.state.expected → KeptExpected l [] (Ok tt) l
-  kept : l.state.kept ≢ l.state.expected → KeptExpected l (Did (act.Kept (Expect l.state.expected)) ∷ []) (Ok tt) (live (with_kept l.state) l.ahead)
-  expect_lost : l.state.kept ≢ l.state.expected → KeptExpected l (Did (act.KeepLost (Expect l.state.expected)) ∷ Failed StorePart ∷ []) (Err ending.StoreFault) l
+  kept : l.state.kept ≢ l.state.expected →
+      KeptExpected l (Did (act.Kept (Expect l.state.expected)) ∷ []) (Ok tt) (live (with_kept l.state) l.ahead)
+  expect_lost : l.state.kept ≢ l.state.expected →
+      KeptExpected l (Did (act.KeepLost (Expect l.state.expected)) ∷ Failed StorePart ∷ []) (Err ending.StoreFault) l
   expect_memory : l.state.kept ≢ l.state.expected → KeptExpected l [] (Err ending.OutOfMemory) l
-
--- whether the expected number is kept behind this: also after a close, a message that isn't answered yet, and a
--- fault of the connection or of the application
-abbrev pub settles_of : Result ⊤ Ending → Bool
-settles_of (Ok x) = true
-settles_of (Err (ending.Closed why)) = true
-settles_of (Err (ending.NotBuilt n)) = true
-settles_of (Err ending.LinkFault) = true
-settles_of (Err ending.AppFault) = true
-settles_of (Err ending.StoreFault) = false
-settles_of (Err ending.NumbersSpent) = false
-settles_of (Err ending.OutOfMemory) = false
-
--- whether Cut is noted behind this
-abbrev pub is_cut_of : Ending → Bool
-is_cut_of (ending.Closed why) = true
-is_cut_of (ending.NotBuilt n) = true
-is_cut_of ending.LinkFault = true
-is_cut_of ending.AppFault = true
-is_cut_of ending.NumbersSpent = true
-is_cut_of ending.StoreFault = false
-is_cut_of ending.OutOfMemory = false
 
 abbrev pub down : Live → Live
 down l = live (with_phase l.state Down) l.ahead

@@ -1,13 +1,17 @@
+//! Sends a draft of the application: keeps its entry under the next number and, in phase Up, writes its frame. `hand`
+//! calls this in a turn, and `session` for `Session::send`.
 ghost use Rattle.std.specs.Prelude.{◌≡◌, ◌+◌, ◌<◌, ◌≤◌, IfOk, Some};
 ghost use Rattle.fix_base.specs.Session.{IsValidIdentity};
 ghost use Rattle.fix_base.specs.Payload.{LAST_TIME};
 ghost use Rattle.fix_base.specs.Seen.{Goes};
 ghost use Rattle.fix_fields.specs.Drafted.{draft_body, IsDraft};
-ghost use Rattle.fix_engine.specs.State.{IsInRange};
-ghost use Rattle.fix_engine.specs.Drafted.{IsOfDraft, KeepsDraft, Drafting, Drafted, SentTo, entry_of_draft, open_sent, is_link_fault};
+ghost use Rattle.fix_engine.specs.Drafted.{IsOfDraft, KeepsDraft, Drafting, Drafted, SentTo, entry_of_draft};
+ghost use Rattle.fix_engine.specs.Ready.{IsReady};
+ghost use Rattle.fix_engine.specs.Faults.{open_sent};
 
+use crate::faults::is_cut_sent;
 use crate::party::Party;
-use crate::turn::take_reading;
+use crate::state::take_reading;
 use crate::writing::header;
 use crate::{KeepFault, Outside, Phase, SendFault, State};
 use fix_base::{By, Bytes, Entry, OutOfMemory, Record, SeqNum};
@@ -16,7 +20,167 @@ use fix_frame::{SealFault, seal};
 use fix_parts::WriteTurn;
 use std::alloc::Global;
 
-// The frame of the draft under this number, sent at this time.
+/// Sends the draft at the time that the clock tells, and notes Cut where the connection failed.
+pub fn send_and_cut<O: Outside>(
+    o: &mut O,
+    party: &Party,
+    state: &mut State,
+    draft: &Draft,
+) -> Result<SeqNum, SendFault>
+    requires ready { IsReady party.now.identity (O.seen o.old) (Some state.old.last) state.old }
+    requires small { state.old.last < 999999999 }
+    ensures ready { IsReady party.now.identity (O.seen o.new) (open_sent result state.new) state.new }
+    ensures notes { Goes (O.seen o.old) (O.seen o.new)
+        (λ notes. SentTo party.now.identity draft.now state.old notes result state.new) }
+{
+    let sent = send_at_time(o, party, state, draft);
+    match sent {
+        Ok(number) => Ok(number),
+        Err(fault) => {
+            state.phase = Phase::Down;
+            if !is_cut_sent(&fault) {
+                return Err(fault);
+            }
+            match o.mark(true) {
+                Ok(()) => Err(fault),
+                Err(_) => Err(SendFault::OutOfMemory),
+            }
+        }
+    }
+}
+
+/// Keeps the draft under the next number and, in phase Up, writes its original.
+pub fn send_draft<O: Outside>(
+    o: &mut O,
+    party: &Party,
+    state: &mut State,
+    draft: &Draft,
+) -> Result<SeqNum, SendFault>
+    requires ready { IsReady party.now.identity (O.seen o.old) (Some state.old.last) state.old }
+    requires small { state.old.last < 999999999 }
+    ensures ready { IsReady party.now.identity (O.seen o.new) (open_sent result state.new) state.new }
+    ensures notes { Goes (O.seen o.old) (O.seen o.new)
+        (λ notes. Drafting party.now.identity draft.now state.old notes result state.new) }
+{
+    match state.phase {
+        Phase::Up => write_draft(o, party, state, draft),
+        Phase::AwaitLogon => keep_draft(o, party, state, draft),
+        Phase::Down => keep_draft(o, party, state, draft),
+    }
+}
+
+fn send_at_time<O: Outside>(
+    o: &mut O,
+    party: &Party,
+    state: &mut State,
+    draft: &Draft,
+) -> Result<SeqNum, SendFault>
+    requires ready { IsReady party.now.identity (O.seen o.old) (Some state.old.last) state.old }
+    requires small { state.old.last < 999999999 }
+    ensures ready { IsReady party.now.identity (O.seen o.new) (open_sent result state.new) state.new }
+    ensures notes { Goes (O.seen o.old) (O.seen o.new)
+        (λ notes. Drafted party.now.identity draft.now state.old notes result state.new) }
+{
+    match o.now() {
+        Ok(reading) => {
+            take_reading(state, reading);
+            send_draft(o, party, state, draft)
+        }
+        Err(_) => Err(SendFault::OutOfMemory),
+    }
+}
+
+// Keeps the draft, and then writes its frame.
+fn write_draft<O: Outside>(
+    o: &mut O,
+    party: &Party,
+    state: &mut State,
+    draft: &Draft,
+) -> Result<SeqNum, SendFault>
+    requires ready { IsReady party.now.identity (O.seen o.old) (Some state.old.last) state.old }
+    requires small { state.old.last < 999999999 }
+    requires up { state.old.phase ≡ Phase.Up }
+    ensures ready { IsReady party.now.identity (O.seen o.new) (open_sent result state.new) state.new }
+    ensures notes { Goes (O.seen o.old) (O.seen o.new)
+        (λ notes. Drafting party.now.identity draft.now state.old notes result state.new) }
+{
+    // Memory is taken first: a refusal leaves nothing kept.
+    let frame = match frame_of(party, state.last + 1, state.reading, draft) {
+        Ok(frame) => frame,
+        Err(_) => return Err(SendFault::OutOfMemory),
+    };
+    match keep_draft(o, party, state, draft) {
+        Ok(number) => match o.write(frame.as_slice()) {
+            WriteTurn::Done => Ok(number),
+            WriteTurn::Failed(_) => Err(SendFault::LinkFault { number }),
+            WriteTurn::OutOfMemory => Err(SendFault::OutOfMemory),
+        },
+        Err(fault) => Err(fault),
+    }
+}
+
+// Keeps the entry of the draft under the next number.
+fn keep_draft<O: Outside>(
+    o: &mut O,
+    party: &Party,
+    state: &mut State,
+    draft: &Draft,
+) -> Result<SeqNum, SendFault>
+    requires ready { IsReady party.now.identity (O.seen o.old) (Some state.old.last) state.old }
+    requires small { state.old.last < 999999999 }
+    ensures ready { IsReady party.now.identity (O.seen o.new) (open_sent result state.new) state.new }
+    ensures notes { Goes (O.seen o.old) (O.seen o.new)
+        (λ notes. KeepsDraft draft.now state.old notes result state.new) }
+{
+    let kept = match record_of(party.alloc, state, draft) {
+        Ok(kept) => kept,
+        Err(_) => return Err(SendFault::OutOfMemory),
+    };
+    let number = next_number(state);
+    match o.keep(&kept) {
+        Ok(()) => {
+            state.last += 1;
+            Ok(number)
+        }
+        Err(KeepFault::Failed) => Err(SendFault::StoreFault),
+        Err(KeepFault::OutOfMemory) => Err(SendFault::OutOfMemory),
+    }
+}
+
+fn next_number(state: &State) -> SeqNum
+    requires small { state.now.last < 999999999 }
+    ensures { result ≡ state.now.last + 1 }
+{
+    match SeqNum::new(state.last + 1) {
+        Some(number) => number,
+        None => unreachable!(),
+    }
+}
+
+fn record_of(alloc: Global, state: &State, draft: &Draft) -> Result<Record, OutOfMemory>
+    ensures made { IfOk result (λ made. made ≡ Record.Push (entry_of_draft state.now draft.now)) }
+    ensures is { IfOk result (λ made. IsDraft draft.now) }
+{
+    let body = body_of(alloc, draft)?;
+    Ok(Record::Push(Entry::App {
+        time: state.reading,
+        by: By::Caller,
+        body: Bytes::from_vec(body),
+    }))
+}
+
+// MsgType (35) and the fields after the header, as they are stored.
+fn body_of(alloc: Global, draft: &Draft) -> Result<Vec<u8>, OutOfMemory>
+    ensures text { IfOk result (λ body. body.items ≡ draft_body draft.now) }
+    ensures is { IfOk result (λ body. IsDraft draft.now) }
+{
+    let mut body = Vec::from_slice(alloc, b"35=")?;
+    body.extend_from_slice(draft.kind())?;
+    body.extend_from_slice(b"\x01")?;
+    body.extend_from_slice(draft.rest())?;
+    Ok(body)
+}
+
 fn frame_of(party: &Party, number: u32, time: u64, draft: &Draft) -> Result<Bytes, OutOfMemory>
     requires valid { IsValidIdentity party.now.identity }
     requires last { number ≤ 999999999 }
@@ -35,191 +199,5 @@ fn frame_of(party: &Party, number: u32, time: u64, draft: &Draft) -> Result<Byte
         Err(SealFault::OutOfMemory) => Err(OutOfMemory),
         // A draft leaves room for a header below the greatest BodyLength.
         Err(SealFault::TooLarge { .. }) => unreachable!(),
-    }
-}
-
-// The body of the draft.
-fn body_of(alloc: Global, draft: &Draft) -> Result<Vec<u8>, OutOfMemory>
-    ensures text { IfOk result (λ body. body.items ≡ draft_body draft.now) }
-    ensures is { IfOk result (λ body. IsDraft draft.now) }
-{
-    let mut body = Vec::from_slice(alloc, b"35=")?;
-    body.extend_from_slice(draft.kind())?;
-    body.extend_from_slice(b"\x01")?;
-    body.extend_from_slice(draft.rest())?;
-    Ok(body)
-}
-
-// The record of the entry that is kept of the draft.
-fn record_of(alloc: Global, state: &State, draft: &Draft) -> Result<Record, OutOfMemory>
-    ensures made { IfOk result (λ made. made ≡ Record.Push (entry_of_draft state.now draft.now)) }
-    ensures is { IfOk result (λ made. IsDraft draft.now) }
-{
-    let body = body_of(alloc, draft)?;
-    Ok(Record::Push(Entry::App {
-        time: state.reading,
-        by: By::Caller,
-        body: Bytes::from_vec(body),
-    }))
-}
-
-// The number that the next message takes.
-fn next_number(state: &State) -> SeqNum
-    requires small { state.now.last < 999999999 }
-    ensures { result ≡ state.now.last + 1 }
-{
-    match SeqNum::new(state.last + 1) {
-        Some(number) => number,
-        None => unreachable!(),
-    }
-}
-
-// Keeps the entry of the draft under the next number.
-fn keep_draft<O: Outside>(
-    o: &mut O,
-    alloc: Global,
-    state: &mut State,
-    draft: &Draft,
-) -> Result<SeqNum, SendFault>
-    requires range { IsInRange state.old }
-    requires small { state.old.last < 999999999 }
-    requires opens { (O.seen o.old).open_at ≡ Some state.old.last }
-    ensures range { IsInRange state.new }
-    ensures opens { (O.seen o.new).open_at ≡ open_sent result state.new }
-    ensures notes { Goes (O.seen o.old) (O.seen o.new) (λ notes. KeepsDraft draft.now state.old notes result state.new) }
-{
-    let kept = match record_of(alloc, state, draft) {
-        Ok(kept) => kept,
-        Err(_) => return Err(SendFault::OutOfMemory),
-    };
-    let number = next_number(state);
-    match o.keep(&kept) {
-        Ok(()) => {
-            state.last += 1;
-            Ok(number)
-        }
-        Err(KeepFault::Failed) => Err(SendFault::StoreFault),
-        Err(KeepFault::OutOfMemory) => Err(SendFault::OutOfMemory),
-    }
-}
-
-// Keeps the draft, and then writes its frame.
-fn write_draft<O: Outside>(
-    o: &mut O,
-    party: &Party,
-    state: &mut State,
-    draft: &Draft,
-) -> Result<SeqNum, SendFault>
-    requires valid { IsValidIdentity party.now.identity }
-    requires range { IsInRange state.old }
-    requires small { state.old.last < 999999999 }
-    requires up { state.old.phase ≡ Phase.Up }
-    requires opens { (O.seen o.old).open_at ≡ Some state.old.last }
-    ensures range { IsInRange state.new }
-    ensures opens { (O.seen o.new).open_at ≡ open_sent result state.new }
-    ensures notes { Goes (O.seen o.old) (O.seen o.new) (λ notes. Drafting party.now.identity draft.now state.old notes result state.new) }
-{
-    // Memory is taken first: a refusal leaves nothing kept.
-    let frame = match frame_of(party, state.last + 1, state.reading, draft) {
-        Ok(frame) => frame,
-        Err(_) => return Err(SendFault::OutOfMemory),
-    };
-    match keep_draft(o, party.alloc, state, draft) {
-        Ok(number) => match o.write(frame.as_slice()) {
-            WriteTurn::Done => Ok(number),
-            WriteTurn::Failed(_) => Err(SendFault::LinkFault { number }),
-            WriteTurn::OutOfMemory => Err(SendFault::OutOfMemory),
-        },
-        Err(fault) => Err(fault),
-    }
-}
-
-/// Keeps the draft under the next number and, in phase Up, writes its original.
-pub fn send_draft<O: Outside>(
-    o: &mut O,
-    party: &Party,
-    state: &mut State,
-    draft: &Draft,
-) -> Result<SeqNum, SendFault>
-    requires valid { IsValidIdentity party.now.identity }
-    requires range { IsInRange state.old }
-    requires small { state.old.last < 999999999 }
-    requires opens { (O.seen o.old).open_at ≡ Some state.old.last }
-    ensures range { IsInRange state.new }
-    ensures opens { (O.seen o.new).open_at ≡ open_sent result state.new }
-    ensures notes { Goes (O.seen o.old) (O.seen o.new) (λ notes. Drafting party.now.identity draft.now state.old notes result state.new) }
-{
-    match state.phase {
-        Phase::Up => write_draft(o, party, state, draft),
-        Phase::AwaitLogon => keep_draft(o, party.alloc, state, draft),
-        Phase::Down => keep_draft(o, party.alloc, state, draft),
-    }
-}
-
-// Reads the clock, and then sends the draft.
-fn send_at_time<O: Outside>(
-    o: &mut O,
-    party: &Party,
-    state: &mut State,
-    draft: &Draft,
-) -> Result<SeqNum, SendFault>
-    requires valid { IsValidIdentity party.now.identity }
-    requires range { IsInRange state.old }
-    requires small { state.old.last < 999999999 }
-    requires opens { (O.seen o.old).open_at ≡ Some state.old.last }
-    ensures range { IsInRange state.new }
-    ensures opens { (O.seen o.new).open_at ≡ open_sent result state.new }
-    ensures notes { Goes (O.seen o.old) (O.seen o.new) (λ notes. Drafted party.now.identity draft.now state.old notes result state.new) }
-{
-    match o.now() {
-        Ok(reading) => {
-            take_reading(state, reading);
-            send_draft(o, party, state, draft)
-        }
-        Err(_) => Err(SendFault::OutOfMemory),
-    }
-}
-
-// Whether Cut is noted behind this.
-fn is_cut(fault: &SendFault) -> bool
-    ensures { result ≡ is_link_fault fault.now }
-{
-    match fault {
-        SendFault::LinkFault { .. } => true,
-        SendFault::Stopped(_) => false,
-        SendFault::NumbersSpent => false,
-        SendFault::OutOfMemory => false,
-        SendFault::StoreFault => false,
-    }
-}
-
-/// Sends the draft at the time that the clock tells, and notes Cut where the connection failed.
-pub fn send_and_cut<O: Outside>(
-    o: &mut O,
-    party: &Party,
-    state: &mut State,
-    draft: &Draft,
-) -> Result<SeqNum, SendFault>
-    requires valid { IsValidIdentity party.now.identity }
-    requires range { IsInRange state.old }
-    requires small { state.old.last < 999999999 }
-    requires opens { (O.seen o.old).open_at ≡ Some state.old.last }
-    ensures range { IsInRange state.new }
-    ensures opens { (O.seen o.new).open_at ≡ open_sent result state.new }
-    ensures notes { Goes (O.seen o.old) (O.seen o.new) (λ notes. SentTo party.now.identity draft.now state.old notes result state.new) }
-{
-    let sent = send_at_time(o, party, state, draft);
-    match sent {
-        Ok(number) => Ok(number),
-        Err(fault) => {
-            state.phase = Phase::Down;
-            if !is_cut(&fault) {
-                return Err(fault);
-            }
-            match o.mark(true) {
-                Ok(()) => Err(fault),
-                Err(_) => Err(SendFault::OutOfMemory),
-            }
-        }
     }
 }

@@ -1,3 +1,5 @@
+//! What a frame presents to a session. `handling` reads each frame by this, `machine` decides on it, and `performing`
+//! hands its body to the application.
 ghost use Rattle.std.specs.Prelude.{◌≡◌, ◌≤◌, ℕ, pos, List, Some, IfSome, option_map};
 ghost use Rattle.std.specs.Bool.{MatchBool};
 ghost use Rattle.fix_base.specs.Fields.{Field};
@@ -23,6 +25,23 @@ pub struct Presented<'a> {
     pub heart: Option<u32>,
 }
 
+/// Reads what the frame presents.
+pub fn present(frame: &[u8]) -> Presented<'_>
+    requires { IsFrame frame.now }
+    ensures frame { result.frame.now ≡ frame.now }
+    ensures presents { IsInbound frame.now (inbound_of result) }
+{
+    let head = envelope(frame);
+    let sent = sent_of(head.sent);
+    let heart = heart_of(frame, head.kind);
+    Presented {
+        frame,
+        head,
+        sent,
+        heart,
+    }
+}
+
 // The time that SendingTime (52) says, where it says one.
 fn sent_of(value: Option<&[u8]>) -> Option<i64>
     ensures { IsSent (option_map (λ v. v.now) value.entry) result }
@@ -31,62 +50,6 @@ fn sent_of(value: Option<&[u8]>) -> Option<i64>
         None => None,
         Some(value) => utc_time(value),
     }
-}
-
-// The number that the first field with this tag says, where it is an int.
-fn number_at(frame: &[u8], tag: u32) -> Option<i64>
-    requires { IsFrame frame.now }
-    ensures { (fields : List Field) → HasFields frame.now fields → IsOnly (HasInt tag fields) result }
-{
-    match first_value(frame, tag) {
-        None => None,
-        Some(value) => int(value),
-    }
-}
-
-// Whether ResetSeqNumFlag (141) is absent or N.
-fn keeps_numbers(frame: &[u8]) -> bool
-    requires { IsFrame frame.now }
-    ensures { (fields : List Field) → HasFields frame.now fields → KeepsNumbers fields result }
-{
-    match first_value(frame, 141) {
-        None => true,
-        Some(value) => value == b"N".as_slice(),
-    }
-}
-
-// Whether the message is a Logon without encryption that keeps the sequence numbers.
-fn is_plain_logon(frame: &[u8], kind: &[u8]) -> bool
-    requires frame { IsFrame frame.now }
-    requires kind { (fields : List Field) → HasFields frame.now fields → value_of 35 fields ≡ Some kind.now }
-    ensures { (fields : List Field) → HasFields frame.now fields → MatchBool result (IsPlainLogon fields) (IsPlainLogon fields → ⊥) }
-{
-    if kind != b"A".as_slice() {
-        return false;
-    }
-    match number_at(frame, 98) {
-        None => false,
-        Some(method) => {
-            if method != 0 {
-                return false;
-            }
-            keeps_numbers(frame)
-        }
-    }
-}
-
-// The seconds of a HeartBtInt (108), from 0 to a day.
-fn seconds_of(heart: i64) -> Option<u32>
-    ensures known { IfSome result (λ seconds. (heart ≡ pos seconds) × (seconds ≤ 86400)) }
-    ensures each { (seconds : ℕ) → heart ≡ pos seconds → seconds ≤ 86400 → result ≡ Some seconds }
-{
-    if heart < 0 {
-        return None;
-    }
-    if heart > LONGEST_HEART {
-        return None;
-    }
-    Some(heart as u32)
 }
 
 // HeartBtInt (108), where the message is a Logon that can be taken.
@@ -104,19 +67,59 @@ fn heart_of(frame: &[u8], kind: &[u8]) -> Option<u32>
     }
 }
 
-/// What the frame presents.
-pub fn present(frame: &[u8]) -> Presented<'_>
-    requires { IsFrame frame.now }
-    ensures frame { result.frame.now ≡ frame.now }
-    ensures presents { IsInbound frame.now (inbound_of result) }
+// Whether the message is a Logon without encryption that keeps the sequence numbers.
+fn is_plain_logon(frame: &[u8], kind: &[u8]) -> bool
+    requires frame { IsFrame frame.now }
+    requires kind { (fields : List Field) → HasFields frame.now fields → value_of 35 fields ≡ Some kind.now }
+    ensures { (fields : List Field) → HasFields frame.now fields →
+        MatchBool result (IsPlainLogon fields) (IsPlainLogon fields → ⊥) }
 {
-    let head = envelope(frame);
-    let sent = sent_of(head.sent);
-    let heart = heart_of(frame, head.kind);
-    Presented {
-        frame,
-        head,
-        sent,
-        heart,
+    if kind != b"A".as_slice() {
+        return false;
     }
+    match number_at(frame, 98) {
+        None => false,
+        Some(method) => {
+            if method != 0 {
+                return false;
+            }
+            keeps_numbers(frame)
+        }
+    }
+}
+
+// Whether ResetSeqNumFlag (141) is absent or N.
+fn keeps_numbers(frame: &[u8]) -> bool
+    requires { IsFrame frame.now }
+    ensures { (fields : List Field) → HasFields frame.now fields → KeepsNumbers fields result }
+{
+    match first_value(frame, 141) {
+        None => true,
+        Some(value) => value == b"N".as_slice(),
+    }
+}
+
+// The number that the first field with this tag says, where it is an int.
+fn number_at(frame: &[u8], tag: u32) -> Option<i64>
+    requires { IsFrame frame.now }
+    ensures { (fields : List Field) → HasFields frame.now fields → IsOnly (HasInt tag fields) result }
+{
+    match first_value(frame, tag) {
+        None => None,
+        Some(value) => int(value),
+    }
+}
+
+// The seconds of a HeartBtInt (108), from 0 to a day.
+fn seconds_of(heart: i64) -> Option<u32>
+    ensures known { IfSome result (λ seconds. (heart ≡ pos seconds) × (seconds ≤ 86400)) }
+    ensures each { (seconds : ℕ) → heart ≡ pos seconds → seconds ≤ 86400 → result ≡ Some seconds }
+{
+    if heart < 0 {
+        return None;
+    }
+    if heart > LONGEST_HEART {
+        return None;
+    }
+    Some(heart as u32)
 }

@@ -3,6 +3,7 @@
 #![tactic(auto)]
 
 mod drafting;
+mod faults;
 mod hand;
 mod handling;
 mod inbound;

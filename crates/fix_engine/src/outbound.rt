@@ -1,70 +1,22 @@
+//! Sends an administrative message: keeps its entry under the next number, and then writes its frame. `performing`
+//! calls this for the step `Send`.
 ghost use Rattle.std.specs.Prelude.{◌≡◌, Some, ◌≤◌, ℕ, List, IfOk};
 ghost use Rattle.fix_base.specs.Session.{IsValidIdentity};
 ghost use Rattle.fix_base.specs.Payload.{LAST_TIME};
 ghost use Rattle.fix_base.specs.Seen.{Goes};
-ghost use Rattle.fix_engine.specs.State.{IsInRange, open_behind, counted};
+ghost use Rattle.fix_engine.specs.State.{IsInRange, counted};
+ghost use Rattle.fix_engine.specs.Ready.{IsReady};
+ghost use Rattle.fix_engine.specs.Faults.{open_behind};
 ghost use Rattle.fix_engine.specs.Answer.{IsSaid, Performed, kind_of, entry_of};
 ghost use Rattle.fix_engine.specs.declared.state.Step.TheVariants as step;
 
 use crate::party::Party;
+use crate::state::LAST_NUMBER;
 use crate::writing::{header, rest};
 use crate::{Ending, KeepFault, Outside, Say, State};
 use fix_base::{Bytes, Entry, OutOfMemory, Record, SeqNum};
 use fix_frame::{SealFault, seal};
 use fix_parts::WriteTurn;
-
-/// The greatest outbound MsgSeqNum (34).
-pub const LAST_NUMBER: u32 = 999_999_999;
-
-// MsgType (35) of what is said, as the kind of its entry.
-fn kind(say: Say) -> u8
-    ensures { result ≡ kind_of say }
-{
-    match say {
-        Say::Logon { .. } => b'A',
-        Say::Logout => b'5',
-    }
-}
-
-// The frame of what is said under this number, sent at this time.
-fn frame_of(party: &Party, number: u32, time: u64, say: Say) -> Result<Bytes, OutOfMemory>
-    requires valid { IsValidIdentity party.now.identity }
-    requires last { number ≤ 999999999 }
-    requires time { time ≤ LAST_TIME }
-    ensures { IfOk result (λ text. IsSaid party.now.identity number time say text) }
-{
-    let header = header(party.alloc, &party.identity, number, time)?;
-    let rest = rest(party.alloc, say)?;
-    let kind = [kind(say)];
-    match seal(party.alloc, party.identity.begin, &kind, &header, &rest) {
-        Ok(frame) => Ok(frame),
-        Err(SealFault::OutOfMemory) => Err(OutOfMemory),
-        // A header and two short fields are far below the greatest BodyLength.
-        Err(SealFault::TooLarge { .. }) => unreachable!(),
-    }
-}
-
-// The record of the entry that is kept of what is said now.
-fn record_of(state: &State, say: Say) -> Record
-    ensures { result ≡ Record.Push (entry_of state.now say) }
-{
-    Record::Push(Entry::Admin {
-        time: state.reading,
-        kind: kind(say),
-        about: 0,
-    })
-}
-
-// Counts the inbound message, where there is one.
-fn count(state: &mut State, counts: Option<SeqNum>)
-    requires { IsInRange state.old }
-    ensures range { IsInRange state.new }
-    ensures counted { state.new ≡ counted state.old counts }
-{
-    if let Some(number) = counts {
-        state.expected = number.get() + 1;
-    }
-}
 
 /// Takes the next outbound number, keeps the entry, and then writes the frame.
 #[tactic(auto, using(crate::proofs::Carrying::sendings))]
@@ -75,12 +27,10 @@ pub fn send<O: Outside>(
     say: Say,
     counts: Option<SeqNum>,
 ) -> Result<(), Ending>
-    requires valid { IsValidIdentity party.now.identity }
-    requires range { IsInRange state.old }
-    requires opens { (O.seen o.old).open_at ≡ Some state.old.last }
-    ensures range { IsInRange state.new }
-    ensures opens { (O.seen o.new).open_at ≡ open_behind result state.new }
-    ensures notes { (frame : List ℕ) → Goes (O.seen o.old) (O.seen o.new) (λ notes. Performed party.now.identity frame state.old (step.Send say counts) notes result state.new) }
+    requires ready { IsReady party.now.identity (O.seen o.old) (Some state.old.last) state.old }
+    ensures ready { IsReady party.now.identity (O.seen o.new) (open_behind result state.new) state.new }
+    ensures notes { (frame : List ℕ) → Goes (O.seen o.old) (O.seen o.new)
+        (λ notes. Performed party.now.identity frame state.old (step.Send say counts) notes result state.new) }
 {
     if state.last >= LAST_NUMBER {
         return Err(Ending::NumbersSpent);
@@ -104,5 +54,53 @@ pub fn send<O: Outside>(
             Err(Ending::LinkFault)
         }
         WriteTurn::OutOfMemory => Err(Ending::OutOfMemory),
+    }
+}
+
+fn frame_of(party: &Party, number: u32, time: u64, say: Say) -> Result<Bytes, OutOfMemory>
+    requires valid { IsValidIdentity party.now.identity }
+    requires last { number ≤ 999999999 }
+    requires time { time ≤ LAST_TIME }
+    ensures { IfOk result (λ text. IsSaid party.now.identity number time say text) }
+{
+    let header = header(party.alloc, &party.identity, number, time)?;
+    let rest = rest(party.alloc, say)?;
+    let kind = [kind(say)];
+    match seal(party.alloc, party.identity.begin, &kind, &header, &rest) {
+        Ok(frame) => Ok(frame),
+        Err(SealFault::OutOfMemory) => Err(OutOfMemory),
+        // A header and two short fields are far below the greatest BodyLength.
+        Err(SealFault::TooLarge { .. }) => unreachable!(),
+    }
+}
+
+fn record_of(state: &State, say: Say) -> Record
+    ensures { result ≡ Record.Push (entry_of state.now say) }
+{
+    Record::Push(Entry::Admin {
+        time: state.reading,
+        kind: kind(say),
+        about: 0,
+    })
+}
+
+// MsgType (35), as the kind of the entry.
+fn kind(say: Say) -> u8
+    ensures { result ≡ kind_of say }
+{
+    match say {
+        Say::Logon { .. } => b'A',
+        Say::Logout => b'5',
+    }
+}
+
+// Counts the inbound message, where there is one.
+fn count(state: &mut State, counts: Option<SeqNum>)
+    requires { IsInRange state.old }
+    ensures range { IsInRange state.new }
+    ensures counted { state.new ≡ counted state.old counts }
+{
+    if let Some(number) = counts {
+        state.expected = number.get() + 1;
     }
 }

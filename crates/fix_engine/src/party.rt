@@ -1,3 +1,4 @@
+//! Who a session is. Each stage that writes or takes memory is called with it.
 use fix_base::Identity;
 use std::alloc::Global;
 

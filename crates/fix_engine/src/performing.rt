@@ -1,8 +1,9 @@
-ghost use Rattle.std.specs.Prelude.{◌≡◌, ◌≢◌, Some, Err, ◌≤◌, ◌+◌, IfOk, List};
-ghost use Rattle.fix_base.specs.Session.{IsValidIdentity};
+//! Does the steps of an answer in order. `handling` calls this with what `machine` decided.
+ghost use Rattle.std.specs.Prelude.{◌≡◌, ◌≢◌, Some, Err};
 ghost use Rattle.fix_base.specs.Shape.{IsFrame};
 ghost use Rattle.fix_base.specs.Seen.{Goes};
-ghost use Rattle.fix_engine.specs.State.{IsInRange, open_behind};
+ghost use Rattle.fix_engine.specs.Ready.{IsReady};
+ghost use Rattle.fix_engine.specs.Faults.{open_behind};
 ghost use Rattle.fix_engine.specs.Inbound.{IsInbound};
 ghost use Rattle.fix_engine.specs.Presented.{inbound_of};
 ghost use Rattle.fix_engine.specs.Answer.{Performed, Carried};
@@ -16,39 +17,27 @@ use fix_base::SeqNum;
 use fix_fields::body_of;
 use fix_parts::{Handed, Said};
 
-// Hands the message over.
-fn hand<O: Outside>(
+/// Does the steps of an answer in order, until one ends the run.
+pub fn carry_out<O: Outside>(
     o: &mut O,
     party: &Party,
     inbound: &Presented<'_>,
-    state: &State,
-    number: SeqNum,
-    marked: bool,
+    state: &mut State,
+    steps: &[Step],
 ) -> Result<(), Ending>
+    requires ready { IsReady party.now.identity (O.seen o.old) (Some state.old.last) state.old }
     requires frame { IsFrame inbound.now.frame.now }
     requires presents { IsInbound inbound.now.frame.now (inbound_of inbound.now) }
-    ensures opens { (O.seen o.new).open_at ≡ (O.seen o.old).open_at }
-    ensures fault { result ≢ Err Ending.StoreFault }
-    ensures notes { Goes (O.seen o.old) (O.seen o.new) (λ notes. Performed party.now.identity inbound.entry.now.frame.now state.now (step.Hand number marked) notes result state.now) }
+    ensures ready { IsReady party.now.identity (O.seen o.new) (open_behind result state.new) state.new }
+    ensures notes { Goes (O.seen o.old) (O.seen o.new)
+        (λ notes. Carried party.now.identity inbound.entry.now.frame.now state.old steps.now notes result state.new) }
 {
-    let body = match body_of(party.alloc, inbound.frame) {
-        Ok(body) => body,
-        Err(_) => return Err(Ending::OutOfMemory),
-    };
-    let handed = Handed {
-        number: number.get(),
-        marked,
-        kind: inbound.head.kind,
-        body: body.as_slice(),
-    };
-    match o.hand(&handed) {
-        Said::Taken => Ok(()),
-        Said::Failed => Err(Ending::AppFault),
-        Said::OutOfMemory => Err(Ending::OutOfMemory),
+    for step in steps {
+        perform(o, party, inbound, state, *step)?;
     }
+    Ok(())
 }
 
-// Does one step.
 #[tactic(auto, using(crate::proofs::Carrying::steps))]
 fn perform<O: Outside>(
     o: &mut O,
@@ -57,14 +46,12 @@ fn perform<O: Outside>(
     state: &mut State,
     step: Step,
 ) -> Result<(), Ending>
-    requires valid { IsValidIdentity party.now.identity }
+    requires ready { IsReady party.now.identity (O.seen o.old) (Some state.old.last) state.old }
     requires frame { IsFrame inbound.now.frame.now }
     requires presents { IsInbound inbound.now.frame.now (inbound_of inbound.now) }
-    requires range { IsInRange state.old }
-    requires opens { (O.seen o.old).open_at ≡ Some state.old.last }
-    ensures range { IsInRange state.new }
-    ensures opens { (O.seen o.new).open_at ≡ open_behind result state.new }
-    ensures notes { Goes (O.seen o.old) (O.seen o.new) (λ notes. Performed party.now.identity inbound.entry.now.frame.now state.old step notes result state.new) }
+    ensures ready { IsReady party.now.identity (O.seen o.new) (open_behind result state.new) state.new }
+    ensures notes { Goes (O.seen o.old) (O.seen o.new)
+        (λ notes. Performed party.now.identity inbound.entry.now.frame.now state.old step notes result state.new) }
 {
     match step {
         Step::Nothing => Ok(()),
@@ -89,25 +76,35 @@ fn perform<O: Outside>(
     }
 }
 
-/// Does the steps of an answer in order, until one ends the run.
-pub fn carry_out<O: Outside>(
+fn hand<O: Outside>(
     o: &mut O,
     party: &Party,
     inbound: &Presented<'_>,
-    state: &mut State,
-    steps: &[Step],
+    state: &State,
+    number: SeqNum,
+    marked: bool,
 ) -> Result<(), Ending>
-    requires valid { IsValidIdentity party.now.identity }
     requires frame { IsFrame inbound.now.frame.now }
     requires presents { IsInbound inbound.now.frame.now (inbound_of inbound.now) }
-    requires range { IsInRange state.old }
-    requires opens { (O.seen o.old).open_at ≡ Some state.old.last }
-    ensures range { IsInRange state.new }
-    ensures opens { (O.seen o.new).open_at ≡ open_behind result state.new }
-    ensures notes { Goes (O.seen o.old) (O.seen o.new) (λ notes. Carried party.now.identity inbound.entry.now.frame.now state.old steps.now notes result state.new) }
+    ensures opens { (O.seen o.new).open_at ≡ (O.seen o.old).open_at }
+    ensures fault { result ≢ Err Ending.StoreFault }
+    ensures notes { Goes (O.seen o.old) (O.seen o.new)
+        (λ notes. Performed party.now.identity inbound.entry.now.frame.now state.now (step.Hand number marked) notes
+        result state.now) }
 {
-    for step in steps {
-        perform(o, party, inbound, state, *step)?;
+    let body = match body_of(party.alloc, inbound.frame) {
+        Ok(body) => body,
+        Err(_) => return Err(Ending::OutOfMemory),
+    };
+    let handed = Handed {
+        number: number.get(),
+        marked,
+        kind: inbound.head.kind,
+        body: body.as_slice(),
+    };
+    match o.hand(&handed) {
+        Said::Taken => Ok(()),
+        Said::Failed => Err(Ending::AppFault),
+        Said::OutOfMemory => Err(Ending::OutOfMemory),
     }
-    Ok(())
 }

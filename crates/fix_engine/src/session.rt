@@ -1,4 +1,7 @@
-ghost use Rattle.std.specs.Prelude.{◌≡◌, ◌≢◌, ◌⊎◌, ◌≤◌, ◌∷◌, ◌++◌, ℕ, List, [], IfSome, IfNone, is_some, Result, IfOk, OnOk, OnErr, Some, None, Err};
+//! The calls of a session, for who opens and runs it. Each runs a stage (`turn` or `drafting`), and then notes why the
+//! session is stopped, if it is.
+ghost use Rattle.std.specs.Prelude.{◌≡◌, ◌≢◌, ◌⊎◌, ◌≤◌, ◌∷◌, ◌++◌, ℕ, List, [], IfSome, IfNone, is_some, Result, IfOk};
+ghost use Rattle.std.specs.Prelude.{OnOk, OnErr, Some, None, Err};
 ghost use Rattle.fix_base.specs.declared.entry.Stored.{Stored};
 ghost use Rattle.fix_base.specs.End.{End};
 ghost use Rattle.fix_base.specs.Session.{IsValidIdentity};
@@ -10,19 +13,22 @@ ghost use Rattle.fix_engine.specs.State.{IsInRange};
 ghost use Rattle.fix_rim.specs.Outside.{LoadAnswers};
 ghost use Rattle.fix_engine.specs.Lawful.{IsLawful, IsLawfulBegin};
 ghost use Rattle.fix_engine.specs.InStep.{IsInStep, StandsInStep, Trails, IsConnected, HasServed};
-ghost use Rattle.fix_engine.specs.Run.{desk_of, state_of, stays_stopped, LoadHasCause, OpensTo, ReopensTo, run_end, RanTo, stop_cause, RunHasCause, IsDownUnlessSpent, Opens, BeginsTo};
-ghost use Rattle.fix_engine.specs.Drafted.{SendsTo, send_stop, SendHasCause};
+ghost use Rattle.fix_engine.specs.Run.{desk_of, state_of, LoadHasCause, OpensTo, ReopensTo, RanTo, RunHasCause};
+ghost use Rattle.fix_engine.specs.Run.{IsDownUnlessSpent, Opens, BeginsTo};
+ghost use Rattle.fix_engine.specs.Drafted.{SendsTo, SendHasCause};
+ghost use Rattle.fix_engine.specs.Faults.{stop_cause, send_stop};
 ghost use Rattle.fix_engine.specs.LawfulSend.{IsLawfulSend};
 ghost use Rattle.fix_engine.specs.Turns.{HasTurns, IsSettled, ShowsPeerEnd};
 ghost use Rattle.fix_engine.specs.Stated.{IsAsStated};
 ghost use Rattle.fix_engine.specs.LookBack.{StandsAt, LooksBack};
 
 use crate::drafting::send_and_cut;
+use crate::faults::{answer_of, stop_by, stop_of, stop_of_sent};
 use crate::hand::{Hand, look_at, settle_hand};
-use crate::outbound::LAST_NUMBER;
 use crate::party::Party;
-use crate::turn::{ROOM, run_and_cut, take_reading};
-use crate::{BeginFault, Ending, LoadFault, Outside, Phase, RunEnd, SendFault, State, StopCause};
+use crate::state::{LAST_NUMBER, take_reading};
+use crate::turn::{ROOM, run_and_cut};
+use crate::{BeginFault, LoadFault, Outside, Phase, RunEnd, SendFault, State, StopCause};
 use fix_base::{Act, Identity, SeqNum, Stored};
 use fix_fields::Draft;
 use fix_frame::Reader;
@@ -51,101 +57,16 @@ impl Model for Session {
 
     ghost Value = { Seat };
 
-    ghost view = { λ s. record { identity = s.party.identity; live = live s.state s.reader.ahead; hand = s.hand; stopped = s.stopped } };
+    ghost view = { λ s. record {
+      identity = s.party.identity;
+      live = live s.state s.reader.ahead;
+      hand = s.hand;
+      stopped =
+          s.stopped;
+    } };
 
-    ghost invariant = { λ s. IsValidIdentity s.party.identity × IsInRange s.state × (length s.room.items ≡ 65536) × (s.stopped ≡ None → s.hand.tried ≡ false) };
-}
-
-// Reads the clock, and notes that a connection is opened.
-fn open_connection<O: Outside>(o: &mut O) -> Result<u64, BeginFault>
-    ensures opens { (O.seen o.new).open_at ≡ (O.seen o.old).open_at }
-    ensures notes { Goes (O.seen o.old) (O.seen o.new) (Opens result) }
-{
-    match o.now() {
-        Ok(reading) => match o.mark(false) {
-            Ok(()) => Ok(reading),
-            Err(_) => Err(BeginFault::OutOfMemory),
-        },
-        Err(_) => Err(BeginFault::OutOfMemory),
-    }
-}
-
-// What a run answers.
-fn answer_of(ran: &Result<(), Ending>) -> RunEnd
-    ensures { result ≡ run_end ran.now }
-{
-    match ran {
-        Ok(()) => RunEnd::TurnsSpent,
-        Err(Ending::Closed(why)) => RunEnd::Closed(*why),
-        Err(Ending::NotBuilt { number }) => RunEnd::NotBuilt { number: *number },
-        Err(Ending::StoreFault) => RunEnd::StoreFault,
-        Err(Ending::LinkFault) => RunEnd::LinkFault,
-        Err(Ending::AppFault) => RunEnd::AppFault,
-        Err(Ending::NumbersSpent) => RunEnd::NumbersSpent,
-        Err(Ending::OutOfMemory) => RunEnd::OutOfMemory,
-    }
-}
-
-// Why the session is stopped after this answer.
-fn stop_of(answer: RunEnd) -> Option<StopCause>
-    ensures { result ≡ stop_cause answer }
-{
-    match answer {
-        RunEnd::TurnsSpent => None,
-        RunEnd::Closed(_) => None,
-        RunEnd::NotBuilt { .. } => None,
-        RunEnd::LinkFault => None,
-        RunEnd::NumbersSpent => None,
-        RunEnd::StoreFault => Some(StopCause::StoreFault),
-        RunEnd::AppFault => Some(StopCause::AppFault),
-        RunEnd::OutOfMemory => Some(StopCause::OutOfMemory),
-        RunEnd::Stopped(cause) => Some(cause),
-    }
-}
-
-// Why the session is stopped after this answer to `send`.
-fn stop_of_sent(sent: &Result<SeqNum, SendFault>) -> Option<StopCause>
-    ensures { result ≡ send_stop sent.now }
-{
-    match sent {
-        Ok(_) => None,
-        Err(SendFault::NumbersSpent) => None,
-        Err(SendFault::LinkFault { .. }) => None,
-        Err(SendFault::Stopped(cause)) => Some(*cause),
-        Err(SendFault::OutOfMemory) => Some(StopCause::OutOfMemory),
-        Err(SendFault::StoreFault) => Some(StopCause::StoreFault),
-    }
-}
-
-// A session that starts from these numbers.
-fn state_from(stored: Stored) -> State
-    requires last { stored.last ≤ 999999999 }
-    requires first { 1 ≤ stored.expected }
-    requires bound { stored.expected ≤ 1000000000 }
-    ensures range { IsInRange result }
-    ensures numbers { result ≡ state_of stored }
-{
-    State {
-        phase: Phase::Down,
-        expected: stored.expected,
-        kept: stored.expected,
-        last: stored.last,
-        reading: 0,
-    }
-}
-
-// Why the session is stopped where its store was not opened.
-fn stop_by(stopped: Option<StopCause>, fault: LoadFault) -> StopCause
-    ensures { Some result ≡ stays_stopped stopped fault }
-{
-    if let Some(cause) = stopped {
-        return cause;
-    }
-    match fault {
-        LoadFault::Failed => StopCause::StoreFault,
-        LoadFault::Damaged(_) => StopCause::StoreFault,
-        LoadFault::OutOfMemory => StopCause::OutOfMemory,
-    }
+    ghost invariant = { λ s. IsValidIdentity s.party.identity × IsInRange s.state × (length s.room.items ≡ 65536) ×
+        (s.stopped ≡ None → s.hand.tried ≡ false) };
 }
 
 impl Session {
@@ -158,7 +79,8 @@ impl Session {
         identity: Identity,
     ) -> Result<Session, LoadFault>
         requires { IsValidIdentity identity }
-        ensures opens { (loaded : Result Stored LoadFault) × LoadAnswers loaded (O.seen o.old) × Goes (O.seen o.old) (O.seen o.new) (OpensTo identity result loaded) }
+        ensures opens { (loaded : Result Stored LoadFault) × LoadAnswers loaded (O.seen o.old) ×
+            Goes (O.seen o.old) (O.seen o.new) (OpensTo identity result loaded) }
         ensures cause { LoadHasCause result (O.seen o.old).faults (O.seen o.new).faults }
         ensures in_step { IfOk result (StandsInStep (O.seen o.new)) }
         // The store isn't open then, unless it wasn't asked.
@@ -194,13 +116,16 @@ impl Session {
     /// last number. Else it is still in hand, and sent first in the next turn in phase Up.
     pub fn reopen<O: Outside>(&mut self, o: &mut O) -> Result<(), LoadFault>
         requires { IfNone self.old.stopped (self.old.live.state.phase ≡ Phase.Down) }
-        ensures loads { (loaded : Result Stored LoadFault) × LoadAnswers loaded (O.seen o.old) × Goes (O.seen o.old) (O.seen o.new) (ReopensTo self.old result loaded self.new) }
+        ensures loads { (loaded : Result Stored LoadFault) × LoadAnswers loaded (O.seen o.old) ×
+            Goes (O.seen o.old) (O.seen o.new) (ReopensTo self.old result loaded self.new) }
         ensures cause { LoadHasCause result (O.seen o.old).faults (O.seen o.new).faults }
         ensures stands { OnOk result (StandsInStep (O.seen o.new) self.new) }
         // Where the store tells what it holds: the acts since some start are a run of a lawful end
         // still, and what was in doubt is settled.
-        ensures in_step { OnOk result ((start : EndState) (before : List Act) (e : End) → (O.seen o.old).Holds e → Trails start before (O.seen o.old) self.old → IsInStep start before (O.seen o.new) self.new) }
-        ensures trails { OnErr result ((start : EndState) (before : List Act) → Trails start before (O.seen o.old) self.old → Trails start before (O.seen o.new) self.new) }
+        ensures in_step { OnOk result ((start : EndState) (before : List Act) (e : End) → (O.seen o.old).Holds e →
+            Trails start before (O.seen o.old) self.old → IsInStep start before (O.seen o.new) self.new) }
+        ensures trails { OnErr result ((start : EndState) (before : List Act) →
+            Trails start before (O.seen o.old) self.old → Trails start before (O.seen o.new) self.new) }
         ensures shut { OnErr result ((O.seen o.new).open_at ≡ None) }
     {
         match o.load() {
@@ -230,16 +155,24 @@ impl Session {
         ensures stays { IfSome self.old.stopped (λ cause. self.new ≡ self.old) }
 
         // On a session that goes on.
-        ensures begins { IfNone self.old.stopped (Goes (O.seen o.old) (O.seen o.new) (BeginsTo self.old result self.new)) }
+        ensures begins { IfNone self.old.stopped
+            (Goes (O.seen o.old) (O.seen o.new) (BeginsTo self.old result self.new)) }
         ensures from_here { IfNone self.old.stopped (OnOk result (StandsAt self.new.live.state [] [] self.new.live)) }
 
         // It is a run of a lawful end, and where the session isn't stopped it is in step with what is
         // outside of it, and connected.
-        ensures lawful { IfNone self.old.stopped (Goes (O.seen o.old) (O.seen o.new) (IsLawfulBegin self.old result self.new)) }
-        ensures in_step { IfNone self.new.stopped ((start : EndState) (before : List Act) → IsInStep start before (O.seen o.old) self.old → IsInStep start before (O.seen o.new) self.new) }
-        ensures trails { IfNone self.old.stopped ((start : EndState) (before : List Act) → IsInStep start before (O.seen o.old) self.old → Trails start before (O.seen o.new) self.new) }
+        ensures lawful { IfNone self.old.stopped
+            (Goes (O.seen o.old) (O.seen o.new) (IsLawfulBegin self.old result self.new)) }
+        ensures in_step { IfNone self.new.stopped
+            ((start : EndState) (before : List Act) → IsInStep start before (O.seen o.old) self.old →
+            IsInStep start before (O.seen o.new) self.new) }
+        ensures trails { IfNone self.old.stopped
+            ((start : EndState) (before : List Act) → IsInStep start before (O.seen o.old) self.old →
+            Trails start before (O.seen o.new) self.new) }
         ensures stands { IfNone self.new.stopped (StandsInStep (O.seen o.new) self.new) }
-        ensures connected { IfNone self.new.stopped ((start : EndState) (before : List Act) (h : IsInStep start before (O.seen o.old) self.old) → (time : ℕ) × IsConnected h.to (before ++ h.acts ++ Act.Now time ∷ []) (O.seen o.new) self.new) }
+        ensures connected { IfNone self.new.stopped
+            ((start : EndState) (before : List Act) (h : IsInStep start before (O.seen o.old) self.old) → (time : ℕ) ×
+            IsConnected h.to (before ++ h.acts ++ Act.Now time ∷ []) (O.seen o.new) self.new) }
     {
         if let Some(cause) = self.stopped {
             return Err(BeginFault::Stopped(cause));
@@ -283,37 +216,56 @@ impl Session {
         ensures stays { IfSome self.old.stopped (λ cause. self.new ≡ self.old) }
 
         // On a session that goes on: what it did, what it answers, and what it is then.
-        ensures runs { IfNone self.old.stopped (Goes (O.seen o.old) (O.seen o.new) (RanTo self.old.identity turns (desk_of self.old) result (desk_of self.new))) }
+        ensures runs { IfNone self.old.stopped (Goes (O.seen o.old) (O.seen o.new)
+            (RanTo self.old.identity turns (desk_of self.old) result (desk_of self.new))) }
         ensures identity { self.new.identity ≡ self.old.identity }
         ensures stops { IfNone self.old.stopped (self.new.stopped ≡ stop_cause result) }
         ensures cause { IfNone self.old.stopped (RunHasCause result (O.seen o.old).faults (O.seen o.new).faults) }
-        ensures phase { IfNone self.old.stopped (IsDownUnlessSpent result self.old.live.state.phase self.new.live.state.phase) }
+        ensures phase { IfNone self.old.stopped (IsDownUnlessSpent result self.old.live.state.phase
+            self.new.live.state.phase) }
 
         // Where no part failed: all of it, or a front of it where memory was refused.
-        ensures as_stated { NoneRose (O.seen o.old).faults (O.seen o.new).faults → IfNone self.old.stopped (Goes (O.seen o.old) (O.seen o.new) (IsAsStated self.old.identity turns (desk_of self.old) result (desk_of self.new))) }
+        ensures as_stated { NoneRose (O.seen o.old).faults (O.seen o.new).faults →
+            IfNone self.old.stopped (Goes (O.seen o.old) (O.seen o.new)
+            (IsAsStated self.old.identity turns (desk_of self.old) result (desk_of self.new))) }
 
         // By looking back over the frames that were answered on the connection, and over its acts.
-        ensures looks_back { IfNone self.old.stopped ((start : State) (answered : List (List ℕ)) (acts : List Act) → StandsAt start answered acts self.old.live → Goes (O.seen o.old) (O.seen o.new) (LooksBack self.old.identity start answered acts result self.new.live)) }
+        ensures looks_back { IfNone self.old.stopped
+            ((start : State) (answered : List (List ℕ)) (acts : List Act) →
+            StandsAt start answered acts self.old.live →
+            Goes (O.seen o.old) (O.seen o.new) (LooksBack self.old.identity start answered acts result self.new.live)) }
 
         // How many turns it made, with how many calls, what is kept behind them, and that it answers the
         // other side's end of the connection just where it read so.
         ensures turns { IfNone self.old.stopped (Goes (O.seen o.old) (O.seen o.new) (HasTurns turns result)) }
-        ensures settled { IfNone self.old.stopped ((turns ≡ 0 → self.old.live.state.kept ≡ self.old.live.state.expected) → IsSettled result self.new.live.state) }
-        ensures peer_end { IfNone self.old.stopped (Goes (O.seen o.old) (O.seen o.new) (λ notes. ShowsPeerEnd result (acts_of notes))) }
+        ensures settled { IfNone self.old.stopped
+            ((turns ≡ 0 → self.old.live.state.kept ≡ self.old.live.state.expected) →
+            IsSettled result self.new.live.state) }
+        ensures peer_end { IfNone self.old.stopped
+            (Goes (O.seen o.old) (O.seen o.new) (λ notes. ShowsPeerEnd result (acts_of notes))) }
 
         // It is a run of a lawful end, and a session that isn't stopped stays in step with what is outside
         // of it, and connected where all turns were made.
-        ensures lawful { IfNone self.old.stopped (Goes (O.seen o.old) (O.seen o.new) (IsLawful self.old.identity self.old.live result self.new.live)) }
-        ensures in_step { IfNone self.new.stopped ((start : EndState) (before : List Act) → IsInStep start before (O.seen o.old) self.old → IsInStep start before (O.seen o.new) self.new) }
-        ensures trails { IfNone self.old.stopped ((start : EndState) (before : List Act) → IsInStep start before (O.seen o.old) self.old → Trails start before (O.seen o.new) self.new) }
+        ensures lawful { IfNone self.old.stopped
+            (Goes (O.seen o.old) (O.seen o.new) (IsLawful self.old.identity self.old.live result self.new.live)) }
+        ensures in_step { IfNone self.new.stopped
+            ((start : EndState) (before : List Act) → IsInStep start before (O.seen o.old) self.old →
+            IsInStep start before (O.seen o.new) self.new) }
+        ensures trails { IfNone self.old.stopped
+            ((start : EndState) (before : List Act) → IsInStep start before (O.seen o.old) self.old →
+            Trails start before (O.seen o.new) self.new) }
         ensures stands { IfNone self.new.stopped (StandsInStep (O.seen o.new) self.new) }
-        ensures connected { result ≡ RunEnd.TurnsSpent → (start : EndState) (before : List Act) → IsConnected start before (O.seen o.old) self.old → IsConnected start before (O.seen o.new) self.new }
+        ensures connected { result ≡ RunEnd.TurnsSpent → (start : EndState) (before : List Act) →
+            IsConnected start before (O.seen o.old) self.old → IsConnected start before (O.seen o.new) self.new }
 
         // What it wrote on the connection may be written, and what it keeps may be sent again. Over what
         // a counterparty wrote that keeps its messages the session keeps up with it, whatever this answers:
         // what it handed over, each number once, are the first messages that the counterparty stored, none
         // is left out, and each that the counterparty stored before the connection comes marked.
-        ensures headline { IfNone self.old.stopped ((start : EndState) (before : List Act) (h : IsConnected start before (O.seen o.old) self.old) → Goes (O.seen o.old) (O.seen o.new) (λ notes. HasServed self.old.identity result self.new.live start h.opened (h.acts ++ acts_of notes))) }
+        ensures headline { IfNone self.old.stopped
+            ((start : EndState) (before : List Act) (h : IsConnected start before (O.seen o.old) self.old) →
+            Goes (O.seen o.old) (O.seen o.new) (λ notes. HasServed self.old.identity result self.new.live start
+            h.opened (h.acts ++ acts_of notes))) }
     {
         if let Some(cause) = self.stopped {
             return RunEnd::Stopped(cause);
@@ -349,21 +301,32 @@ impl Session {
         ensures stays { IfSome self.old.stopped (λ cause. self.new ≡ self.old) }
 
         // On a session that goes on: what it did, what it answers, and what it is then.
-        ensures sends { IfNone self.old.stopped (Goes (O.seen o.old) (O.seen o.new) (SendsTo self.old.identity draft.now self.old.live result self.new.live)) }
+        ensures sends { IfNone self.old.stopped (Goes (O.seen o.old) (O.seen o.new)
+            (SendsTo self.old.identity draft.now self.old.live result self.new.live)) }
         ensures identity { self.new.identity ≡ self.old.identity }
         ensures hand { self.new.hand ≡ self.old.hand }
         ensures stops { IfNone self.old.stopped (self.new.stopped ≡ send_stop result) }
         ensures cause { IfNone self.old.stopped (SendHasCause result (O.seen o.old).faults (O.seen o.new).faults) }
         ensures spent { IfNone self.old.stopped (999999999 ≤ self.old.live.state.last → o.new ≡ o.old) }
-        ensures from_here { IfNone self.old.stopped (OnOk result ((start : State) (answered : List (List ℕ)) (acts : List Act) → StandsAt start answered acts self.old.live → Goes (O.seen o.old) (O.seen o.new) (λ notes. StandsAt start answered (acts ++ acts_of notes) self.new.live))) }
+        ensures from_here { IfNone self.old.stopped
+            (OnOk result ((start : State) (answered : List (List ℕ)) (acts : List Act) →
+            StandsAt start answered acts self.old.live →
+            Goes (O.seen o.old) (O.seen o.new) (λ notes. StandsAt start answered (acts ++ acts_of notes)
+            self.new.live))) }
 
         // It is a run of a lawful end, and a session that isn't stopped stays in step with what is outside
         // of it, and connected where it answers a number.
-        ensures lawful { IfNone self.old.stopped (Goes (O.seen o.old) (O.seen o.new) (IsLawfulSend self.old.identity self.old.live result self.new.live)) }
-        ensures in_step { IfNone self.new.stopped ((start : EndState) (before : List Act) → IsInStep start before (O.seen o.old) self.old → IsInStep start before (O.seen o.new) self.new) }
-        ensures trails { IfNone self.old.stopped ((start : EndState) (before : List Act) → IsInStep start before (O.seen o.old) self.old → Trails start before (O.seen o.new) self.new) }
+        ensures lawful { IfNone self.old.stopped
+            (Goes (O.seen o.old) (O.seen o.new) (IsLawfulSend self.old.identity self.old.live result self.new.live)) }
+        ensures in_step { IfNone self.new.stopped
+            ((start : EndState) (before : List Act) → IsInStep start before (O.seen o.old) self.old →
+            IsInStep start before (O.seen o.new) self.new) }
+        ensures trails { IfNone self.old.stopped
+            ((start : EndState) (before : List Act) → IsInStep start before (O.seen o.old) self.old →
+            Trails start before (O.seen o.new) self.new) }
         ensures stands { IfNone self.new.stopped (StandsInStep (O.seen o.new) self.new) }
-        ensures connected { OnOk result ((start : EndState) (before : List Act) → IsConnected start before (O.seen o.old) self.old → IsConnected start before (O.seen o.new) self.new) }
+        ensures connected { OnOk result ((start : EndState) (before : List Act) →
+            IsConnected start before (O.seen o.old) self.old → IsConnected start before (O.seen o.new) self.new) }
     {
         if let Some(cause) = self.stopped {
             return Err(SendFault::Stopped(cause));
@@ -408,5 +371,36 @@ impl Session {
         ensures { result ≡ self.now.stopped }
     {
         self.stopped
+    }
+}
+
+// Reads the clock, and notes that a connection is opened.
+fn open_connection<O: Outside>(o: &mut O) -> Result<u64, BeginFault>
+    ensures opens { (O.seen o.new).open_at ≡ (O.seen o.old).open_at }
+    ensures notes { Goes (O.seen o.old) (O.seen o.new) (Opens result) }
+{
+    match o.now() {
+        Ok(reading) => match o.mark(false) {
+            Ok(()) => Ok(reading),
+            Err(_) => Err(BeginFault::OutOfMemory),
+        },
+        Err(_) => Err(BeginFault::OutOfMemory),
+    }
+}
+
+// A session that starts from these numbers.
+fn state_from(stored: Stored) -> State
+    requires last { stored.last ≤ 999999999 }
+    requires first { 1 ≤ stored.expected }
+    requires bound { stored.expected ≤ 1000000000 }
+    ensures range { IsInRange result }
+    ensures numbers { result ≡ state_of stored }
+{
+    State {
+        phase: Phase::Down,
+        expected: stored.expected,
+        kept: stored.expected,
+        last: stored.last,
+        reading: 0,
     }
 }

@@ -1,4 +1,14 @@
+//! The state of a session, the steps that change it, and the bounds of its numbers. Each stage takes these.
+ghost use Rattle.std.specs.Prelude.{◌≡◌};
+ghost use Rattle.fix_engine.specs.State.{IsInRange, with_reading};
+
 use fix_base::SeqNum;
+
+/// The greatest outbound MsgSeqNum (34).
+pub const LAST_NUMBER: u32 = 999_999_999;
+
+/// The last microsecond of 2099, since 1970.
+const LAST_TIME: u64 = 4_102_444_799_999_999;
 
 /// The phase of a session.
 ///
@@ -94,4 +104,13 @@ pub enum Step {
 #[derive(Clone, Copy)]
 pub struct Decision {
     pub steps: [Step; 4],
+}
+
+/// Takes a reading of the clock, in microseconds since 1970. One after the end of 2099 counts as that.
+pub fn take_reading(state: &mut State, reading: u64)
+    requires range { IsInRange state.old }
+    ensures range { IsInRange state.new }
+    ensures taken { state.new ≡ with_reading state.old reading }
+{
+    state.reading = reading.min(LAST_TIME);
 }

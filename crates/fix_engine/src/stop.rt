@@ -1,3 +1,4 @@
+//! What the calls of a session answer.
 use crate::Why;
 use fix_base::SeqNum;
 

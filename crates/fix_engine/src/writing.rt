@@ -1,3 +1,4 @@
+//! The text of a message that a session writes: its header, and its own fields. `outbound` and `drafting` call this.
 ghost use Rattle.std.specs.Prelude.{◌≡◌, ◌≤◌, ◌++◌, IfOk, OnOk};
 ghost use Rattle.std.specs.Fmt.{decimal};
 ghost use Rattle.fix_base.specs.Payload.{field, LAST_TIME};
@@ -14,15 +15,7 @@ use std::alloc::{AllocError, Global};
 /// Room for the fields of a header: 34, 49, 52 and 56.
 const HEADER_ROOM: usize = 192;
 
-// Writes a field of a number behind what is there.
-fn push_number(out: &mut Vec<u8>, tag: u32, number: u32) -> Result<(), AllocError>
-    ensures { OnOk result (out.new.items ≡ out.old.items ++ field_text (field tag (decimal number))) }
-{
-    let mut digits = Buffer::new();
-    push_field(out, tag, digits.format(number).as_bytes())
-}
-
-/// The fields of an original's header behind MsgType (35): MsgSeqNum (34), SenderCompID (49),
+/// The fields of an original's header after MsgType (35): MsgSeqNum (34), SenderCompID (49),
 /// SendingTime (52) in milliseconds, TargetCompID (56).
 pub fn header(
     alloc: Global,
@@ -42,7 +35,7 @@ pub fn header(
     Ok(out)
 }
 
-/// The fields behind the header of what is said.
+/// The fields after the header of what is said.
 pub fn rest(alloc: Global, say: Say) -> Result<Vec<u8>, OutOfMemory>
     ensures text { IfOk result (λ text. text.items ≡ fields_text (fields_of say)) }
     ensures fits { IfOk result (λ text. IsSayable say) }
@@ -56,4 +49,12 @@ pub fn rest(alloc: Global, say: Say) -> Result<Vec<u8>, OutOfMemory>
         Say::Logout => {}
     }
     Ok(out)
+}
+
+// Appends a field of a number.
+fn push_number(out: &mut Vec<u8>, tag: u32, number: u32) -> Result<(), AllocError>
+    ensures { OnOk result (out.new.items ≡ out.old.items ++ field_text (field tag (decimal number))) }
+{
+    let mut digits = Buffer::new();
+    push_field(out, tag, digits.format(number).as_bytes())
 }

@@ -21,12 +21,13 @@ use Rattle.fix_engine.specs.State.{with_kept}
 use Rattle.fix_engine.specs.Fold as fold
 use Rattle.fix_engine.specs.Fold.{Each, AndThen, first_ends, both}
 use Rattle.fix_engine.specs.Turn as turn
-use Rattle.fix_engine.specs.Turn.{Live, live, fed, Taken, Fed, Heard, Clocked, KeptExpected, down, settles_of}
+use Rattle.fix_engine.specs.Turn.{Live, live, fed, Taken, Fed, Heard, Clocked, KeptExpected, down}
 use Rattle.fix_engine.specs.declared.hand.Hand.{Hand}
 use Rattle.fix_engine.specs.Desk as course
 use Rattle.fix_engine.specs.Desk.{Desk, desk, no_draft, Offered, beside, Met, Turn, OneTurn, Ran}
 use Rattle.fix_rim.specs.declared.outside.LoadFault.TheVariants as load
-use Rattle.fix_engine.specs.Run.{state_of, no_bytes, begun, opened_to, run_end}
+use Rattle.fix_engine.specs.Run.{state_of, no_bytes, begun, opened_to}
+use Rattle.fix_engine.specs.Faults.{settles_of, run_end}
 use Rattle.fix_engine.proofs.Turns.{Fed-answers}
 use Rattle.fix_top.specs.Serve.{status_of, Served, not_made, not_opened, not_begun, ran}
 use Rattle.fix_top.specs.Sample.{SAMPLE_ID, SAMPLE_TIME, SAMPLE, BODY, LOGON_ANSWER, LOGOUT_ANSWER, LooksAt, ReadsPieces, HasRooms, ServesSample}

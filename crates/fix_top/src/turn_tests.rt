@@ -1,6 +1,6 @@
 ghost use Rattle.std.specs.Prelude.{◌≡◌, ◌≢◌, IfNone, IfOk, OnOk, if◌then◌else◌, Some, None};
-ghost use Rattle.fix_engine.specs.Run.{stop_cause, IsDownUnlessSpent};
-ghost use Rattle.fix_engine.specs.Drafted.{send_stop};
+ghost use Rattle.fix_engine.specs.Run.{IsDownUnlessSpent};
+ghost use Rattle.fix_engine.specs.Faults.{stop_cause, send_stop};
 ghost use Rattle.fix_engine.specs.InStep.{StandsInStep};
 
 use super::*;

@@ -9,13 +9,19 @@ returns-in-Err-clause-notes g c = (_, Moves-nil _, no_memory)
 
 pub returns-in-Done-clause-notes : goal.returns-in-Done-clause-notes
 returns-in-Done-clause-notes g c =
-    let h = c.in-Ok-keep_draft.ensures.notes in
-    (_, Moves-append _ _ _ _ _ h.1 (rw c.as_slice.ensures at c.in-Done.ensures.noted), sent _ c.requires.up c.in-Ok.ensures h.2)
+    let h = c.in-Ok-keep_draft.ensures.notes in (
+      _,
+      Moves-append _ _ _ _ _ h.1 (rw c.as_slice.ensures at c.in-Done.ensures.noted),
+      sent _ c.requires.up c.in-Ok.ensures h.2,
+    )
 
 pub returns-in-Failed-clause-notes : goal.returns-in-Failed-clause-notes
 returns-in-Failed-clause-notes g c =
-    let h = c.in-Ok-keep_draft.ensures.notes in
-    (_, Moves-append _ _ _ _ _ h.1 (rw c.as_slice.ensures at c.in-Failed.ensures.noted), write_lost _ _ c.requires.up c.in-Ok.ensures h.2)
+    let h = c.in-Ok-keep_draft.ensures.notes in (
+      _,
+      Moves-append _ _ _ _ _ h.1 (rw c.as_slice.ensures at c.in-Failed.ensures.noted),
+      write_lost _ _ c.requires.up c.in-Ok.ensures h.2,
+    )
 
 pub returns-in-Ok-keep_draft-clause-notes : goal.returns-in-Ok-keep_draft-clause-notes
 returns-in-Ok-keep_draft-clause-notes g c =

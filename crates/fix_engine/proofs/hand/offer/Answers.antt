@@ -7,13 +7,21 @@ use Rattle.fix_engine.proofs.hand.offer.Goals as goal
 
 pub returns-then-is_some-clause-notes : goal.returns-then-is_some-clause-notes
 returns-then-is_some-clause-notes g c =
-    let h = c.send_in_hand.ensures.notes in
-    (h.0, h.1, offered_held _ (desk (live c.args.state.now c.args.reader.now.ahead) c.args.hand.now) _ _ _ c.in-Up.is (sym c.is_some.ensures ∙ c.if-is_some.true) h.2)
+    let h = c.send_in_hand.ensures.notes in (
+      h.0,
+      h.1,
+      offered_held _ (desk (live c.args.state.now c.args.reader.now.ahead) c.args.hand.now) _ _ _ c.in-Up.is
+          (sym c.is_some.ensures ∙ c.if-is_some.true) h.2,
+    )
 
 pub returns-else-is_some-clause-notes : goal.returns-else-is_some-clause-notes
 returns-else-is_some-clause-notes g c =
-    let h = c.send_in_hand-in-Up.ensures.notes in
-    (_, Moves-append _ _ _ _ _ c.ask_for.ensures.noted h.1, offered_asked _ (desk (live c.args.state.now c.args.reader.now.ahead) c.args.hand.now) c.ask_for.new.hand _ _ _ c.in-Up.is (sym c.is_some.ensures ∙ c.if-is_some.false) c.ask_for.ensures.tried h.2)
+    let h = c.send_in_hand-in-Up.ensures.notes in (
+      _,
+      Moves-append _ _ _ _ _ c.ask_for.ensures.noted h.1,
+      offered_asked _ (desk (live c.args.state.now c.args.reader.now.ahead) c.args.hand.now) c.ask_for.new.hand _ _
+          _ c.in-Up.is (sym c.is_some.ensures ∙ c.if-is_some.false) c.ask_for.ensures.tried h.2,
+    )
 
 pub returns-in-AwaitLogon-clause-notes : goal.returns-in-AwaitLogon-clause-notes
 returns-in-AwaitLogon-clause-notes g c =

@@ -4,30 +4,38 @@ use Rattle.fix_engine.proofs.TakenLemmas.{frame_shortens, start, one_more, ended
 use Rattle.fix_engine.proofs.handling.take_frames.Goals as goal
 
 pub loop-frame-init : goal.loop-frame-init
-loop-frame-init g c = record { range = c.requires.range; opens = c.requires.opens; done = start _ _ _ }
+loop-frame-init g c = record { ready = c.requires.ready; done = start _ _ _ }
 
 pub handle-requires-clause-frame : goal.handle-requires-clause-frame
 handle-requires-clause-frame g c =
-    let given : NextFrame c.loop-frame.reader c.next.follows.lender-at-none c.in-Some.frame.now = rw c.in-Some.is at c.next.follows.holds-at-none in
+    let given : NextFrame c.loop-frame.reader c.next.follows.lender-at-none c.in-Some.frame.now =
+    rw c.in-Some.is at c.next.follows.holds-at-none in
     given.gives.frame_there.is.1
 
 pub loop-frame-smaller : goal.loop-frame-smaller
 loop-frame-smaller g c =
-    let given : NextFrame c.loop-frame.reader c.next.follows.lender-at-none c.in-Some.frame.now = rw c.in-Some.is at c.next.follows.holds-at-none in
+    let given : NextFrame c.loop-frame.reader c.next.follows.lender-at-none c.in-Some.frame.now =
+    rw c.in-Some.is at c.next.follows.holds-at-none in
     frame_shortens _ _ _ given.gives
 
 pub loop-frame-preserved : goal.loop-frame-preserved
 loop-frame-preserved g c =
-    let given : NextFrame c.loop-frame.reader c.next.follows.lender-at-none c.in-Some.frame.now = rw c.in-Some.is at c.next.follows.holds-at-none in
-    record { range = c.handle.ensures.range; opens = c.in_ok-handle.ensures.opens; done = one_more _ _ _ _ _ _ _ _ _ _ c.loop-frame.invariant.done given.gives c.in_ok-handle.ensures.notes }
+    let given : NextFrame c.loop-frame.reader c.next.follows.lender-at-none c.in-Some.frame.now =
+    rw c.in-Some.is at c.next.follows.holds-at-none in
+    record {
+      ready = c.in_ok-handle.ensures.ready;
+      done = one_more _ _ _ _ _ _ _ _ _ _ c.loop-frame.invariant.done given.gives c.in_ok-handle.ensures.notes;
+    }
 
 pub returns-in_err-handle-clause-notes : goal.returns-in_err-handle-clause-notes
 returns-in_err-handle-clause-notes g c =
-    let given : NextFrame c.loop-frame.reader c.next.follows.lender-at-none c.in-Some.frame.now = rw c.in-Some.is at c.next.follows.holds-at-none in
+    let given : NextFrame c.loop-frame.reader c.next.follows.lender-at-none c.in-Some.frame.now =
+    rw c.in-Some.is at c.next.follows.holds-at-none in
     let p = err_from_is_err_and c.from_residual.result c.from_residual.ensures.1 in
     rw (p.1, p.2) (ended _ _ _ _ _ _ _ _ _ _ _ c.loop-frame.invariant.done given.gives c.in_err-handle.ensures.notes)
 
 pub returns-clause-notes : goal.returns-clause-notes
 returns-clause-notes g c =
-    let given : NextNone c.loop-frame.reader c.next.follows.lender-at-none = rw c.in_default.is at c.next.follows.holds-at-none in
+    let given : NextNone c.loop-frame.reader c.next.follows.lender-at-none =
+    rw c.in_default.is at c.next.follows.holds-at-none in
     all_done _ _ _ _ _ _ _ c.loop-frame.invariant.done given.gives

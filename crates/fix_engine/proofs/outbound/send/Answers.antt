@@ -5,14 +5,16 @@ use Rattle.fix_engine.proofs.outbound.send.Goals as goal
 pub returns-in-Done-clause-notes : goal.returns-in-Done-clause-notes
 returns-in-Done-clause-notes g c frame = (
   _,
-  Moves-append _ _ _ _ _ (rw c.record_of.ensures at c.in-Ok-keep.ensures.noted) (rw c.as_slice.ensures at c.in-Done.ensures.noted),
+  Moves-append _ _ _ _ _ (rw c.record_of.ensures at c.in-Ok-keep.ensures.noted)
+      (rw c.as_slice.ensures at c.in-Done.ensures.noted),
   sent _ _ _ c.if-state-ge-LAST_NUMBER.false c.in-Ok.ensures,
 )
 
 pub returns-in-Failed-clause-notes : goal.returns-in-Failed-clause-notes
 returns-in-Failed-clause-notes g c frame = rw c.count.ensures.counted (
   _,
-  Moves-append _ _ _ _ _ (rw c.record_of.ensures at c.in-Ok-keep.ensures.noted) (rw c.as_slice.ensures at c.in-Failed.ensures.noted),
+  Moves-append _ _ _ _ _ (rw c.record_of.ensures at c.in-Ok-keep.ensures.noted)
+      (rw c.as_slice.ensures at c.in-Failed.ensures.noted),
   write_lost _ _ _ _ c.if-state-ge-LAST_NUMBER.false c.in-Ok.ensures,
 )
 

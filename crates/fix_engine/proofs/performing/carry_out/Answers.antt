@@ -5,16 +5,17 @@ use Rattle.fix_engine.proofs.performing.carry_out.Goals as goal
 pub returns-in_err-perform-clause-notes : goal.returns-in_err-perform-clause-notes
 returns-in_err-perform-clause-notes g c =
     let p = err_from_is_err_and c.from_residual.result c.from_residual.ensures.1 in
-    rw (p.1, p.2) (stopped_at _ _ _ _ _ _ _ _ _ c.step-item.result _ c.loop-step-test.true c.loop-step.invariant.done (rw (← c.step-item.is) c.in_err-perform.ensures.notes))
+    rw (p.1, p.2) (stopped_at _ _ _ _ _ _ _ _ _ c.step-item.result _ c.loop-step-test.true c.loop-step.invariant.done
+    (rw (← c.step-item.is) c.in_err-perform.ensures.notes))
 
 pub loop-step-init : goal.loop-step-init
-loop-step-init g c = record { range = c.requires.range; opens = c.requires.opens; done = started _ _ _ _ }
+loop-step-init g c = record { ready = c.requires.ready; done = started _ _ _ _ }
 
 pub loop-step-preserved : goal.loop-step-preserved
 loop-step-preserved g c = record {
-  range = c.perform.ensures.range;
-  opens = c.in_ok-perform.ensures.opens;
-  done = goes_on_at _ _ _ _ _ _ _ _ _ c.step-item.result c.loop-step-test.true c.loop-step.invariant.done (rw (← c.step-item.is) c.in_ok-perform.ensures.notes);
+  ready = c.in_ok-perform.ensures.ready;
+  done = goes_on_at _ _ _ _ _ _ _ _ _ c.step-item.result c.loop-step-test.true c.loop-step.invariant.done
+      (rw (← c.step-item.is) c.in_ok-perform.ensures.notes);
 }
 
 pub returns-clause-notes : goal.returns-clause-notes

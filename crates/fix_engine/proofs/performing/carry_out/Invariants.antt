@@ -1,12 +1,12 @@
-use Rattle.std.proofs.Common.{◌≡◌, Some, drop}
-use Rattle.fix_engine.specs.State.{IsInRange}
+use Rattle.std.proofs.Common.{Some, drop}
+use Rattle.fix_engine.specs.Ready.{IsReady}
 use Rattle.fix_engine.specs.Answer.{Performed}
 use Rattle.fix_engine.proofs.FoldLemmas.{SoFar}
 use Rattle.fix_engine.proofs.performing.carry_out.Given as goal
 
 abbrev pub invariant-loop-step : goal.invariant-loop-step
 invariant-loop-step g l = record {
-  range : IsInRange l.state;
-  opens : (g.O.Outside.seen l.o).open_at ≡ Some l.state.last;
-  done : SoFar (Performed l.party.identity l.inbound.frame.now) (g.O.Outside.seen l.initial.o) (g.O.Outside.seen l.o) l.initial.state l.steps l.state (drop l.step-index l.steps);
+  ready : IsReady l.party.identity (g.O.Outside.seen l.o) (Some l.state.last) l.state;
+  done : SoFar (Performed l.party.identity l.inbound.frame.now) (g.O.Outside.seen l.initial.o) (g.O.Outside.seen l.o)
+      l.initial.state l.steps l.state (drop l.step-index l.steps);
 }

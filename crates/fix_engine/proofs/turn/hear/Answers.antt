@@ -5,8 +5,12 @@ use Rattle.fix_engine.proofs.turn.hear.Goals as goal
 
 pub returns-in-Bytes-clause-notes : goal.returns-in-Bytes-clause-notes
 returns-in-Bytes-clause-notes g c =
-    let h = c.take_bytes.ensures.notes in
-    (_, Moves-append _ _ _ _ _ c.in-Bytes.ensures.noted h.1, bytes _ (omega (arith, length-take {A = ℕ}, c.in-Bytes.ensures.in_room)) (omega (arith, length-take {A = ℕ}, c.in-Bytes.ensures.in_room, c.requires.room)) h.2)
+    let h = c.take_bytes.ensures.notes in (
+      _,
+      Moves-append _ _ _ _ _ c.in-Bytes.ensures.noted h.1,
+      bytes _ (omega (arith, length-take {A = ℕ}, c.in-Bytes.ensures.in_room))
+          (omega (arith, length-take {A = ℕ}, c.in-Bytes.ensures.in_room, c.requires.room)) h.2,
+    )
 
 pub returns-in-Idle-clause-notes : goal.returns-in-Idle-clause-notes
 returns-in-Idle-clause-notes g c = (_, c.in-Idle.ensures.noted, idle)

@@ -7,18 +7,24 @@ use Rattle.fix_engine.proofs.turn.run.Goals as goal
 pub returns-in_err-turn-clause-notes : goal.returns-in_err-turn-clause-notes
 returns-in_err-turn-clause-notes g c =
     let p = err_from_is_err_and c.from_residual.result c.from_residual.ensures.1 in
-    rw (p.1, p.2) (count_stopped (OneTurn c.args.party.now.identity) _ _ _ _ _ _ _ _ _ c.loop-done-test.true c.loop-done.invariant.done c.in_err-turn.ensures.notes)
+    rw (p.1, p.2) (count_stopped (OneTurn c.args.party.now.identity) _ _ _ _ _ _ _ _ _ c.loop-done-test.true
+    c.loop-done.invariant.done c.in_err-turn.ensures.notes)
 
 pub loop-done-init : goal.loop-done-init
-loop-done-init g c = record { range = c.requires.range; opens = c.requires.opens; room = c.requires.room; done = count_started (OneTurn c.args.party.now.identity) _ _ _ }
+loop-done-init g c = record {
+  ready = c.requires.ready;
+  room = c.requires.room;
+  done = count_started (OneTurn c.args.party.now.identity) _ _ _;
+}
 
 pub loop-done-preserved : goal.loop-done-preserved
 loop-done-preserved g c = record {
-  range = c.turn.ensures.range;
-  opens = c.in_ok-turn.ensures.opens;
+  ready = c.in_ok-turn.ensures.ready;
   room = search rules;
-  done = counts_on (OneTurn c.args.party.now.identity) _ _ _ _ _ _ _ _ c.loop-done-test.true c.loop-done.invariant.done c.in_ok-turn.ensures.notes;
+  done = counts_on (OneTurn c.args.party.now.identity) _ _ _ _ _ _ _ _ c.loop-done-test.true
+      c.loop-done.invariant.done c.in_ok-turn.ensures.notes;
 }
 
 pub returns-clause-notes : goal.returns-clause-notes
-returns-clause-notes g c = count_finished (OneTurn c.args.party.now.identity) _ _ _ _ _ _ c.loop-done-test.false c.loop-done.invariant.done
+returns-clause-notes g c = count_finished (OneTurn c.args.party.now.identity) _ _ _ _ _ _ c.loop-done-test.false
+    c.loop-done.invariant.done

@@ -1,5 +1,5 @@
 use Rattle.std.proofs.Common.{◌≡◌, ◌-◌, Some, length, replicate}
-use Rattle.fix_engine.specs.State.{IsInRange}
+use Rattle.fix_engine.specs.Ready.{IsReady}
 use Rattle.fix_engine.specs.Turn.{live}
 use Rattle.fix_engine.specs.Desk.{desk, OneTurn}
 use Rattle.fix_engine.proofs.FoldLemmas.{SoFar}
@@ -7,8 +7,9 @@ use Rattle.fix_engine.proofs.turn.run.Given as goal
 
 abbrev pub invariant-loop-done : goal.invariant-loop-done
 invariant-loop-done g l = record {
-  range : IsInRange l.state;
-  opens : (g.O.Outside.seen l.o).open_at ≡ Some l.state.last;
+  ready : IsReady l.party.identity (g.O.Outside.seen l.o) (Some l.state.last) l.state;
   room : length l.room ≡ 65536;
-  done : SoFar (OneTurn l.party.identity) (g.O.Outside.seen l.initial.o) (g.O.Outside.seen l.o) (desk (live l.initial.state l.initial.reader.ahead) l.initial.hand) (replicate l.turns tt) (desk (live l.state l.reader.ahead) l.hand) (replicate (l.turns - l.done) tt);
+  done : SoFar (OneTurn l.party.identity) (g.O.Outside.seen l.initial.o) (g.O.Outside.seen l.o)
+      (desk (live l.initial.state l.initial.reader.ahead) l.initial.hand) (replicate l.turns tt)
+      (desk (live l.state l.reader.ahead) l.hand) (replicate (l.turns - l.done) tt);
 }

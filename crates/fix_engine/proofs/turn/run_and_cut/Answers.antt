@@ -21,5 +21,8 @@ returns-in-Ok-mark-clause-notes g c =
 
 pub returns-in-Err-mark-clause-notes : goal.returns-in-Err-mark-clause-notes
 returns-in-Err-mark-clause-notes g c =
-    let h = c.in-Err.ensures.notes in
-    (_, Moves-append _ _ _ _ _ h.1 c.in-Err-mark.ensures.noted, rw append-nil (cut_memory (sym c.is_cut.ensures ∙ c.if-not-is_cut.false) h.2))
+    let h = c.in-Err.ensures.notes in (
+      _,
+      Moves-append _ _ _ _ _ h.1 c.in-Err-mark.ensures.noted,
+      rw append-nil (cut_memory (sym c.is_cut.ensures ∙ c.if-not-is_cut.false) h.2),
+    )

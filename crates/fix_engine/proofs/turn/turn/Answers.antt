@@ -9,7 +9,11 @@ returns-in_err-keep_expected-clause-notes g c =
     let p = err_from_is_err_and c.from_residual.result c.from_residual.ensures.1 in
     let h = c.meet-met.ensures.notes in
     let k = c.in_err-keep_expected.ensures.notes in
-    rw (p.1, p.2) (_, Moves-append _ _ _ _ _ h.1 k.1, keeps_not (sym c.settles.ensures ∙ c.if-settles.true) h.2 (beside k.2))
+    rw (p.1, p.2) (
+      _,
+      Moves-append _ _ _ _ _ h.1 k.1,
+      keeps_not (sym c.settles.ensures ∙ c.if-settles.true) h.2 (beside k.2),
+    )
 
 pub returns-in_ok-keep_expected-clause-notes : goal.returns-in_ok-keep_expected-clause-notes
 returns-in_ok-keep_expected-clause-notes g c =

@@ -1,7 +1,7 @@
 use Rattle.std.proofs.Common.{ℕ, arith, length, length-take, length-append, sym, ap, ◌∙◌}
 use Rattle.std.specs.Prelude.{None}
 use Rattle.fix_engine.specs.Turn.{live}
-use Rattle.fix_engine.specs.Run.{stop_cause}
+use Rattle.fix_engine.specs.Faults.{stop_cause}
 use Rattle.fix_engine.proofs.Causes.{RanTo-has_cause}
 use Rattle.fix_engine.proofs.Phases.{Ran-phase}
 use Rattle.fix_engine.proofs.Settled.{Ran-settled}
@@ -21,7 +21,7 @@ invariant_of-self g c =
     let kept = c.run_and_cut-ran.auto.room in
     let answered = ap stop_cause (sym c.answer_of-answer.ensures) ∙ sym c.stop_of-self-inside.ensures in (
       c.self.invariant.0,
-      c.run_and_cut-ran.ensures.range,
+      c.run_and_cut-ran.ensures.ready.range,
       omega (arith, length-take {A = ℕ}, length-append {A = ℕ}, kept, room.len, ap length room.value, c.self.invariant.2),
       λ goes_on. Ran-untried _ _ _ _ _ _ (c.self.invariant.3 c.in_default.is) h.2 (answered ∙ goes_on),
     )
@@ -58,10 +58,10 @@ returns-clause-lawful g c = rw (← c.self.view_is, c.in_default.is, c.answer_of
 pub returns-clause-in_step : goal.returns-clause-in_step
 returns-clause-in_step g c =
     let h = c.run_and_cut-ran.ensures.notes in
-    rw (← c.self.view_is, c.in_default.is, c.stop_of-self-inside.ensures, c.answer_of-answer.ensures) (run_in_step _ _ _ _ _ _ _ (rw (← c.self.view_is, c.in_default.is) at c.requires.phase) c.run_and_cut-ran.ensures.opens h)
+    rw (← c.self.view_is, c.in_default.is, c.stop_of-self-inside.ensures, c.answer_of-answer.ensures) (run_in_step _ _ _ _ _ _ _ (rw (← c.self.view_is, c.in_default.is) at c.requires.phase) c.run_and_cut-ran.ensures.ready.opens h)
 
 pub returns-clause-connected : goal.returns-clause-connected
-returns-clause-connected g c = rw (← c.self.view_is, c.answer_of-answer.ensures) (run_connected _ _ _ _ _ _ _ _ c.self.invariant.1.reading c.run_and_cut-ran.ensures.opens c.run_and_cut-ran.ensures.notes)
+returns-clause-connected g c = rw (← c.self.view_is, c.answer_of-answer.ensures) (run_connected _ _ _ _ _ _ _ _ c.self.invariant.1.reading c.run_and_cut-ran.ensures.ready.opens c.run_and_cut-ran.ensures.notes)
 
 pub returns-clause-headline : goal.returns-clause-headline
 returns-clause-headline g c = rw (← c.self.view_is, c.in_default.is, c.answer_of-answer.ensures) (run_serves _ _ _ _ _ _ _ c.self.invariant.1.reading c.run_and_cut-ran.ensures.notes)
@@ -72,7 +72,7 @@ returns-clause-peer_end g c =
 
 pub returns-clause-stands : goal.returns-clause-stands
 returns-clause-stands g c =
-    rw (c.stop_of-self-inside.ensures, c.answer_of-answer.ensures) (run_stands _ _ _ _ _ _ _ (rw (← c.self.view_is, c.in_default.is) at c.requires.phase) c.run_and_cut-ran.ensures.opens c.run_and_cut-ran.ensures.notes (rw (← c.self.view_is, c.in_default.is) at c.requires.in_step))
+    rw (c.stop_of-self-inside.ensures, c.answer_of-answer.ensures) (run_stands _ _ _ _ _ _ _ (rw (← c.self.view_is, c.in_default.is) at c.requires.phase) c.run_and_cut-ran.ensures.ready.opens c.run_and_cut-ran.ensures.notes (rw (← c.self.view_is, c.in_default.is) at c.requires.in_step))
 
 pub returns-clause-trails : goal.returns-clause-trails
 returns-clause-trails g c =

@@ -26,7 +26,7 @@ returns-clause-lawful g c =
 
 pub returns-clause-in_step : goal.returns-clause-in_step
 returns-clause-in_step g c =
-    rw (← c.self.view_is, c.in_default.is, c.stop_of_sent-self-inside.ensures) (send_in_step _ (record { identity = c.self.inside.party.identity; live = live c.self.inside.state c.self.inside.reader.ahead; hand = c.self.inside.hand; stopped = None }) _ _ _ _ c.send_and_cut-sent.ensures.opens (sent_goes _ _ _ c.self.inside.reader.ahead _ _ _ _ c.if-self-ge-LAST_NUMBER.false c.send_and_cut-sent.ensures.notes))
+    rw (← c.self.view_is, c.in_default.is, c.stop_of_sent-self-inside.ensures) (send_in_step _ (record { identity = c.self.inside.party.identity; live = live c.self.inside.state c.self.inside.reader.ahead; hand = c.self.inside.hand; stopped = None }) _ _ _ _ c.send_and_cut-sent.ensures.ready.opens (sent_goes _ _ _ c.self.inside.reader.ahead _ _ _ _ c.if-self-ge-LAST_NUMBER.false c.send_and_cut-sent.ensures.notes))
 
 pub returns-clause-trails : goal.returns-clause-trails
 returns-clause-trails g c =
@@ -34,11 +34,11 @@ returns-clause-trails g c =
 
 pub returns-clause-stands : goal.returns-clause-stands
 returns-clause-stands g c =
-    rw c.stop_of_sent-self-inside.ensures (send_stands _ (record { identity = c.self.inside.party.identity; live = live c.self.inside.state c.self.inside.reader.ahead; hand = c.self.inside.hand; stopped = None }) _ _ _ _ c.send_and_cut-sent.ensures.opens (sent_goes _ _ _ c.self.inside.reader.ahead _ _ _ _ c.if-self-ge-LAST_NUMBER.false c.send_and_cut-sent.ensures.notes) (rw (← c.self.view_is, c.in_default.is) at c.requires.in_step))
+    rw c.stop_of_sent-self-inside.ensures (send_stands _ (record { identity = c.self.inside.party.identity; live = live c.self.inside.state c.self.inside.reader.ahead; hand = c.self.inside.hand; stopped = None }) _ _ _ _ c.send_and_cut-sent.ensures.ready.opens (sent_goes _ _ _ c.self.inside.reader.ahead _ _ _ _ c.if-self-ge-LAST_NUMBER.false c.send_and_cut-sent.ensures.notes) (rw (← c.self.view_is, c.in_default.is) at c.requires.in_step))
 
 pub returns-clause-connected : goal.returns-clause-connected
 returns-clause-connected g c =
-    rw (← c.self.view_is) (send_connected _ (record { identity = c.self.inside.party.identity; live = live c.self.inside.state c.self.inside.reader.ahead; hand = c.self.inside.hand; stopped = c.self.inside.stopped }) _ _ _ _ _ c.send_and_cut-sent.ensures.opens (sent_goes _ _ _ c.self.inside.reader.ahead _ _ _ _ c.if-self-ge-LAST_NUMBER.false c.send_and_cut-sent.ensures.notes))
+    rw (← c.self.view_is) (send_connected _ (record { identity = c.self.inside.party.identity; live = live c.self.inside.state c.self.inside.reader.ahead; hand = c.self.inside.hand; stopped = c.self.inside.stopped }) _ _ _ _ _ c.send_and_cut-sent.ensures.ready.opens (sent_goes _ _ _ c.self.inside.reader.ahead _ _ _ _ c.if-self-ge-LAST_NUMBER.false c.send_and_cut-sent.ensures.notes))
 
 pub returns-clause-from_here : goal.returns-clause-from_here
 returns-clause-from_here g c =
