@@ -1,5 +1,5 @@
 -- The table of fields, one field after another.
-use Rattle.std.proofs.Common.{◌≡◌, ℕ, ◌+◌, if◌then◌else◌, Option, Some, None, ◌<◌, Bool, true, false, not, ◌&&◌, ◌||◌, ◌==◌, List, [], ◌∷◌, ◌++◌, length, take, drop, get_or, refl, sym, ap, subst, ◌∙◌, arith}
+use Rattle.std.proofs.Common.{◌≡◌, ℕ, ◌+◌, Option, ◌<◌, Bool, true, false, not, ◌&&◌, ◌||◌, ◌==◌, List, [], ◌∷◌, ◌++◌, length, take, drop, get_or, refl, sym, ap, subst, ◌∙◌, arith}
 use Rattle.std.specs.List.{list_any}
 use Rattle.std.proofs.Math.Seq.{take-add}
 use Rattle.std.proofs.lemmas.Grind.{common_steps}
@@ -12,7 +12,7 @@ use Rattle.fix_base.specs.declared.fault.Fault.{Fault}
 use Rattle.fix_fields.specs.declared.kind.ValueKind.{ValueKind}
 use Rattle.fix_fields.specs.NoTwice.{has_tag}
 use Rattle.fix_dict.specs.Book.{kind_of}
-use Rattle.fix_validate.specs.Rows.{Row, Finds}
+use Rattle.fix_validate.specs.Rows.{Finds}
 use Rattle.fix_validate.proofs.RowLemmas.{finds_later}
 use Rattle.fix_validate.specs.Table.{has_field, is_member, IsNoValueOf, value_out_of_range, field_rows_by, is_header, is_trailer, is_misplaced, has_left_header, has_trailer, field_rows, fields_rows}
 

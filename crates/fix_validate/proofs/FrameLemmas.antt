@@ -1,14 +1,14 @@
 -- A frame is a list of fields: BeginString (8) and BodyLength (9), those of its body, and CheckSum (10).
-use Rattle.std.proofs.Common.{◌≡◌, ◌≢◌, ℕ, zero, suc, ◌+◌, ◌<◌, ◌≤◌, Bool, true, false, not, ◌&&◌, ◌==◌, if◌then◌else◌, codes, List, [], ◌∷◌, ◌++◌, length, get_or, Option, Some, None, refl, sym, ap, ◌∙◌, subst, append_assoc, append-nil, arith, lit<, lit≤}
-use Rattle.std.specs.Prelude.{Result, Ok, Err, IfOk, MatchOption, MatchBool, ⊤, option_and_then, decimal}
+use Rattle.std.proofs.Common.{◌≡◌, ℕ, zero, suc, ◌<◌, Bool, true, false, not, ◌&&◌, ◌==◌, if◌then◌else◌, codes, List, [], ◌∷◌, ◌++◌, length, Option, Some, None, refl, sym, ap, ◌∙◌, subst, append_assoc, append-nil, arith, lit<, lit≤}
+use Rattle.std.specs.Prelude.{Result, Ok, Err, IfOk, MatchBool, ⊤, option_and_then, decimal}
 use Rattle.std.specs.Str.Parse.{digits_value}
 use Rattle.std.proofs.lemmas.Bool.{not-true, and_parts}
 use Rattle.fix_base.specs.declared.tags.TheConstants.{DATA_PAIRS}
 use Rattle.fix_base.specs.Tags.{beside, data_tag}
 use Rattle.fix_base.specs.Frame.{HasNoSoh}
-use Rattle.fix_base.specs.Fields.{Field, IsField, IsValue, FieldsAfter, data_after, is_data_length}
-use Rattle.fix_base.specs.Shape.{Parts, HasShape, IsFrame}
-use Rattle.fix_base.specs.Says.{HasFields, field_text}
+use Rattle.fix_base.specs.Fields.{Field, IsValue, FieldsAfter, data_after, is_data_length}
+use Rattle.fix_base.specs.Shape.{IsFrame}
+use Rattle.fix_base.specs.Says.{field_text}
 use Rattle.std.proofs.lemmas.Fmt.{decimal-digits_value}
 use Rattle.fix_base.proofs.Digits.{numerals}
 use Rattle.fix_validate.specs.Checks.{field_of_tag, HasAllFields}
@@ -93,37 +93,40 @@ frame_fields text h =
     let trailer = h.shape.is_trailer in
     let sum = trailer.is_second in
     let fields = h.right.fields in
-    let all : List Field = field_of_tag 8 (codes "FIX" ++ version.value) ∷ field_of_tag 9 long.value ∷ fields.list ++ field_of_tag 10 sum.value ∷ [] in (all, record {
-      begin = codes "FIX" ++ version.value;
-      long = long.value;
-      body = fields.list;
-      sum = sum.value;
-      has = record { parts = h.parts; shape = h.shape; are = fields.are };
-      are = refl;
-      spelled = (
-        head.first ++ head.is_second.first,
-        (head.is_second.second ++ h.parts.body) ++ h.shape.trailer,
-        record {
-          first = lit≤ tt;
-          last = lit≤ tt;
-          value = sign_clear 70 (73 ∷ 88 ∷ version.value) (omega arith) (sign_clear 73 (88 ∷ version.value) (omega arith) (sign_clear 88 version.value (omega arith) version.no_soh));
-          spelled = spelled_by (decimal 8) (codes "FIX" ++ version.value) _ (codes "8") eight (rw (head.is_first, version.spelled) refl);
-        },
-        whole_spelled text h.parts.before_sum h.shape.head h.parts.body h.shape.trailer head.first head.second head.is_second.first head.is_second.second [] h.shape.spelled h.shape.front head.spelled head.is_second.spelled,
-        (
-          head.is_second.second,
-          h.parts.body ++ h.shape.trailer,
+    let all : List Field = field_of_tag 8 (codes "FIX" ++ version.value) ∷ field_of_tag 9 long.value ∷ fields.list ++ field_of_tag 10 sum.value ∷ [] in (
+      all,
+      record {
+        begin = codes "FIX" ++ version.value;
+        long = long.value;
+        body = fields.list;
+        sum = sum.value;
+        has = record { parts = h.parts; shape = h.shape; are = fields.are };
+        are = refl;
+        spelled = (
+          head.first ++ head.is_second.first,
+          (head.is_second.second ++ h.parts.body) ++ h.shape.trailer,
           record {
             first = lit≤ tt;
             last = lit≤ tt;
-            value = long.no_soh;
-            spelled = spelled_by (decimal 9) long.value _ (codes "9") nine (more.spelled ∙ rw (more.is_first, long.spelled) refl);
+            value = sign_clear 70 (73 ∷ 88 ∷ version.value) (omega arith) (sign_clear 73 (88 ∷ version.value) (omega arith) (sign_clear 88 version.value (omega arith) version.no_soh));
+            spelled = spelled_by (decimal 8) (codes "FIX" ++ version.value) _ (codes "8") eight (rw (head.is_first, version.spelled) refl);
           },
-          append_assoc head.is_second.second h.parts.body h.shape.trailer,
-          joined_fields None h.parts.body h.shape.trailer fields.list sum.value tt sum.no_soh (spelled_by (decimal 10) sum.value _ (codes "10") ten (trailer.spelled ∙ rw (trailer.is_first, sum.spelled) refl)) fields.are,
-        ),
-      );
-    })
+          whole_spelled text h.parts.before_sum h.shape.head h.parts.body h.shape.trailer head.first head.second head.is_second.first head.is_second.second [] h.shape.spelled h.shape.front head.spelled head.is_second.spelled,
+          (
+            head.is_second.second,
+            h.parts.body ++ h.shape.trailer,
+            record {
+              first = lit≤ tt;
+              last = lit≤ tt;
+              value = long.no_soh;
+              spelled = spelled_by (decimal 9) long.value _ (codes "9") nine (more.spelled ∙ rw (more.is_first, long.spelled) refl);
+            },
+            append_assoc head.is_second.second h.parts.body h.shape.trailer,
+            joined_fields None h.parts.body h.shape.trailer fields.list sum.value tt sum.no_soh (spelled_by (decimal 10) sum.value _ (codes "10") ten (trailer.spelled ∙ rw (trailer.is_first, sum.spelled) refl)) fields.are,
+          ),
+        );
+      },
+    )
 
 -- what an answer is, where there is one
 pub if_ok : {A E : Type 0} (r : Result A E) (P Q : A → Type 0) → ((x : A) → P x → Q x) → IfOk r P → IfOk r Q

@@ -1,6 +1,5 @@
 -- The first fault of groups is the first row of their table.
-use Rattle.std.proofs.Common.{◌≡◌, ◌⊎◌, inl, inr, List, [], ◌∷◌, ◌++◌, Option, Some, None, option_map, refl}
-use Rattle.fix_base.specs.declared.fault.Fault.{Fault}
+use Rattle.std.proofs.Common.{List, [], ◌∷◌, ◌++◌, Option, Some, None, option_map, refl}
 use Rattle.fix_fields.specs.Shapes.{Shapes}
 use Rattle.fix_groups.specs.Tagged.{Tagged}
 use Rattle.fix_groups.specs.Looked.{or_else, group_at}

@@ -1,11 +1,10 @@
 -- A tag stands before a place just where the least key with the tag is less than that of the place.
-use Rattle.std.proofs.Common.{◌≡◌, ◌⊎◌, inl, inr, ℕ, zero, suc, ◌+◌, ◌*◌, ◌<◌, ◌≤◌, Bool, true, false, ◌&&◌, ◌||◌, ◌==◌, List, [], ◌∷◌, ◌++◌, length, take, drop, get_or, refl, sym, ap, ◌∙◌, arith, subst, append_assoc}
-use Rattle.std.specs.Prelude.{nat_lt, nat_le, IsPermutation, Result, Ok, Err, MatchResult, Decides}
+use Rattle.std.proofs.Common.{◌≡◌, inl, inr, ℕ, zero, suc, ◌+◌, ◌<◌, ◌≤◌, Bool, true, false, ◌&&◌, ◌||◌, ◌==◌, List, [], ◌∷◌, ◌++◌, length, take, drop, get_or, refl, sym, ap, ◌∙◌, arith, subst, append_assoc}
+use Rattle.std.specs.Prelude.{nat_lt, nat_le, Result, Ok, Err, MatchResult}
 use Rattle.std.specs.List.{list_any}
 use Rattle.std.specs.List.Sorted.{IsNonDecreasing, IsBinarySearchResult}
 use Rattle.std.specs.Ordering.{nat_cmp}
-use Rattle.std.proofs.lemmas.Grind.{common_steps}
-use Rattle.std.proofs.lemmas.Bool.{ltb-true, leb-true, leb-false, le-leb, lt-ltb, le-ltb, eq-eqb, eqb-true, and_parts, and_from, and_right, or_from, false_from_ne_true, cases_lt}
+use Rattle.std.proofs.lemmas.Bool.{ltb-true, leb-true, le-leb, lt-ltb, le-ltb, eq-eqb, eqb-true, and_parts, and_from, and_right, or_from, false_from_ne_true, cases_lt}
 use Rattle.std.proofs.lemmas.Bool.Decides.{same_from_decides, Decides-and, Decides-like, Decides-eqb, Decides-ltb}
 use Rattle.std.proofs.lemmas.List.Sorted.{list_any-IsPermutation, searched}
 use Rattle.std.proofs.lemmas.List.Folds.{list_any_none, list_any_at, Any-from_list_any}
@@ -92,13 +91,13 @@ least_err index wanted at r found sorted some is =
 
 any_is : (index : List ℕ) (tag place at : ℕ) → IsLeast index (key tag 0) at → list_any (is_before tag place) index ≡ nat_lt (get_or index at 0) (key tag place)
 any_is index tag place at l = elim (cases_lt (get_or index at 0) (key tag place)) [
-  inl low ↦ list_any_at (is_before tag place) index at 0 l.bound (and_from _ _ (le-leb (key tag 0) (get_or index at 0) l.enough) (lt-ltb (get_or index at 0) (key tag place) low)) ∙ sym (lt-ltb (get_or index at 0) (key tag place) low)
+  | inl low ↦ list_any_at (is_before tag place) index at 0 l.bound (and_from _ _ (le-leb (key tag 0) (get_or index at 0) l.enough) (lt-ltb (get_or index at 0) (key tag place) low)) ∙ sym (lt-ltb (get_or index at 0) (key tag place) low)
   | inr high ↦
-  list_any_none (is_before tag place) index (λ k d lt. false_from_ne_true (is_before tag place (get_or index k d)) (λ e.
-  let two = and_parts (nat_le (key tag 0) (get_or index k d)) (nat_lt (get_or index k d) (key tag place)) e in
-  let same = same_default index k d 0 lt in
-  omega (arith, high, same, leb-true (key tag 0) (get_or index k d) two.0, ltb-true (get_or index k d) (key tag place) two.1, l.least k lt (omega (arith, same, leb-true (key tag 0) (get_or index k d) two.0)))))
-  ∙ sym (le-ltb (get_or index at 0) (key tag place) high)
+      list_any_none (is_before tag place) index (λ k d lt. false_from_ne_true (is_before tag place (get_or index k d)) (λ e.
+      let two = and_parts (nat_le (key tag 0) (get_or index k d)) (nat_lt (get_or index k d) (key tag place)) e in
+      let same = same_default index k d 0 lt in
+      omega (arith, high, same, leb-true (key tag 0) (get_or index k d) two.0, ltb-true (get_or index k d) (key tag place) two.1, l.least k lt (omega (arith, same, leb-true (key tag 0) (get_or index k d) two.0)))))
+      ∙ sym (le-ltb (get_or index at 0) (key tag place) high)
 ]
 
 pub stands_is : (fs : List Field) (index : List ℕ) (tag place at : ℕ) → IsSortedIndex fs index → place < length fs → length fs < 18446744073709551616 → IsLeast index (key tag 0) at → nat_lt (get_or index at 0) (key tag place) ≡ has_field tag (take place fs)

@@ -1,5 +1,5 @@
 -- The fields of bytes, taken one after another.
-use Rattle.std.proofs.Common.{◌≡◌, ◌≢◌, ℕ, ◌+◌, ◌<◌, ◌==◌, ◌||◌, Bool, true, length, drop, get_or, List, [], ◌∷◌, ◌++◌, append_assoc, append-nil, Option, Some, None, refl, sym, ap, subst, ◌∙◌}
+use Rattle.std.proofs.Common.{◌≡◌, ◌≢◌, ℕ, ◌+◌, ◌<◌, length, drop, get_or, List, [], ◌∷◌, ◌++◌, append_assoc, append-nil, Option, Some, None, refl, sym, ap, subst, ◌∙◌}
 use Rattle.fix_base.specs.Front.{Begins}
 use Rattle.fix_base.specs.Fields.{Field, IsField, FieldsAfter, data_after}
 use Rattle.fix_base.specs.Says.{value_of}

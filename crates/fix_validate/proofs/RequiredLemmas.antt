@@ -1,20 +1,18 @@
 -- The table of required tags, member by member, run by run and instance by instance.
-use Rattle.std.proofs.Common.{◌≡◌, ℕ, zero, suc, ◌+◌, ◌<◌, ◌≤◌, Bool, true, false, not, ◌&&◌, ◌||◌, ◌==◌, if◌then◌else◌, List, [], ◌∷◌, ◌++◌, length, take, drop, get_or, Option, Some, None, refl, sym, ap, ◌∙◌, arith, subst, append_assoc, append-nil}
+use Rattle.std.proofs.Common.{◌≡◌, ℕ, zero, suc, ◌+◌, ◌<◌, ◌≤◌, Bool, true, ◌||◌, if◌then◌else◌, List, [], ◌∷◌, ◌++◌, length, take, drop, get_or, refl, sym, ap, ◌∙◌, arith, append_assoc, append-nil}
 use Rattle.std.proofs.lemmas.Grind.{common_steps}
-use Rattle.std.proofs.lemmas.Bool.{eq-eqb, ne_eqb, both_ways}
+use Rattle.std.proofs.lemmas.Bool.{eq-eqb, ne_eqb}
 use Rattle.fix_base.specs.Fields.{Field}
-use Rattle.fix_base.specs.declared.fault.Fault.{Fault}
-use Rattle.fix_fields.specs.Shapes.{Shapes, no_more, plain, group, shapes_size}
+use Rattle.fix_fields.specs.Shapes.{Shapes, shapes_size}
 use Rattle.fix_fields.specs.Members.{shapes_of}
 use Rattle.fix_fields.specs.declared.layout.Member.{Member}
 use Rattle.fix_fields.specs.declared.layout.Member.TheVariants.{Plain, Group}
 use Rattle.fix_groups.specs.Tagged.{Tagged, tagged, all_tagged}
 use Rattle.fix_groups.specs.Runs.{run_of, lead}
 use Rattle.fix_groups.proofs.Slices.{tagged_dropped, tagged_taken}
-use Rattle.fix_validate.specs.Rows.{Row, Finds}
+use Rattle.fix_validate.specs.Rows.{Row}
 use Rattle.fix_validate.specs.Required.{is_there, up_to, instances_of, instances_in, rows_of_each, required_tag_missing, required_rows}
-use Rattle.fix_validate.proofs.RowLemmas.{GoesOn, goes_same, goes_step, goes_past, stops_in, stops_at}
-use Rattle.fix_validate.proofs.FieldLemmas.{take_more, drop_more}
+use Rattle.fix_validate.proofs.FieldLemmas.{drop_more}
 
 -- ---- members
 
@@ -73,8 +71,8 @@ pub instance_is : (d n : ℕ) (fs : List Field) (i : ℕ) (f : Field) → i < le
 instance_is d n fs i f lt here is =
     ap (λ (l : List Field). all_tagged (take (n + 1) l)) (drop_more fs i f lt ∙ ap (λ (x : Field). x ∷ drop (i + 1) fs) (sym here))
     ∙ ap all_tagged (one_more n f (drop (i + 1) fs)) ∙ ap (λ (l : List Tagged). tagged f ∷ l) is where
-  one_more : (n : ℕ) (x : Field) (xs : List Field) → take (n + 1) (x ∷ xs) ≡ x ∷ take n xs
-  one_more n x xs = grind (arith, common_steps)
+      one_more : (n : ℕ) (x : Field) (xs : List Field) → take (n + 1) (x ∷ xs) ≡ x ∷ take n xs
+      one_more n x xs = grind (arith, common_steps)
 
 -- one field more before the delimiter
 pub up_to_on : (d : ℕ) (fs : List Field) (n : ℕ) (f : Field) → n < length fs → f ≡ get_or fs n f → (f.tag ≡ d → ⊥) → all_tagged (take n fs) ++ up_to d (all_tagged (drop n fs)) ≡ up_to d (all_tagged fs)

@@ -1,5 +1,5 @@
 -- The first row of a table that holds.
-use Rattle.std.proofs.Common.{◌≡◌, ◌⊎◌, inl, inr, List, [], ◌∷◌, ◌++◌, Option, Some, None, refl, sym, ap, ◌∙◌, subst, rules}
+use Rattle.std.proofs.Common.{◌≡◌, inl, inr, List, [], ◌∷◌, ◌++◌, Option, Some, None, refl, sym, ap, ◌∙◌, subst, rules}
 use Rattle.fix_base.specs.declared.fault.Fault.{Fault}
 use Rattle.fix_validate.specs.Rows.{Row, AreFaults, first, IsFirst, Finds}
 

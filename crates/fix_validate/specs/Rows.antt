@@ -1,5 +1,5 @@
 -- A table of faults in their order, and what a message has of them.
-use Rattle.std.specs.Prelude.{◌≡◌, ◌⊎◌, ℕ, Bool, IsTrue, ⊤, List, [], ◌∷◌, Option, Some, None}
+use Rattle.std.specs.Prelude.{◌≡◌, ◌⊎◌, ℕ, Bool, IsTrue, List, [], ◌∷◌, Option, Some, None}
 use Rattle.fix_base.specs.declared.fault.Fault.{Fault}
 
 -- a fault, and what has to hold of a message for it to have the fault

@@ -1,5 +1,5 @@
 -- The faults of a field, by the fields before it (FIX, "Reject", SessionRejectReason).
-use Rattle.std.specs.Prelude.{◌≡◌, ℕ, Bool, not, ◌&&◌, ◌||◌, ◌==◌, nat_lt, List, [], ◌∷◌, ◌++◌, length, Option, Some, None, is_some}
+use Rattle.std.specs.Prelude.{ℕ, Bool, not, ◌&&◌, ◌||◌, ◌==◌, nat_lt, List, [], ◌∷◌, ◌++◌, length, Option, Some, None, is_some}
 use Rattle.std.specs.List.{list_any}
 use Rattle.fix_base.specs.Fields.{Field}
 use Rattle.fix_base.specs.Tags.{is_header_tag, is_trailer_tag}

@@ -105,9 +105,17 @@ const FREE: [(&str, u16, u32); 82] = [
     ("11=A|54=1|112=X|", 2, 112),
     ("11=A|54=1|5003=1|", 2, 5003),
     ("11=A|54=1|112=X|112=X|", 2, 112),
-    ("35=0|34=2|49=BUY|52=20240102-10:00:00|56=SELL|112=X|", NONE, 0),
+    (
+        "35=0|34=2|49=BUY|52=20240102-10:00:00|56=SELL|112=X|",
+        NONE,
+        0,
+    ),
     ("35=0|34=2|49=BUY|52=20240102-10:00:00|56=SELL|11=A|", 2, 11),
-    ("35=0|34=2|49=BUY|52=20240102-10:00:00|56=SELL|448=P|", 2, 448),
+    (
+        "35=0|34=2|49=BUY|52=20240102-10:00:00|56=SELL|448=P|",
+        2,
+        448,
+    ),
     // 13
     ("11=A|11=B|54=1|", 13, 11),
     ("11=A|54=1|11=A|", 13, 11),
@@ -158,7 +166,11 @@ const FREE: [(&str, u16, u32); 82] = [
     ("11=A|54=1|448=P|448=Q|", 15, 453),
     ("11=A|54=1|802=1|523=a|803=1|", 15, 453),
     ("11=A|54=1|453=1|448=P|452=1|802=5|523=a|803=1|", 15, 453),
-    ("11=A|54=1|453=1|448=P|802=1|523=a|803=1|452=1|523=b|", 15, 802),
+    (
+        "11=A|54=1|453=1|448=P|802=1|523=a|803=1|452=1|523=b|",
+        15,
+        802,
+    ),
     // 1
     ("11=A|", 1, 54),
     ("54=1|", 1, 11),
@@ -171,7 +183,11 @@ const FREE: [(&str, u16, u32); 82] = [
     ("453=1|448=P|54=1|", 1, 11),
     ("11=A|54=1|453=1|448=P|802=1|523=a|452=1|", 1, 803),
     ("11=A|54=1|453=1|448=P|802=1|523=a|", 1, 803),
-    ("11=A|54=1|453=2|448=P|452=1|448=Q|802=1|523=a|452=2|", 1, 803),
+    (
+        "11=A|54=1|453=2|448=P|452=1|448=Q|802=1|523=a|452=2|",
+        1,
+        803,
+    ),
     ("627=1|628=H|11=A|54=1|", 1, 629),
     ("627=1|628=H|54=1|", 1, 629),
     ("627=1|628=H|629=20240102-10:00:00|11=A|54=1|", NONE, 0),
@@ -197,14 +213,14 @@ const ORDERED: [(&str, u16, u32); 15] = [
 ];
 
 // By the samples: an order of FIX.4.2, and one of FIX.4.4.
-const ORDER: &str = "35=D|34=2|49=BUY|52=20240102-10:00:00|56=SELL|11=A1|21=1|55=XYZ|60=20240102-10:00:00|40=1|";
+const ORDER: &str =
+    "35=D|34=2|49=BUY|52=20240102-10:00:00|56=SELL|11=A1|21=1|55=XYZ|60=20240102-10:00:00|40=1|";
 
-const SAMPLE_ORDERS: [(bool, &str, u16, u32); 5] = [
-    (false, "54=1|", NONE, 0),
-    (false, "", 1, 54),
-    (false, "54=1|44=1.2.3|", 6, 44),
-    (false, "54=1|78=2|79=AC1|", 16, 78),
-    (true, "54=1|453=2|448=P1|", 16, 453),
+const SAMPLE_ORDERS: [(&str, u16, u32); 4] = [
+    ("54=1|", NONE, 0),
+    ("", 1, 54),
+    ("54=1|44=1.2.3|", 6, 44),
+    ("54=1|78=2|79=AC1|", 16, 78),
 ];
 
 fn push_text(out: &mut Vec<u8>, text: &str) -> Result<(), AllocError> {
@@ -220,7 +236,10 @@ fn frame_of(alloc: Global, head: &str, text: &str) -> Result<Vec<u8>, AllocError
     push_text(&mut body, head)?;
     push_text(&mut body, text)?;
     let mut frame = Vec::new(alloc);
-    push_text(&mut frame, &format!(in alloc; "8=FIX.4.4|9={}|", body.len())?)?;
+    push_text(
+        &mut frame,
+        &format!(in alloc; "8=FIX.4.4|9={}|", body.len())?,
+    )?;
     frame.extend_from_slice(&body)?;
     let sum = checksum(&frame);
     push_text(&mut frame, &format!(in alloc; "10={:03}|", sum)?)?;
@@ -278,29 +297,44 @@ fn the_first_fault_is_told(rt: HostRuntime) -> Result<(), Fail> {
         return Ok(());
     };
     for (text, reason, tag) in &FREE {
-        assert!(rt; has_first(alloc, &dict, false, head_of(text), text, *reason, *tag), "{text}");
+        assert!(rt;
+            has_first(alloc, &dict, false, head_of(text), text, *reason, *tag),
+            "{text}"
+        );
     }
     for (text, reason, tag) in &ORDERED {
-        assert!(rt; has_first(alloc, &dict, true, head_of(text), text, *reason, *tag), "{text}");
+        assert!(rt;
+            has_first(alloc, &dict, true, head_of(text), text, *reason, *tag),
+            "{text}"
+        );
     }
     Ok(())
 }
 
 #[test]
-fn orders_of_the_samples_are_checked(rt: HostRuntime) -> Result<(), Fail> {
+fn orders_of_the_sample_42_are_checked(rt: HostRuntime) -> Result<(), Fail> {
     let alloc = rt.alloc();
-    let Ok(old) = Dictionary::read(alloc, SAMPLE_42.as_bytes()) else {
+    let Ok(dict) = Dictionary::read(alloc, SAMPLE_42.as_bytes()) else {
         assert!(rt; false);
         return Ok(());
     };
-    let Ok(new) = Dictionary::read(alloc, SAMPLE_44.as_bytes()) else {
-        assert!(rt; false);
-        return Ok(());
-    };
-    for (is_new, text, reason, tag) in &SAMPLE_ORDERS {
-        let dict = if *is_new { &new } else { &old };
-        assert!(rt; has_first(alloc, dict, true, ORDER, text, *reason, *tag), "{text}");
+    for (text, reason, tag) in &SAMPLE_ORDERS {
+        assert!(rt;
+            has_first(alloc, &dict, true, ORDER, text, *reason, *tag),
+            "{text}"
+        );
     }
+    Ok(())
+}
+
+#[test]
+fn an_order_of_the_sample_44_is_checked(rt: HostRuntime) -> Result<(), Fail> {
+    let alloc = rt.alloc();
+    let Ok(dict) = Dictionary::read(alloc, SAMPLE_44.as_bytes()) else {
+        assert!(rt; false);
+        return Ok(());
+    };
+    assert!(rt; has_first(alloc, &dict, true, ORDER, "54=1|453=2|448=P1|", 16, 453));
     Ok(())
 }
 
@@ -331,7 +365,10 @@ fn a_tag_appears_again_among_many(rt: HostRuntime) -> Result<(), Fail> {
         ("6100=x|11=A|", 13, 11),
     ] {
         let text = many(alloc, last)?;
-        assert!(rt; has_first(alloc, &dict, true, HEAD, text.as_str(), reason, tag), "{last}");
+        assert!(rt;
+            has_first(alloc, &dict, true, HEAD, text.as_str(), reason, tag),
+            "{last}"
+        );
     }
     Ok(())
 }

@@ -1,4 +1,4 @@
-use Rattle.std.proofs.Common.{◌∙◌, ℕ, arith, subst}
+use Rattle.std.proofs.Common.{ℕ, arith, subst}
 use Rattle.fix_validate.specs.Index.{IsLeast}
 use Rattle.fix_validate.proofs.IndexLemmas.{own_key, stands_is}
 use Rattle.fix_validate.proofs.again.stands_before.Goals as goal

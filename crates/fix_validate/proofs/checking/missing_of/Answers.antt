@@ -1,4 +1,4 @@
-use Rattle.std.proofs.Common.{◌++◌, Some, subst}
+use Rattle.std.proofs.Common.{subst}
 use Rattle.fix_fields.specs.Shapes.{Shapes}
 use Rattle.fix_groups.specs.Tagged.{all_tagged}
 use Rattle.fix_validate.specs.Rows.{Finds}

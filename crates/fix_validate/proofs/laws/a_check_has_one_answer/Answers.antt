@@ -1,4 +1,4 @@
-use Rattle.std.proofs.Common.{List, Option, None, subst}
+use Rattle.std.proofs.Common.{List, None, subst}
 use Rattle.fix_base.specs.Fields.{Field}
 use Rattle.fix_base.proofs.FieldLists.{fields_same}
 use Rattle.fix_validate.specs.Rows.{Finds}

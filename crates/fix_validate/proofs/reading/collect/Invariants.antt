@@ -1,4 +1,3 @@
-use Rattle.fix_base.specs.Fields.{FieldsAfter}
 use Rattle.std.proofs.Common.{length}
 use Rattle.fix_fields.specs.Noted.{IsLeft}
 use Rattle.fix_validate.proofs.ReadingLemmas.{Taken}

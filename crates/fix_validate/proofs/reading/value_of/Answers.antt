@@ -1,4 +1,4 @@
-use Rattle.std.proofs.Common.{◌∙◌, ◌≡◌, ap, Some, arith}
+use Rattle.std.proofs.Common.{◌∙◌, ap, Some, arith}
 use Rattle.fix_validate.proofs.ReadingLemmas.{value_at}
 use Rattle.fix_validate.proofs.reading.value_of.Goals as goal
 

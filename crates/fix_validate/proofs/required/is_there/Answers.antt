@@ -1,4 +1,4 @@
-use Rattle.std.proofs.Common.{◌≡◌, ◌≢◌, arith}
+use Rattle.std.proofs.Common.{arith}
 use Rattle.fix_validate.proofs.RequiredLemmas.{there_at, there_on}
 use Rattle.fix_validate.proofs.required.is_there.Goals as goal
 
