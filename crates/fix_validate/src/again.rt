@@ -1,4 +1,5 @@
-ghost use Rattle.std.specs.Prelude.{◌≡◌, ◌<◌, ◌≤◌, ℕ, ◌&&◌, not, IfOk, length, take, slice_index_or};
+ghost use Rattle.std.specs.Prelude.{◌≡◌, ◌<◌, ◌≤◌, ℕ, ◌&&◌, not, IfOk};
+ghost use Rattle.std.specs.Prelude.{length, take, slice_index_or};
 ghost use Rattle.std.specs.List.Sorted.{IsNonDecreasing};
 ghost use Rattle.fix_validate.specs.Table.{has_field, is_member};
 ghost use Rattle.fix_validate.specs.Index.{key, keys_from, HasTagAt, IsIndexOf, IsLeast};
