@@ -12,3 +12,4 @@ pub mod WholeIsRight
 pub mod Splitting
 pub mod ToldLemmas
 pub mod PlainCounts
+pub mod JoinedLemmas

@@ -1,4 +1,5 @@
 pub mod Tagged
+pub mod Joined
 pub mod Looked
 pub mod Told
 pub mod Runs

@@ -5,10 +5,10 @@ ghost use Rattle.fix_groups.specs.Misfits.{judged, judged_at, count_misfit, stra
 ghost use Rattle.fix_groups.specs.Open.{kept, contains, passed, left_out};
 
 use crate::lent::Lent;
-use crate::look::{group_at, is_in, owner};
 use crate::misfit::Misfit;
 use crate::number::count_number;
 use crate::runs::{begins_well, in_order, run_length, starts};
+use crate::whole::Whole;
 use fix_base::{OutOfMemory, Tag};
 use fix_fields::Layout;
 use std::alloc::{AllocError, Global};
@@ -30,10 +30,10 @@ fn judge(count: Tag, number: Option<u64>, group: &Layout, run: &[Lent<'_>]) -> O
 }
 
 /// The fault of the group whose count the field is, with the fields behind it.
-fn judge_at(field: &Lent<'_>, behind: &[Lent<'_>], root: &Layout) -> Option<Misfit>
+fn judge_at(field: &Lent<'_>, behind: &[Lent<'_>], root: &Whole<'_>) -> Option<Misfit>
     ensures { result ≡ judged_at (tagged field.now) (all_tagged behind.now) (group_at field.now.tag root.now) }
 {
-    match group_at(root, field.tag()) {
+    match root.group_at(field.tag()) {
         Some(group) => {
             let n = run_length(behind, group);
             judge(
@@ -48,7 +48,7 @@ fn judge_at(field: &Lent<'_>, behind: &[Lent<'_>], root: &Layout) -> Option<Misf
 }
 
 /// The first fault of a group at its count.
-fn count_misfit(fields: &[Lent<'_>], root: &Layout) -> Option<Misfit>
+fn count_misfit(fields: &[Lent<'_>], root: &Whole<'_>) -> Option<Misfit>
     ensures { result ≡ count_misfit root.now (all_tagged fields.now) }
 {
     for i in 0..fields.len() {
@@ -72,12 +72,12 @@ fn contains(counts: &[Tag], count: Tag) -> bool
 }
 
 /// Ends the runs that a field with this tag isn't of.
-fn keep(counts: &mut Vec<Tag>, root: &Layout, tag: Tag)
+fn keep(counts: &mut Vec<Tag>, root: &Whole<'_>, tag: Tag)
     ensures { counts.new.items ≡ kept root.now tag counts.old.items }
 {
     let mut i = 0;
     while i < counts.len() {
-        if is_in(root, counts[i], tag) {
+        if root.is_in(counts[i], tag) {
             i += 1;
         } else {
             counts.remove(i);
@@ -86,21 +86,21 @@ fn keep(counts: &mut Vec<Tag>, root: &Layout, tag: Tag)
 }
 
 /// Ends and begins runs as a field with this tag does.
-fn pass(counts: &mut Vec<Tag>, root: &Layout, tag: Tag) -> Result<(), AllocError>
+fn pass(counts: &mut Vec<Tag>, root: &Whole<'_>, tag: Tag) -> Result<(), AllocError>
     ensures { OnOk result (counts.new.items ≡ passed root.now tag counts.old.items) }
 {
     keep(counts, root, tag);
-    if group_at(root, tag).is_some() {
+    if root.group_at(tag).is_some() {
         counts.push(tag)?;
     }
     Ok(())
 }
 
 /// The count of the group that has the tag as a member, where no run of it goes on.
-fn left_out(counts: &[Tag], root: &Layout, tag: Tag) -> Option<Tag>
+fn left_out(counts: &[Tag], root: &Whole<'_>, tag: Tag) -> Option<Tag>
     ensures { result ≡ left_out (owner tag root.now) counts.now }
 {
-    match owner(root, tag) {
+    match root.owner(tag) {
         Some(count) => {
             if contains(counts, count) {
                 None
@@ -113,7 +113,7 @@ fn left_out(counts: &[Tag], root: &Layout, tag: Tag) -> Option<Tag>
 }
 
 /// The first member that stands outside every run of its group.
-fn stray(alloc: Global, fields: &[Lent<'_>], root: &Layout) -> Result<Option<Misfit>, AllocError>
+fn stray(alloc: Global, fields: &[Lent<'_>], root: &Whole<'_>) -> Result<Option<Misfit>, AllocError>
     ensures { IfOk result (λ fault. fault ≡ stray root.now [] (all_tagged fields.now)) }
 {
     let mut counts = Vec::new(alloc);
@@ -127,13 +127,13 @@ fn stray(alloc: Global, fields: &[Lent<'_>], root: &Layout) -> Result<Option<Mis
     Ok(None)
 }
 
-/// What is wrong first with the groups of a list of fields, or None. Each group is judged whole at
-/// its count, in the order of the counts: first the number of its instances, then their order.
-/// Behind all of them come the members that stand outside every run of their group.
-pub fn first_misfit(
+/// What is wrong first with the groups of a whole message's fields, or None. Each group is judged
+/// whole at its count, in the order of the counts: first the number of its instances, then their
+/// order. Behind all of them come the members that stand outside every run of their group.
+pub fn first_misfit_of(
     alloc: Global,
     fields: &[Lent<'_>],
-    root: &Layout,
+    root: &Whole<'_>,
 ) -> Result<Option<Misfit>, OutOfMemory>
     ensures { IfOk result (λ fault. fault ≡ first_misfit root.now (all_tagged fields.now)) }
 {
@@ -141,4 +141,19 @@ pub fn first_misfit(
         return Ok(Some(fault));
     }
     Ok(stray(alloc, fields, root)?)
+}
+
+/// The same of fields of one layout.
+pub fn first_misfit(
+    alloc: Global,
+    fields: &[Lent<'_>],
+    root: &Layout,
+) -> Result<Option<Misfit>, OutOfMemory>
+    ensures { IfOk result (λ fault. fault ≡ first_misfit root.now (all_tagged fields.now)) }
+{
+    let none = Layout {
+        members: Vec::new(alloc),
+    };
+    let whole = Whole::new(&none, root, &none);
+    first_misfit_of(alloc, fields, &whole)
 }

@@ -1,0 +1,7 @@
+pub mod RowLemmas
+pub mod FieldLemmas
+pub mod IndexLemmas
+pub mod GroupLemmas
+pub mod RequiredLemmas
+pub mod ReadingLemmas
+pub mod FrameLemmas

@@ -1,0 +1,116 @@
+ghost use Rattle.std.specs.Prelude.{◌≡◌, ◌++◌, Some, IfOk};
+ghost use Rattle.fix_base.specs.Shape.{IsFrame};
+ghost use Rattle.fix_groups.specs.Tagged.{all_tagged};
+ghost use Rattle.fix_validate.specs.Rows.{Finds};
+ghost use Rattle.fix_validate.specs.Groups.{group_fault};
+ghost use Rattle.fix_validate.specs.Required.{required_rows};
+ghost use Rattle.fix_validate.specs.Checks.{rows, rows_by, invalid_type, Checks};
+
+use crate::again::index_of;
+use crate::fields::fields_fault;
+use crate::reading::{collect, value_of};
+use crate::required::missing;
+use fix_base::{Fault, OutOfMemory};
+use fix_dict::Dictionary;
+use fix_fields::Layout;
+use fix_groups::{Lent, Misfit, Whole, first_misfit_of};
+use std::alloc::Global;
+
+/// MsgType (35).
+const MSG_TYPE: u32 = 35;
+
+/// The first fault of a frame by a dictionary, or None: SessionRejectReason (373) and RefTagID (371).
+/// First the MsgType (35) is looked for; then each field is asked in the order of the frame, from
+/// BeginString (8) to CheckSum (10); then the groups, in the order of their counts; then the
+/// required tags. `order` asks that header fields stand first and trailer fields last
+/// (ValidateFieldsOutOfOrder).
+pub fn check(
+    alloc: Global,
+    dict: &Dictionary,
+    frame: &[u8],
+    order: bool,
+) -> Result<Option<Fault>, OutOfMemory>
+    requires { IsFrame frame.now }
+    ensures { IfOk result (Checks dict.now order frame.now) }
+{
+    let fields = collect(alloc, frame)?;
+    fault_of(alloc, dict, &fields, order)
+}
+
+// The first fault of these fields.
+fn fault_of(
+    alloc: Global,
+    dict: &Dictionary,
+    fields: &[Lent<'_>],
+    order: bool,
+) -> Result<Option<Fault>, OutOfMemory>
+    ensures { IfOk result (Finds (rows dict.now order fields.now)) }
+{
+    let Some(kind) = value_of(fields, MSG_TYPE) else {
+        return Ok(Some(invalid_type()));
+    };
+    let Some(message) = dict.layout(kind) else {
+        return Ok(Some(invalid_type()));
+    };
+    fault_by(alloc, dict, message, fields, order)
+}
+
+fn invalid_type() -> Fault
+    ensures { result ≡ invalid_type.fault }
+{
+    Fault {
+        reason: 11,
+        tag: None,
+    }
+}
+
+// The first fault of these fields as those of a message with this layout.
+fn fault_by(
+    alloc: Global,
+    dict: &Dictionary,
+    message: &Layout,
+    fields: &[Lent<'_>],
+    order: bool,
+) -> Result<Option<Fault>, OutOfMemory>
+    ensures { IfOk result (Finds (rows_by dict.now order fields.now (Some message.now))) }
+{
+    let root = Whole::new(dict.header(), message, dict.trailer());
+    let index = index_of(alloc, fields)?;
+    if let Some(fault) = fields_fault(dict, &root, order, fields, &index) {
+        return Ok(Some(fault));
+    }
+    if let Some(misfit) = first_misfit_of(alloc, fields, &root)? {
+        return Ok(Some(group_fault(misfit)));
+    }
+    Ok(missing_of(dict, message, fields))
+}
+
+fn group_fault(misfit: Misfit) -> Fault
+    ensures { result ≡ group_fault misfit }
+{
+    match misfit {
+        Misfit::Count(count) => Fault {
+            reason: 16,
+            tag: Some(count),
+        },
+        Misfit::Order(count) => Fault {
+            reason: 15,
+            tag: Some(count),
+        },
+    }
+}
+
+// The first required tag that is missing, of header, message and trailer.
+fn missing_of(dict: &Dictionary, message: &Layout, fields: &[Lent<'_>]) -> Option<Fault>
+    ensures { Finds
+        (required_rows dict.now.header (all_tagged fields.now) ++ (required_rows message.now (all_tagged fields.now) ++ required_rows dict.now.trailer (all_tagged fields.now)))
+        result }
+{
+    if let Some(fault) = missing(dict.header(), fields) {
+        return Some(fault);
+    }
+    if let Some(fault) = missing(message, fields) {
+        return Some(fault);
+    }
+    missing(dict.trailer(), fields)
+}
