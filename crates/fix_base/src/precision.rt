@@ -1,3 +1,4 @@
+//! How times are written.
 /// How finely a time is written: TimeStampPrecision of a session's settings.
 #[derive(Clone, Copy, Debug, PartialEq, Eq)]
 pub enum Precision {

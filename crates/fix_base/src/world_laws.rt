@@ -3,23 +3,24 @@
 ghost use Rattle.std.specs.Prelude.{◌≡◌, ℕ, List, [], ◌∷◌, ◌++◌, length};
 ghost use Rattle.fix_base.specs.Lists.{IsPrefixOf};
 ghost use Rattle.fix_base.specs.Session.{Identity, IsValidIdentity, mirrored};
-ghost use Rattle.fix_base.specs.End.{End};
+ghost use Rattle.fix_base.specs.End.{End, GrowsTo};
 ghost use Rattle.fix_base.specs.Payload.{IsPersistent};
 ghost use Rattle.fix_base.specs.Act;
 ghost use Rattle.fix_base.specs.Act.{Act};
-ghost use Rattle.fix_base.specs.Wrote.{Writes, Wrote, WroteWhole};
+ghost use Rattle.fix_base.specs.Wrote.{Wrote, WroteWhole, WritesNext};
 ghost use Rattle.fix_base.specs.EndStep.{EndState, EndStep, EndRun};
 ghost use Rattle.fix_base.specs.Agrees.{Agrees};
 ghost use Rattle.fix_base.specs.Reader.{bytes_read, AreOfOneConnection, ReaderKeepsUp};
-ghost use Rattle.fix_base.specs.World.{Event, World, WorldRun, EachPlain, WorldAgrees, Arrives, ComesAgain, new_world};
+ghost use Rattle.fix_base.specs.Resets.{EpochPeers, ResetEvent, ResetsRun, ResetsAgree, SharesReset, new_epoch_peers};
+ghost use Rattle.fix_base.specs.World.{Event, World, WorldRun, EachPlain, WorldAgrees, Arrives, ComesAgain, PassesWithheld, ComeInOrder, new_world};
 
 /// What a writer has written stays lawful: nothing at the opening of a connection, with more
-/// entries stored, with one more original, repeat or gap fill, and where a write is cut at any
-/// byte.
+/// entries stored and more of them withheld, with one more original, gap fill, or repeat of a
+/// message that isn't withheld, and where a write is cut at any byte.
 pub fn what_a_writer_keeps_true()
     ensures start { (id : Identity) (e : End) → WroteWhole id e e (length e.out) [] }
-    ensures grown { (id : Identity) (old new more : End) (last : ℕ) (w : List ℕ) → IsPrefixOf new.out more.out → WroteWhole id old new last w → WroteWhole id old more last w }
-    ensures more { (id : Identity) (old new : End) (last to : ℕ) (w text : List ℕ) → Writes id new.out last (text ∷ []) to → WroteWhole id old new last w → WroteWhole id old new to (w ++ text) }
+    ensures grown { (id : Identity) (old new more : End) (last : ℕ) (w : List ℕ) → GrowsTo new more → WroteWhole id old new last w → WroteWhole id old more last w }
+    ensures more { (id : Identity) (old new : End) (last to : ℕ) (w text : List ℕ) → WritesNext id new last text to → WroteWhole id old new last w → WroteWhole id old new to (w ++ text) }
     ensures wrote { (id : Identity) (old new : End) (last : ℕ) (w : List ℕ) → WroteWhole id old new last w → Wrote id old new w }
     ensures cut { (id : Identity) (old new : End) (w bytes : List ℕ) → IsPrefixOf bytes w → Wrote id old new w → Wrote id old new bytes }
 {}
@@ -33,17 +34,23 @@ pub fn a_reader_keeps_up()
     ensures { (id : Identity) (s opened s' : EndState) (acts : List Act) (f0 f1 : End) (w : List ℕ) →
         IsPersistent f1 → Wrote (mirrored id) f0 f1 w →
         EndStep id s Act.Opened opened → EndRun id opened acts s' → AreOfOneConnection acts → IsPrefixOf (bytes_read acts) w →
-        Agrees s.end.stored s.handled f0.out → Agrees s.expected s.handled f0.out → ReaderKeepsUp f0 f1 acts s' }
+        Agrees s.end.stored s.handled f0 → Agrees s.expected s.handled f0 → ReaderKeepsUp f0 f1 acts s' }
 {}
 
 /// Two ends that both keep to FIX's rules of numbering, resending and gap filling agree after
 /// whatever happens: connections that break at any byte, crashes of either, records of which
-/// nobody knows whether they were kept. No application message is lost, made up, changed or put
-/// out of order, and one that an application was given before comes marked (PossDupFlag 43 = Y).
-/// This is said of ends whose stores are not reset, and that keep each application message to be
-/// sent again.
+/// nobody knows whether they were kept. No application message is lost but those that its sender
+/// withheld from being sent again, and none is made up, changed or put out of order; one that an
+/// application was given before comes marked (PossDupFlag 43 = Y). This is said of ends whose
+/// stores are not reset, and that keep each application message to be sent again.
 pub fn world_agrees()
     ensures { (id : Identity) (w : World) (events : List Event) → WorldRun id new_world events w → EachPlain events → WorldAgrees events w }
+{}
+
+/// Between two such ends a message that comes for its first time comes with a number above all that
+/// came before: one that was withheld never comes afterwards behind a later one.
+pub fn no_withheld_message_comes_late()
+    ensures { (id : Identity) (w : World) (events : List Event) → WorldRun id new_world events w → EachPlain events → ComeInOrder w }
 {}
 
 /// A message does arrive: between any two CompIDs there is a run of two new ends in which one
@@ -58,4 +65,27 @@ pub fn a_message_arrives()
 /// order with PossDupFlag (43) = Y, and the reader hands it over again, marked.
 pub fn a_message_comes_again()
     ensures { (id : Identity) → IsValidIdentity id → ComesAgain id }
+{}
+
+/// A message may be withheld: the writer keeps a NewOrderSingle (35=D) that never goes out, and
+/// withholds it on the next connection. It fills the gap over it, and writes a second order. The
+/// reader passes the first number, hands the second order over, and expects the third.
+pub fn a_message_is_withheld()
+    ensures { (id : Identity) → IsValidIdentity id → PassesWithheld id }
+{}
+
+/// Two ends that reset by Logon (ResetSeqNumFlag 141 = Y): the initiator asks for a reset on its next
+/// connection, and the acceptor answers. Where the last reset is shared, the two agree on all since
+/// then as they do where nothing is reset. Where it isn't, the initiator is ahead: it has asked,
+/// and handled nothing since. In each epoch a message that an application was given before comes
+/// marked (PossDupFlag 43 = Y). A reset of which nobody knows whether it was kept counts for the epoch
+/// where it turns out to be.
+pub fn resets_are_shared()
+    ensures { (id : Identity) (w : EpochPeers) (events : List ResetEvent) → ResetsRun id new_epoch_peers events w → ResetsAgree w }
+{}
+
+/// A reset is shared at times: the initiator asks for one, the acceptor reads the Logon (35=A) with
+/// ResetSeqNumFlag (141) = Y, resets and answers with one, and the initiator confirms.
+pub fn a_reset_is_shared()
+    ensures { (id : Identity) → IsValidIdentity id → SharesReset id }
 {}
