@@ -1,5 +1,5 @@
 -- What the definition of a resend list comes to.
-use Rattle.std.proofs.Common.{◌≡◌, ◌↔◌, ℕ, suc, zero, ◌+◌, ◌-◌, ◌≤◌, ◌<◌, List, [], ◌∷◌, ◌++◌, length, take, drop, replicate, slice_range, Bool, true, false, not, refl, sym, ap, subst, ◌∙◌, arith}
+use Rattle.std.proofs.Common.{◌≡◌, ◌↔◌, ℕ, suc, zero, ◌+◌, ◌-◌, ◌≤◌, List, [], ◌∷◌, ◌++◌, take, drop, replicate, slice_range, Bool, true, false, not, refl, sym, ap, subst, ◌∙◌, arith}
 use Rattle.fix_base.specs.declared.entry.Entry.{Entry}
 use Rattle.fix_base.specs.declared.entry.Entry.TheVariants.{App, Admin}
 use Rattle.fix_resend.specs.Cut.{Out, Repeat, Gap, cut_from, gap_before, is_one, coming_again, resend_list, BeginsAgain, IsCut}

@@ -1,3 +1,4 @@
 pub mod CutLemmas
 pub mod WalkLemmas
 pub mod WaitingLemmas
+pub mod StandardFacts

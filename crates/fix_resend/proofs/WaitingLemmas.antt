@@ -1,8 +1,8 @@
 -- Frames that wait, as the code keeps them and as contracts see them.
-use Rattle.std.proofs.Common.{◌≡◌, lit≤, ◌⊎◌, inl, inr, ◌<◌, ◌≤◌, Ordering, Less, Equal, Greater, ℕ, suc, ◌+◌, ◌-◌, nat_cmp, nat_le, List, [], ◌∷◌, length, Bool, true, false, Option, Some, None, is_some, IsSome, cond, if◌then◌else◌, refl, sym, ap, subst, ◌∙◌, arith}
+use Rattle.std.proofs.Common.{◌≡◌, lit≤, inl, inr, ◌<◌, ◌≤◌, Ordering, Less, Equal, Greater, ℕ, suc, ◌+◌, ◌-◌, nat_cmp, nat_le, List, [], ◌∷◌, length, true, false, Option, Some, None, is_some, IsSome, cond, if◌then◌else◌, refl, sym, ap, subst, ◌∙◌, arith}
 use Rattle.std.proofs.lemmas.Bool.Decides.{nat_tests, leb_tells}
 use Rattle.std.specs.Ordering.{eq_by_cmp, is_eq}
-use Rattle.std.specs.Cmp.{nat_cmp_total, eq_by_cmp_equiv, ranked}
+use Rattle.std.specs.Cmp.{nat_cmp_total, eq_by_cmp_equiv}
 use Rattle.std.specs.FinMap as map
 use Rattle.std.specs.FinMap.{nat_cmp-IsAntisymmetric}
 use Rattle.std.specs.FinMap.Entries.{by_order}
@@ -53,9 +53,9 @@ tied q k e = nat_cmp-IsAntisymmetric q k (is_equal (nat_cmp q k) e)
 
 apart : (q k : ℕ) → k < q → eq_by_cmp nat_cmp q k ≡ false
 apart q k less = elim (eq_by_cmp nat_cmp q k) as (λ t. eq_by_cmp nat_cmp q k ≡ t → t ≡ false) [
-      | true ↦ λ e. absurd (omega (arith, tied q k e, less))
-      | false ↦ λ e. refl
-    ] refl
+  | true ↦ λ e. absurd (omega (arith, tied q k e, less))
+  | false ↦ λ e. refl
+] refl
 
 -- what isn't there needn't be removed
 pub remove_none : (m : Waiting) (k : ℕ) → map.get m k ≡ None → map.remove m k ≡ m
@@ -63,9 +63,9 @@ remove_none m k none = same_map _ _ (λ q. map.get-remove nat_cmp_total m k q �
   where
     at : (q : ℕ) → cond (eq_by_cmp nat_cmp q k) None (map.get m q) ≡ map.get m q
     at q = elim (eq_by_cmp nat_cmp q k) as (λ t. eq_by_cmp nat_cmp q k ≡ t → cond t None (map.get m q) ≡ map.get m q) [
-          | true ↦ λ e. sym (ap (map.get m) (tied q k e) ∙ none)
-          | false ↦ λ e. refl
-        ] refl
+      | true ↦ λ e. sym (ap (map.get m) (tied q k e) ∙ none)
+      | false ↦ λ e. refl
+    ] refl
 
 -- what is removed may be put back
 put_back : (m : Waiting) (k : ℕ) (v : List ℕ) → map.get m k ≡ Some v → map.insert (map.remove m k) k v ≡ m
@@ -73,9 +73,9 @@ put_back m k v some = same_map _ _ (λ q. map.get-insert nat_cmp_total _ k v q �
   where
     at : (q : ℕ) → cond (eq_by_cmp nat_cmp q k) (Some v) (cond (eq_by_cmp nat_cmp q k) None (map.get m q)) ≡ map.get m q
     at q = elim (eq_by_cmp nat_cmp q k) as (λ t. eq_by_cmp nat_cmp q k ≡ t → cond t (Some v) (cond t None (map.get m q)) ≡ map.get m q) [
-          | true ↦ λ e. sym (ap (map.get m) (tied q k e) ∙ some)
-          | false ↦ λ e. refl
-        ] refl
+      | true ↦ λ e. sym (ap (map.get m) (tied q k e) ∙ some)
+      | false ↦ λ e. refl
+    ] refl
 
 pub gone : (m : Waiting) (k : ℕ) → map.get (map.remove m k) k ≡ None
 gone m k = map.get-remove nat_cmp_total m k k ∙ ap (λ t. cond t None (map.get m k)) ((eq_by_cmp_equiv nat_cmp_total).refl k)
@@ -125,25 +125,28 @@ from_fewer n k m below =
   where
     alike : (q x : ℕ) → nat_cmp q x ≡ Equal → nat_le n x ≡ nat_le n q
     alike q x e = ap (nat_le n) (sym (nat_cmp-IsAntisymmetric q x e))
+
     at : (q : ℕ) → cond (nat_le n q) (cond (eq_by_cmp nat_cmp q k) None (map.get m q)) None ≡ cond (nat_le n q) (map.get m q) None
     at q = elim (nat_le n q) as (λ t. nat_le n q ≡ t → cond t (cond (eq_by_cmp nat_cmp q k) None (map.get m q)) None ≡ cond t (map.get m q) None) [
-          | true ↦ λ e. (let less : k < q = grind (arith, nat_tests, e, below) in ap (λ t. cond t None (map.get m q)) (apart q k less))
-          | false ↦ λ e. refl
-        ] refl
+      | true ↦ λ e. (let less : k < q = grind (arith, nat_tests, e, below) in ap (λ t. cond t None (map.get m q)) (apart q k less))
+      | false ↦ λ e. refl
+    ] refl
 
 pub from_all : (n : ℕ) (m : Waiting) → StandsFrom n m → from_number n m ≡ m
 from_all n m all = same_map _ _ (λ q. map.get-retain_keys m (λ x. nat_le n x) q (alike q) ∙ at q)
   where
     alike : (q x : ℕ) → nat_cmp q x ≡ Equal → nat_le n x ≡ nat_le n q
     alike q x e = ap (nat_le n) (sym (nat_cmp-IsAntisymmetric q x e))
+
     none : (o : Option (List ℕ)) → (IsSome o → ⊥) → None ≡ o
     none None never = refl
     none (Some v) never = absurd (never refl)
+
     at : (q : ℕ) → cond (nat_le n q) (map.get m q) None ≡ map.get m q
     at q = elim (nat_le n q) as (λ t. nat_le n q ≡ t → cond t (map.get m q) None ≡ map.get m q) [
-          | true ↦ λ e. refl
-          | false ↦ λ e. none (map.get m q) (λ some. (let above : n ≤ q = all q some in absurd (grind (arith, nat_tests, e, above))))
-        ] refl
+      | true ↦ λ e. refl
+      | false ↦ λ e. none (map.get m q) (λ some. (let above : n ≤ q = all q some in absurd (grind (arith, nat_tests, e, above))))
+    ] refl
 
 -- ---- what the functions of the table answer, as contracts see it
 
@@ -201,6 +204,7 @@ held_more old new w k q v bytes found held view key none room at what more =
   where
     below : (m n : ℕ) → (m ≤ n → ⊥) → n < m
     below m n never = elim (leb_tells m n) [ inl le ↦ absurd (never le.1) | inr lt ↦ lt.1 ]
+
     within : (m n : ℕ) → (m < n → ⊥) → n ≤ m
     within m n never = elim (leb_tells n m) [ inl le ↦ le.1 | inr lt ↦ absurd (never lt.1) ]
 

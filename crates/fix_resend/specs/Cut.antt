@@ -1,6 +1,6 @@
 -- What answers a ResendRequest: repeats of the messages that come again, and gap fills over the rest
 -- (FIX, "Resend Request").
-use Rattle.std.specs.Prelude.{ℕ, suc, ◌+◌, ◌-◌, ◌<◌, ◌==◌, ◌||◌, not, List, [], ◌∷◌, ◌++◌, slice_range, replicate, Bool, true, false}
+use Rattle.std.specs.Prelude.{ℕ, suc, ◌+◌, ◌-◌, ◌==◌, ◌||◌, not, List, [], ◌∷◌, ◌++◌, slice_range, replicate, Bool, true, false}
 use Rattle.fix_base.specs.declared.entry.Entry.{Entry}
 use Rattle.fix_base.specs.declared.entry.Entry.TheVariants.{App, Admin}
 pub use Rattle.fix_resend.specs.declared.out.Out.{Out}

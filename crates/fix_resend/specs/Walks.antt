@@ -1,5 +1,5 @@
 -- A walk over the numbers of a ResendRequest, one after another.
-use Rattle.std.specs.Prelude.{◌≡◌, ℕ, suc, ◌-◌, ◌≤◌, ◌<◌, List, [], ◌∷◌, ◌++◌, length, nat_lt, replicate, Bool, true, false, if◌then◌else◌, Option, Some, None, option_to_list}
+use Rattle.std.specs.Prelude.{◌≡◌, ℕ, suc, ◌-◌, ◌≤◌, List, [], ◌∷◌, ◌++◌, length, nat_lt, replicate, Bool, false, if◌then◌else◌, Option, Some, None, option_to_list}
 use Rattle.fix_resend.specs.Cut.{Out, Repeat, Gap, cut_from}
 
 -- it stands at a number, or behind the last one. The numbers from `open` on before it are still to be passed over

@@ -6,7 +6,8 @@ mod laws;
 mod list;
 mod out;
 mod stash;
-
+#[cfg(test)]
+mod tests;
 mod walk;
 
 pub use laws::{

@@ -108,7 +108,8 @@ impl Stash {
     }
 
     fn waits(&self, n: SeqNum) -> bool
-        ensures { result ≡ map.contains_key self.now n }
+        ensures waits { result ≡ map.contains_key self.now n }
+        ensures bounded { IsBounded self.now }
     {
         self.frames.contains_key(&n.get())
     }
@@ -143,10 +144,10 @@ impl Stash {
         if *number >= n {
             return false;
         }
-        let Some((_, frame)) = self.frames.pop_first() else {
+        let Some((_, first)) = self.frames.pop_first() else {
             return false;
         };
-        self.bytes -= frame.as_slice().len();
+        self.bytes -= first.as_slice().len();
         true
     }
 }

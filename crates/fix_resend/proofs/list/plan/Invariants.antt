@@ -1,4 +1,4 @@
-use Rattle.std.proofs.Common.{◌≡◌, ◌+◌, ◌-◌, ◌++◌, length, drop}
+use Rattle.std.proofs.Common.{◌≡◌, ◌+◌, ◌++◌, length, drop}
 use Rattle.fix_resend.specs.Cut.{cut_from}
 use Rattle.fix_resend.specs.Walks.{rest_of}
 use Rattle.fix_resend.proofs.list.plan.Given as goal

@@ -1,4 +1,4 @@
-use Rattle.std.proofs.Common.{◌≤◌, refl, sym, ap, ◌∙◌, subst, length, is_some}
+use Rattle.std.proofs.Common.{refl, sym, ap, is_some}
 use Rattle.fix_resend.proofs.WaitingLemmas.{seen_get, seen_remove, held_less, held_room, lowest_below, stands, stands_none}
 use Rattle.fix_resend.proofs.stash.Stash.drop_first_below.Goals as goal
 

@@ -1,5 +1,3 @@
-use Rattle.std.proofs.Common.{refl, length}
-use Rattle.fix_resend.specs.Waiting.{IsHeld}
 use Rattle.fix_resend.proofs.WaitingLemmas.{seen_insert, held_more}
 use Rattle.fix_resend.proofs.stash.Stash.put.Goals as goal
 

@@ -1,5 +1,3 @@
-use Rattle.std.proofs.Common.{◌≤◌, refl, sym, ap, ◌∙◌, subst, length}
-use Rattle.fix_resend.specs.Waiting.{IsHeld}
 use Rattle.fix_resend.proofs.WaitingLemmas.{seen_get, seen_remove, held_less, held_room}
 use Rattle.fix_resend.proofs.stash.Stash.take.Goals as goal
 

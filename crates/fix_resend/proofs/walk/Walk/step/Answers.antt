@@ -1,4 +1,4 @@
-use Rattle.std.proofs.Common.{◌≤◌, arith}
+use Rattle.std.proofs.Common.{arith}
 use Rattle.fix_resend.proofs.WalkLemmas.{step_again, step_open, step_last}
 use Rattle.fix_resend.proofs.walk.Walk.step.Goals as goal
 
