@@ -2,6 +2,8 @@
 ghost use Rattle.std.specs.Prelude.{◌≡◌, ◌≤◌, ◌-◌, ◌↔◌, ℕ, suc, List, Bool, length, slice_range};
 ghost use Rattle.fix_base.specs.declared.entry.Entry.{Entry};
 ghost use Rattle.fix_resend.specs.Cut.{Out, IsCut, cut_from, coming_again, resend_list};
+ghost use Rattle.fix_base.specs.End.{End};
+ghost use Rattle.fix_resend.specs.Allowed.{AreAllowed};
 ghost use Rattle.fix_resend.specs.Walks.{WalkSeen, Walked, begun};
 
 /// Each message that comes again has one repeat, each of the longest runs of others one gap fill, in order, and
@@ -19,4 +21,10 @@ pub fn a_resend_list_is_of_truth_values()
 /// A walk from one number to another that is given each number's truth value, in order, gives the resend list.
 pub fn a_walk_gives_the_resend_list()
     ensures { (from to : ℕ) (apps : List Bool) (outs : List Out) (end : WalkSeen) → from ≤ to → length apps ≡ suc to - from → Walked (begun from to) apps outs end → (outs ≡ cut_from from apps) × (end.at ≡ suc to) }
+{}
+
+/// What an end may send: each repeat is of a message that may come again, and each gap fill passes only over
+/// entries that aren't messages of an application, or are withheld.
+pub fn a_resend_list_is_lawful()
+    ensures { (e : End) (a b : ℕ) → 1 ≤ a → a ≤ suc (length e.out) → AreAllowed e (resend_list e.out e.withheld a b) }
 {}

@@ -11,7 +11,8 @@ mod tests;
 mod walk;
 
 pub use laws::{
-    a_resend_list_in_plain_words, a_resend_list_is_of_truth_values, a_walk_gives_the_resend_list,
+    a_resend_list_in_plain_words, a_resend_list_is_lawful, a_resend_list_is_of_truth_values,
+    a_walk_gives_the_resend_list,
 };
 pub use list::plan;
 pub use out::Out;
