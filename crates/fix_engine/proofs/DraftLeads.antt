@@ -1,6 +1,7 @@
 -- The sending of a draft is a run of a lawful end.
 use Rattle.std.proofs.Common.{◌≡◌, inl, inr, ℕ, ◌+◌, ◌<◌, List, [], ◌∷◌, ◌++◌, take, Result, Ok, Err, refl, sym, subst}
 use Rattle.fix_base.specs.declared.identity.Identity.{Identity}
+use Rattle.fix_base.specs.declared.entry.By.TheVariants.{Caller}
 use Rattle.fix_base.specs.declared.entry.Record.TheVariants.{Push}
 use Rattle.fix_base.specs.declared.act.Act.{Act}
 use Rattle.fix_base.specs.declared.act.Act.TheVariants as act
@@ -9,7 +10,7 @@ use Rattle.fix_base.specs.Wrote as wrote
 use Rattle.fix_base.specs.Wrote.{IsOriginal}
 use Rattle.fix_base.specs.EndStep.{EndState}
 use Rattle.fix_base.specs.Seen.{Note, Did, acts_of}
-use Rattle.fix_fields.specs.Drafted.{DraftText}
+use Rattle.fix_fields.specs.Drafted.{DraftText, draft_body}
 use Rattle.fix_engine.specs.State.{State, with_last}
 use Rattle.fix_engine.specs.declared.stop.SendFault.{SendFault}
 use Rattle.fix_engine.specs.declared.stop.SendFault.TheVariants as fault
@@ -21,7 +22,8 @@ use Rattle.fix_engine.specs.Drafted.{IsOfDraft, KeepsDraft, Drafting, entry_of_d
 use Rattle.fix_engine.specs.Lawful as lawful
 use Rattle.fix_engine.specs.Lawful.{IsCertain, Fits, IsInDoubt, Leads}
 use Rattle.fix_engine.proofs.LeadsLemmas.{leads_nowhere, leads_weaker}
-use Rattle.fix_engine.proofs.OnLemmas.{pushed, writing, connected, original_all, original_some, on_original, on_pushed}
+use Rattle.fix_engine.proofs.LogonLemmas.{app_free}
+use Rattle.fix_engine.proofs.OnLemmas.{pushed, writing, connected, original_all, original_some, rule_all, rule_some, on_original, on_pushed}
 use Rattle.fix_engine.proofs.LawfulSteps.{Behind, Triple, push_lost, push_kept, push_wrote, push_alone, settled_sent}
 use Rattle.fix_engine.proofs.DraftFrames.{draft_is_body}
 
@@ -69,7 +71,7 @@ module _ (id : Identity) (a : Ahead) (d : DraftText) where
       let to = pushed e (entry_of_draft s d) in
       let end = live (with_last s (s.last + 1)) a in
       push_kept id (entry_of_draft s d) e [] (Fits id end) f.on.settled.doubt
-      (leads_nowhere id to (Fits id end) (record { connection = f.connection; on = on_pushed id s a f.connection e (entry_of_draft s d) f.on; counted = f.counted }))
+      (leads_nowhere id to (Fits id end) (record { connection = f.connection; on = on_pushed id s a f.connection e (entry_of_draft s d) f.on; begun = f.begun; counted = f.counted }))
 
   sent_leads : (s s' : State) (n : ℕ) (notes : List Note) (text : List ℕ) → s.last < 999999999 → IsOfDraft id (s.last + 1) s.reading d text → KeepsDraft d s notes (Ok n) s' → (e : EndState) → Fits id (live s a) e → Leads id e (acts_of (notes ++ Did (act.Wrote text) ∷ [])) (Fits id (live s' a))
   sent_leads s s' n notes text small said (drafted.was_kept is) e f =
@@ -77,8 +79,9 @@ module _ (id : Identity) (a : Ahead) (d : DraftText) where
       let entry = entry_of_draft s d in
       let end = live (with_last s (s.last + 1)) a in
       let original = draft_original id (s.last + 1) s d text said in
-      push_wrote id s a c entry e text [] (Fits id end) f.on (original_all id s a c e entry text small original f.on)
-      (leads_nowhere id (connected (pushed e entry) (writing c text)) (Fits id end) (record { connection = writing c text; on = on_original id s a c e entry text small original f.on; counted = f.counted }))
+      let free = app_free id (s.last + 1) s.reading Caller (draft_body d) text original in
+      push_wrote id s a c entry e text [] (Fits id end) f.on (original_all id s a c e entry text small original f.on) (rule_all id s a c e entry text original free f.on)
+      (leads_nowhere id (connected (pushed e entry) (writing c text)) (Fits id end) (record { connection = writing c text; on = on_original id s a c e entry text small original free f.on; begun = f.begun; counted = f.counted }))
 
   write_lost_leads : (s s' : State) (n many : ℕ) (notes more : List Note) (text : List ℕ) → s.last < 999999999 → IsOfDraft id (s.last + 1) s.reading d text → KeepsDraft d s notes (Ok n) s' → acts_of more ≡ [] → (e : EndState) → Fits id (live s a) e → Leads id e (acts_of (notes ++ Did (act.Wrote (take many text)) ∷ more)) (IsCertain s')
   write_lost_leads s s' n many notes more text small said (drafted.was_kept is) nothing e f =
@@ -87,8 +90,9 @@ module _ (id : Identity) (a : Ahead) (d : DraftText) where
       let end = with_last s (s.last + 1) in
       let part = take many text in
       let original = draft_original id (s.last + 1) s d text said in
+      let free = app_free id (s.last + 1) s.reading Caller (draft_body d) text original in
       subst (λ (acts : List Act). Leads id e (act.Kept (Push entry) ∷ act.Wrote part ∷ acts) (IsCertain end)) (sym nothing)
-      (push_wrote id s a c entry e part [] (IsCertain end) f.on (original_some id s a c e entry text many small original f.on)
+      (push_wrote id s a c entry e part [] (IsCertain end) f.on (original_some id s a c e entry text many small original f.on) (rule_some id s a c e entry text many original free f.on)
       (leads_nowhere id (connected (pushed e entry) (writing c part)) (IsCertain end) (settled_sent id s c entry e part f.on.settled)))
 
   pub drafting_fits : (s : State) (notes : List Note) (r : Result ℕ SendFault) (s' : State) → Drafting id d s notes r s' → s.last < 999999999 → (e : EndState) → Fits id (live s a) e → Leads id e (acts_of notes) (BehindDraft (Fits id (live s' a)) r s')

@@ -10,7 +10,7 @@ use Rattle.fix_base.specs.declared.entry.Entry.TheVariants.{Admin}
 use Rattle.fix_base.specs.declared.entry.Stored.{Stored}
 use Rattle.fix_base.specs.End.{End, new_end}
 use Rattle.fix_base.specs.EndStep as steps
-use Rattle.fix_base.specs.EndStep.{Connection, EndState, new_state, EndStep, EndRun}
+use Rattle.fix_base.specs.EndStep.{Acceptor, Connection, EndState, new_state, EndStep, EndRun}
 use Rattle.fix_base.specs.Lists.{IsPrefixOf}
 use Rattle.fix_base.specs.Session.{mirrored}
 use Rattle.fix_base.specs.Agrees.{Agrees}
@@ -32,18 +32,19 @@ use Rattle.fix_engine.specs.declared.hand.Hand.{Hand}
 use Rattle.fix_engine.specs.Desk.{desk, Ran, no_draft}
 use Rattle.fix_engine.specs.declared.stop.BeginFault.TheVariants as begins
 use Rattle.fix_engine.specs.Run.{Seat, desk_of, seated_at, seated_again, no_bytes, run_end, stop_cause, stopped_for_memory, Opens, BeginsTo, opened_to, no_memory, no_memory_to_open, begun}
-use Rattle.fix_engine.specs.Lawful.{HasNumbers, IsCertain, MayHold, Fits, Leads, After, AfterBegin, IsLawfulBegin}
+use Rattle.fix_engine.specs.Lawful.{HasNumbers, IsCertain, MayHold, silent, Fits, Leads, After, AfterBegin, IsLawfulBegin}
 use Rattle.fix_engine.specs.InStep as step
 use Rattle.fix_engine.specs.InStep.{IsBeside, IsTape, IsStored, IsInStep, StandsInStep, Trails, IsConnected, AreOfRun, HasServed, bytes_written}
 use Rattle.fix_rim.specs.declared.outside.LoadFault.{LoadFault}
 use Rattle.fix_rim.specs.declared.outside.LoadFault.TheVariants as load
 use Rattle.fix_engine.specs.declared.stop.StopCause.TheVariants as stops
 use Rattle.fix_rim.specs.Outside.{IsStoredOf, IsLoaded, loads}
-use Rattle.fix_engine.proofs.RestartLemmas.{restarts, held_starts}
+use Rattle.fix_engine.proofs.RestartLemmas.{restarts_at}
 use Rattle.fix_engine.proofs.EachFrame.{decided, map_sure}
 use Rattle.fix_engine.proofs.BeginLemmas.{begins_ok, begins_err}
 use Rattle.fix_engine.proofs.LeadsLemmas.{leads_nowhere, leads_step, holds_end, Stores-split}
 use Rattle.fix_engine.proofs.ReadLemmas.{read_nothing}
+use Rattle.fix_engine.proofs.LogonLemmas.{never_asks, plain_nothing}
 use Rattle.fix_engine.proofs.LawfulRuns.{Ran-lawful}
 use Rattle.fix_engine.proofs.WritingLemmas.{run_wrote, run_persistent}
 use Rattle.fix_engine.proofs.RunActs.{of_run-append, of_run_one, Ran-plainly}
@@ -77,12 +78,12 @@ stored_on first between xs ys doubt last before behind held s =
 -- ---- a new session
 
 -- a session of which nothing is stored is in step with an outside that stores nothing
-pub new_in_step : (id : Identity) (w : Seen) (before : List Act) → IsTape w before → IsStored w new_end → w.open_at ≡ Some 0 → IsInStep new_state before w (record { identity = id; live = live first_state no_bytes; hand = no_draft; stopped = None })
+pub new_in_step : (id : Identity) (w : Seen) (before : List Act) → IsTape w before → IsStored w new_end → w.open_at ≡ Some 0 → IsInStep (new_state Acceptor) before w (record { identity = id; live = live first_state no_bytes; hand = no_draft; stopped = None })
 new_in_step id w before tape stored opens = record {
   acts = [];
-  to = new_state;
+  to = new_state Acceptor;
   run = steps.stop;
-  beside = step.down refl (record { doubt = refl; numbers = record { expected = refl; stored = refl; out = refl } });
+  beside = step.down refl (record { doubt = refl; numbers = record { expected = refl; stored = refl; out = refl; role = refl } });
   tape = subst (λ (acts : List Act). IsTape w acts) (sym (append-nil before)) tape;
   stored = stored;
   opens = opens;
@@ -203,47 +204,49 @@ run_serves n seat r to hand old new small g start before h =
     )
 
 -- over what another session wrote, a session keeps up with it
-pub sessions_agree : (id : Identity) (first second : RunEnd) (a b : Live) (mine theirs opened facing : EndState) (acts others : List Act) (x : HasServed id first a mine opened acts) (y : HasServed (mirrored id) second b theirs facing others) → IsPersistent theirs.end → IsPrefixOf (bytes_read acts) (bytes_written others) → Agrees mine.end.stored mine.handled theirs.end.out → Agrees mine.expected mine.handled theirs.end.out → ReaderKeepsUp theirs.end y.to.end acts x.to
+pub sessions_agree : (id : Identity) (first second : RunEnd) (a b : Live) (mine theirs opened facing : EndState) (acts others : List Act) (x : HasServed id first a mine opened acts) (y : HasServed (mirrored id) second b theirs facing others) → IsPersistent theirs.end → IsPrefixOf (bytes_read acts) (bytes_written others) → Agrees mine.end.stored mine.handled theirs.end → Agrees mine.expected mine.handled theirs.end → ReaderKeepsUp theirs.end y.to.end acts x.to
 sessions_agree id first second a b mine theirs opened facing acts others x y kept front stored running =
     x.keeps_up theirs.end y.to.end (record { wrote = bytes_written others; persistent = y.persistent kept; writes = y.wrote; front = front; stored = stored; running = running })
 
 -- and the other with the one
-pub sessions_agree_back : (id : Identity) (first second : RunEnd) (a b : Live) (mine theirs opened facing : EndState) (acts others : List Act) (x : HasServed id first a mine opened acts) (y : HasServed (mirrored id) second b theirs facing others) → IsPersistent mine.end → IsPrefixOf (bytes_read others) (bytes_written acts) → Agrees theirs.end.stored theirs.handled mine.end.out → Agrees theirs.expected theirs.handled mine.end.out → ReaderKeepsUp mine.end x.to.end others y.to
+pub sessions_agree_back : (id : Identity) (first second : RunEnd) (a b : Live) (mine theirs opened facing : EndState) (acts others : List Act) (x : HasServed id first a mine opened acts) (y : HasServed (mirrored id) second b theirs facing others) → IsPersistent mine.end → IsPrefixOf (bytes_read others) (bytes_written acts) → Agrees theirs.end.stored theirs.handled mine.end → Agrees theirs.expected theirs.handled mine.end → ReaderKeepsUp mine.end x.to.end others y.to
 sessions_agree_back id first second a b mine theirs opened facing acts others x y kept front stored running =
     y.keeps_up mine.end x.to.end (record { wrote = bytes_written acts; persistent = x.persistent kept; writes = x.wrote; front = front; stored = stored; running = running })
 
 -- ---- a new connection
 
 abbrev pub new_connection : EndState → Connection
-new_connection e = record { opened = e.end; read = []; written = []; base = length e.handled; gave = [] }
+new_connection e = record { opened = e.end; read = []; written = []; base = length e.handled; gave = []; kept = [] }
 
 abbrev pub opened_by : EndState → EndState
-opened_by e = record e { connection = Some (new_connection e) }
+opened_by e = record e { offered = None; connection = Some (new_connection e) }
 
 pub fits_opened : (id : Identity) (l : Live) (t : ℕ) (e : EndState) → IsCertain l.state e → Fits id (begun l t) (opened_by e)
 fits_opened id l t e h = record {
   connection = new_connection e;
   on = record {
     phase = λ p. cc;
-    settled = record { doubt = h.doubt; numbers = record { expected = h.numbers.expected; stored = h.numbers.stored; out = h.numbers.out } };
+    settled = record { doubt = h.doubt; numbers = record { expected = h.numbers.expected; stored = h.numbers.stored; out = h.numbers.out; role = h.numbers.role } };
     is_open = refl;
     read = read_nothing;
     last = length e.end.out;
     kept = omega arith;
     whole = whole_start id e.end;
+    plain = plain_nothing;
     base = omega arith;
   };
+  begun = silent [] refl refl;
   counted = λ n m. elim m [ ];
 }
 
-pub opening : (id : Identity) (s : EndState) → s.doubt ≡ None → EndStep id s act.Opened (opened_by s)
-opening id s none = record { certain = none; row = steps.opened }
+pub opening : (id : Identity) (s : EndState) → s.role ≡ Acceptor → s.doubt ≡ None → EndStep id s act.Opened (opened_by s)
+opening id s role none = record { certain = none; row = steps.opened (λ asking. absurd (never_asks s role asking)) }
 
 -- the opening of a connection is a run of a lawful end
 Begins-lawful : {T : Type 0} (old new : Seat) (r : Result T BeginFault) (notes : List Note) → BeginsTo old r new notes → IsLawfulBegin old r new notes
 Begins-lawful old new r notes (opened_to t) e h =
     leads_step old.identity e e (act.Now t) (act.Opened ∷ []) (Fits old.identity (begun old.live t)) (record { certain = h.doubt; row = steps.now t }) (λ held k. k)
-    (leads_step old.identity e (opened_by e) act.Opened [] (Fits old.identity (begun old.live t)) (opening old.identity e h.doubt) (λ held k. k)
+    (leads_step old.identity e (opened_by e) act.Opened [] (Fits old.identity (begun old.live t)) (opening old.identity e h.numbers.role h.doubt) (λ held k. k)
     (leads_nowhere old.identity (opened_by e) (Fits old.identity (begun old.live t)) (fits_opened old.identity old.live t e h)))
 Begins-lawful old new r notes no_memory e h = leads_nowhere old.identity e (IsCertain old.live.state) h
 Begins-lawful old new r notes (no_memory_to_open t) e h =
@@ -272,7 +275,7 @@ Begins-connected old new r a b notes same m (opened_to t) =
       t,
       record {
         opened = opened_by e;
-        opens = opening old.identity e settled.doubt;
+        opens = opening old.identity e settled.numbers.role settled.doubt;
         acts = [];
         ran = tt;
         to = opened_by e;
@@ -314,7 +317,7 @@ refused_lawful old a = begin_lawful {T = ⊤} old (stopped_for_memory old) (Err 
 
 -- an end with nothing but what is stored
 abbrev at_end : End → EndState
-at_end e = record { end = e; expected = e.stored; handled = []; doubt = None; connection = None }
+at_end e = record { role = Acceptor; end = e; expected = e.stored; handled = []; doubt = None; beside = []; offered = None; connection = None }
 
 -- the tape, where it is told
 pub tape_of : (tape : Option (List Act)) → (before : List Act) × IfSome tape (λ acts. acts ≡ before)
@@ -330,7 +333,7 @@ at_end_in_step id stored w e numbers all opens =
         acts = [];
         to = at_end e;
         run = steps.stop;
-        beside = step.down refl (record { doubt = refl; numbers = record { expected = sym numbers.expected; stored = sym numbers.expected; out = sym numbers.last } });
+        beside = step.down refl (record { doubt = refl; numbers = record { expected = sym numbers.expected; stored = sym numbers.expected; out = sym numbers.last; role = refl } });
         tape = subst (λ (acts : List Act). IsTape w acts) (sym (append-nil told.0)) told.1;
         stored = all;
         opens = opens;
@@ -339,11 +342,11 @@ at_end_in_step id stored w e numbers all opens =
 
 -- some end with these numbers
 numbered_end : Stored → End
-numbered_end stored = record { out = replicate stored.last (Admin 0 48 0); stored = stored.expected; since = stored.since }
+numbered_end stored = record { out = replicate stored.last (Admin 0 48 0); stored = stored.expected; since = stored.since; withheld = []; asked = stored.asked }
 
 numbered_is : (stored : Stored) → IsStoredOf stored (numbered_end stored)
 unfolding numbered_end
-numbered_is stored = record { last = sym (length-replicate stored.last (Admin 0 48 0)); expected = refl; since = refl }
+numbered_is stored = record { last = sym (length-replicate stored.last (Admin 0 48 0)); expected = refl; since = refl; asked = refl }
 
 -- what a store tells behind a load is what it told before
 loaded_same : (a b : Seen) → HoldsOn a.Holds b.Holds (act.Stop ∷ []) → (e : End) → b.Holds e → (x : End) × a.Holds x × (e ≡ x)
@@ -424,7 +427,7 @@ refused_trails old a = begin_trails {T = ⊤} old old.live (Some stops.OutOfMemo
 -- whatever a stop left, the session goes on in step
 pub again_in_step : (old : Seat) (stored : Stored) (a b : Seen) → IsLoaded stored a → Moves a b (Did act.Stop ∷ []) → b.open_at ≡ Some stored.last → (start : EndState) (before : List Act) (e : End) → a.Holds e → Trails start before a old → IsInStep start before b (seated_again old stored)
 again_in_step old stored a b loaded m opens start before e holds t =
-    let r = restarts old.identity stored t.to (held_starts stored t.to e (t.held e holds) (loaded.told e holds)) in
+    let r = restarts_at old.identity stored t.to e t.numbers.role (t.held e holds) (loaded.told e holds) in
     record {
       acts = t.acts ++ act.Stop ∷ [];
       to = r.to;
@@ -433,7 +436,7 @@ again_in_step old stored a b loaded m opens start before e holds t =
       tape = subst (λ acts. IsTape b acts) (append_assoc before t.acts (act.Stop ∷ [])) (tape_moves a.tape b.tape (before ++ t.acts) (act.Stop ∷ []) m.tape t.tape);
       stored = λ x h.
           (let had = loaded_same a b m.stored x h in
-          had.2 ∙ r.held had.0 (t.held had.0 had.1) (loaded.told had.0 had.1));
+          had.2 ∙ loaded.one had.0 e had.1 holds ∙ r.is);
       opens = opens;
     }
 

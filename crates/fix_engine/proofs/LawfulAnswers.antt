@@ -1,6 +1,6 @@
 -- The answer to a message is a run of a lawful end.
-use Rattle.std.proofs.Common.{◌≡◌, ◌≢◌, ℕ, ◌<◌, ◌&&◌, ◌||◌, not, codes, bytes_eq, List, [], ◌∷◌, Bool, true, false, if◌then◌else◌, Option, Some, None, is_none, Result, refl, sym, ap, ◌∙◌}
-use Rattle.std.specs.Prelude.{⊤}
+use Rattle.std.proofs.Common.{◌≡◌, ◌≢◌, inl, inr, ℕ, ◌<◌, ◌&&◌, ◌||◌, not, codes, bytes_eq, List, [], ◌∷◌, Bool, true, false, if◌then◌else◌, Option, Some, None, is_none, Result, refl, sym, ap, ◌∙◌, subst}
+use Rattle.std.specs.Prelude.{⊤, IfSome}
 use Rattle.std.proofs.lemmas.Bool.{eqb-true}
 use Rattle.std.proofs.lemmas.Slice.Eq.{bytes_eq-Decides}
 use Rattle.fix_base.specs.Lists.{Among}
@@ -12,15 +12,17 @@ use Rattle.fix_base.specs.Says.{value_of, seq_num_of, is_admin_type, body_of, me
 use Rattle.fix_base.specs.Stream.{Ahead}
 use Rattle.fix_base.specs.EndStep.{Connection, EndState, WasRead}
 use Rattle.fix_base.specs.Seen.{Note, acts_of}
+use Rattle.fix_base.proofs.HandledLemmas.{test}
 use Rattle.fix_fields.specs.Header.{Header}
 use Rattle.fix_engine.specs.State.{State, Phase, Down, AwaitLogon, Up, Ending, Step, LoggedOut, Refused, NotLogon, Logon, Logout}
 use Rattle.fix_engine.specs.declared.state.Step.TheVariants as do_step
-use Rattle.fix_engine.specs.Inbound.{Inbound, IsInbound}
+use Rattle.fix_engine.specs.Inbound.{Inbound, IsInbound, IsLogon, IsWithoutReset}
 use Rattle.fix_engine.specs.Answer.{Carried, Handled, names, is_numbered, is_of_session, is_in_order, is_app_type, number_or_0, not_built, refused, logon_steps, logon_answer, logout_answer, app_answer, first_answer, up_answer, answer_in}
 use Rattle.fix_engine.specs.Turn.{live}
-use Rattle.fix_engine.specs.Lawful.{IsOn, Fits, Leads}
+use Rattle.fix_engine.specs.Lawful.{IsCertain, BeginsPlainly, IsBegunAt, IsOn, Fits, Leads}
 use Rattle.fix_frame.specs.Given.{GivesFrame}
-use Rattle.fix_engine.proofs.ReadLemmas.{read_frame, was_read, says_admin, says_app}
+use Rattle.fix_engine.proofs.ReadLemmas.{has_same, read_frame, was_read, says_admin, says_app}
+use Rattle.fix_engine.proofs.LogonLemmas.{begun_frame, begun_up, unflagged_free}
 use Rattle.fix_engine.proofs.OnLemmas.{on_place}
 use Rattle.fix_engine.proofs.LawfulSteps.{Behind, Triple, AdminDue, AppDue, AppGiven, In, itself, certain_in, certain_due, certain_given, nowhere, first_of, nothing_leads, close_leads, give_up_leads, go_up_leads, count_admin_leads, count_app_leads, hand_leads, answer_leads, send_leads}
 
@@ -37,11 +39,11 @@ module _ (id : Identity) (frame : List ℕ) (b : Ahead) where
   three_idle : Triple id itself (In id b) (λ s. Carried id frame s (do_step.Nothing ∷ do_step.Nothing ∷ do_step.Nothing ∷ [])) (In id b)
   three_idle = first_of id frame b (In id b) (In id b) (In id b) (certain_in id b) do_step.Nothing (do_step.Nothing ∷ do_step.Nothing ∷ []) (nothing_leads id frame b (In id b)) two_idle
 
-  not_built_leads : (i : Inbound) → Triple id itself (In id b) (λ s. Carried id frame s (not_built i)) (In id b)
-  not_built_leads i = first_of id frame b (In id b) (In id b) (In id b) (certain_in id b) (do_step.GiveUp (number_or_0 i.header.number)) (do_step.Nothing ∷ do_step.Nothing ∷ do_step.Nothing ∷ []) (give_up_leads id frame b (number_or_0 i.header.number) (In id b)) three_idle
+  not_built_leads : (i : Inbound) → Triple id itself IsCertain (λ s. Carried id frame s (not_built i)) (In id b)
+  not_built_leads i = first_of id frame b IsCertain (In id b) (In id b) (certain_in id b) (do_step.GiveUp (number_or_0 i.header.number)) (do_step.Nothing ∷ do_step.Nothing ∷ do_step.Nothing ∷ []) (give_up_leads id frame b (number_or_0 i.header.number) IsCertain (In id b) (λ s e h. h)) three_idle
 
-  refused_leads : (i : Inbound) → Triple id itself (In id b) (λ s. Carried id frame s (refused i)) (In id b)
-  refused_leads i = first_of id frame b (In id b) (In id b) (In id b) (certain_in id b) (do_step.Close (Refused (number_or_0 i.header.number) NotLogon)) (do_step.Nothing ∷ do_step.Nothing ∷ do_step.Nothing ∷ []) (close_leads id frame b (Refused (number_or_0 i.header.number) NotLogon) (In id b)) three_idle
+  refused_leads : (i : Inbound) → Triple id itself IsCertain (λ s. Carried id frame s (refused i)) (In id b)
+  refused_leads i = first_of id frame b IsCertain (In id b) (In id b) (certain_in id b) (do_step.Close (Refused (number_or_0 i.header.number) NotLogon)) (do_step.Nothing ∷ do_step.Nothing ∷ do_step.Nothing ∷ []) (close_leads id frame b (Refused (number_or_0 i.header.number) NotLogon) IsCertain (In id b) (λ s e h. h)) three_idle
 
   logon_leads : (n heart : ℕ) → Triple id itself (AdminDue id b n) (λ s. Carried id frame s (logon_steps n heart)) (In id b)
   logon_leads n heart =
@@ -53,7 +55,7 @@ module _ (id : Identity) (frame : List ℕ) (b : Ahead) where
   logout_leads n =
       first_of id frame b (AdminDue id b n) (In id b) (In id b) (certain_in id b) (do_step.Count n) (do_step.Send Logout None ∷ do_step.Close (LoggedOut n) ∷ do_step.Nothing ∷ []) (count_admin_leads id frame b n)
       (first_of id frame b (In id b) (In id b) (In id b) (certain_in id b) (do_step.Send Logout None) (do_step.Close (LoggedOut n) ∷ do_step.Nothing ∷ []) (send_leads id frame b Logout)
-      (first_of id frame b (In id b) (In id b) (In id b) (certain_in id b) (do_step.Close (LoggedOut n)) (do_step.Nothing ∷ []) (close_leads id frame b (LoggedOut n) (In id b)) one_idle))
+      (first_of id frame b (In id b) (In id b) (In id b) (certain_in id b) (do_step.Close (LoggedOut n)) (do_step.Nothing ∷ []) (close_leads id frame b (LoggedOut n) (In id b) (In id b) (λ s e f. f.on.settled)) one_idle))
 
   app_leads : (n : ℕ) (fs : List Field) → HasFields frame fs → Triple id itself (AppDue id b n (body_of fs)) (λ s. Carried id frame s (app_answer n)) (In id b)
   app_leads n fs has =
@@ -96,14 +98,19 @@ record HasAppType (o : Option (List ℕ)) : Type 0 where
   no_reset : bytes_eq type (codes "4") ≡ false
   no_admin : is_admin_type type ≡ false
 
-neither : (x y : Bool) → not (x || y) ≡ true → (x ≡ false) × (y ≡ false)
-neither true y h = cc
-neither false true h = cc
-neither false false h = (refl, refl)
+negated : (x : Bool) → not x ≡ true → x ≡ false
+negated true h = cc
+negated false h = refl
+
+no_reset_of : (type : List ℕ) → is_admin_type type ≡ false → bytes_eq type (codes "4") ≡ false
+no_reset_of type app = elim (test (bytes_eq type (codes "4"))) as (λ t. bytes_eq type (codes "4") ≡ false) [
+  | inl same ↦ (let wrong : is_admin_type (codes "4") ≡ false = subst (λ w. is_admin_type w ≡ false) ((bytes_eq-Decides type (codes "4")).0 same) app in cc)
+  | inr other ↦ other
+]
 
 app_typed : (o : Option (List ℕ)) → is_app_type o ≡ true → HasAppType o
 app_typed None h = cc
-app_typed (Some type) h = let n = neither (bytes_eq type (codes "4")) (is_admin_type type) h in record { type = type; there = refl; no_reset = n.0; no_admin = n.1 }
+app_typed (Some type) h = let n = negated (is_admin_type type) h in record { type = type; there = refl; no_reset = no_reset_of type n; no_admin = n }
 
 -- ---- a message and its answer
 
@@ -112,6 +119,8 @@ record WasTaken (id : Identity) (b : Ahead) (fs : List Field) (s : State) (e : E
   connection : Connection
   on : IsOn id (live s b) connection e
   counted : (k : ℕ) → Among k connection.gave → k < s.expected
+  first : IsWithoutReset fs → BeginsPlainly connection.read
+  up : s.phase ≡ Up → BeginsPlainly connection.read
   read : (x : Message) → message_of fs ≡ Some x → WasRead connection x
 
 if_cases : {A : Type 0} (P : A → Type 0) (t : Bool) (x y : A) → (t ≡ true → P x) → (t ≡ false → P y) → P (if t then x else y)
@@ -123,8 +132,8 @@ module _ (id : Identity) (frame : List ℕ) (b : Ahead) (i : Inbound) (p : IsInb
   abbrev Carries : List Step → Type 0
   Carries xs = (notes : List Note) (r : Result ⊤ Ending) (s' : State) → Carried id frame s xs notes r s' → Leads id e (acts_of notes) (Behind (In id b s') r s')
 
-  in_step : In id b s e
-  in_step = record { connection = f.connection; on = f.on; counted = f.counted }
+  settled : IsCertain s e
+  settled = f.on.settled
 
   number_is : is_in_order id s i ≡ true → seq_num_of p.fields ≡ Some s.expected
   number_is h = sym (ap (λ (g : Header). g.number) p.header) ∙ in_order_number id s i h
@@ -133,37 +142,43 @@ module _ (id : Identity) (frame : List ℕ) (b : Ahead) (i : Inbound) (p : IsInb
   type_is type h = sym (ap (λ (g : Header). g.type) p.header) ∙ h
 
   -- the message of the expected number is administrative
-  admin_due : (type : List ℕ) → bytes_eq type (codes "4") ≡ false → is_admin_type type ≡ true → is_in_order id s i ≡ true → i.header.type ≡ Some type → AdminDue id b s.expected s e
-  admin_due type no_reset admin order named_so = record {
+  admin_due : (type : List ℕ) → BeginsPlainly f.connection.read → bytes_eq type (codes "4") ≡ false → is_admin_type type ≡ true → is_in_order id s i ≡ true → i.header.type ≡ Some type → AdminDue id b s.expected s e
+  admin_due type free no_reset admin order named_so = record {
     connection = f.connection;
     on = f.on;
     counted = f.counted;
+    free = free;
     read = f.read (message.Admin s.expected) (says_admin p.fields type s.expected (type_is type named_so) (number_is order) no_reset admin);
     due = refl;
   }
 
   -- or it is an application message
-  app_due : is_in_order id s i ≡ true → is_none i.header.poss_dup ≡ true → is_app_type i.header.type ≡ true → AppDue id b s.expected (body_of p.fields) s e
-  app_due order first app =
+  app_due : BeginsPlainly f.connection.read → is_in_order id s i ≡ true → is_none i.header.poss_dup ≡ true → is_app_type i.header.type ≡ true → AppDue id b s.expected (body_of p.fields) s e
+  app_due free order first app =
       let typed = app_typed i.header.type app in
       let dup : value_of 43 p.fields ≡ None = sym (ap (λ (g : Header). g.poss_dup) p.header) ∙ absent i.header.poss_dup first in
       record {
         connection = f.connection;
         on = f.on;
         counted = f.counted;
+        free = free;
         read = f.read (message.App s.expected false (body_of p.fields)) (says_app p.fields typed.type s.expected (type_is typed.type typed.there) (number_is order) typed.no_reset typed.no_admin dup);
         due = refl;
       }
 
   refused_here : Carries (refused i)
-  refused_here notes r s' d = refused_leads id frame b i s notes r s' d e in_step
+  refused_here notes r s' d = refused_leads id frame b i s notes r s' d e settled
 
   not_built_here : Carries (not_built i)
-  not_built_here notes r s' d = not_built_leads id frame b i s notes r s' d e in_step
+  not_built_here notes r s' d = not_built_leads id frame b i s notes r s' d e settled
 
-  logon_here : (heart : Option ℕ) → AdminDue id b s.expected s e → Carries (logon_answer s.expected heart i)
-  logon_here None due = not_built_here
-  logon_here (Some heart) due = λ notes r s' d. logon_leads id frame b s.expected heart s notes r s' d e due
+  -- a Logon that can be taken has no ResetSeqNumFlag (141) of Y
+  without_reset : (heart : ℕ) → i.heart ≡ Some heart → IsWithoutReset p.fields
+  without_reset heart is = let known : IsLogon p.fields heart = subst (λ (o : Option ℕ). IfSome o (IsLogon p.fields)) is p.heart.known in known.plain.no_reset
+
+  logon_here : (heart : Option ℕ) → i.heart ≡ heart → (BeginsPlainly f.connection.read → AdminDue id b s.expected s e) → Carries (logon_answer s.expected heart i)
+  logon_here None is due = not_built_here
+  logon_here (Some heart) is due = λ notes r s' d. logon_leads id frame b s.expected heart s notes r s' d e (due (f.first (without_reset heart is)))
 
   logout_here : AdminDue id b s.expected s e → Carries (logout_answer s.expected)
   logout_here due notes r s' d = logout_leads id frame b s.expected s notes r s' d e due
@@ -175,22 +190,22 @@ module _ (id : Identity) (frame : List ℕ) (b : Ahead) (i : Inbound) (p : IsInb
   first_here =
       if_cases Carries (not (names i.header.type (codes "A"))) (refused i) (if is_in_order id s i then logon_answer s.expected i.heart i else not_built i) (λ t. refused_here)
       (λ logon. if_cases Carries (is_in_order id s i) (logon_answer s.expected i.heart i) (not_built i)
-      (λ order. logon_here i.heart (admin_due (codes "A") refl refl order (named i.header.type (codes "A") (not_false (names i.header.type (codes "A")) logon))))
+      (λ order. logon_here i.heart refl (λ free. admin_due (codes "A") free refl refl order (named i.header.type (codes "A") (not_false (names i.header.type (codes "A")) logon))))
       (λ t. not_built_here))
 
-  up_here : Carries (up_answer id s i)
-  up_here =
+  up_here : BeginsPlainly f.connection.read → Carries (up_answer id s i)
+  up_here free =
       if_cases Carries (not (is_in_order id s i && is_none i.header.poss_dup)) (not_built i) (if names i.header.type (codes "5") then logout_answer s.expected else (if is_app_type i.header.type then app_answer s.expected else not_built i)) (λ t. not_built_here)
       (λ fine.
       let both = both_true (is_in_order id s i) (is_none i.header.poss_dup) (not_false (is_in_order id s i && is_none i.header.poss_dup) fine) in
       if_cases Carries (names i.header.type (codes "5")) (logout_answer s.expected) (if is_app_type i.header.type then app_answer s.expected else not_built i)
-      (λ logout. logout_here (admin_due (codes "5") refl refl both.0 (named i.header.type (codes "5") logout)))
-      (λ t. if_cases Carries (is_app_type i.header.type) (app_answer s.expected) (not_built i) (λ app. app_here (app_due both.0 both.1 app)) (λ t. not_built_here)))
+      (λ logout. logout_here (admin_due (codes "5") free refl refl both.0 (named i.header.type (codes "5") logout)))
+      (λ t. if_cases Carries (is_app_type i.header.type) (app_answer s.expected) (not_built i) (λ app. app_here (app_due free both.0 both.1 app)) (λ t. not_built_here)))
 
-  in_phase : (phase : Phase) → phase ≢ Down → Carries (answer_in phase id s i)
-  in_phase Down h = absurd (h refl)
-  in_phase AwaitLogon h = first_here
-  in_phase Up h = up_here
+  in_phase : (phase : Phase) → s.phase ≡ phase → phase ≢ Down → Carries (answer_in phase id s i)
+  in_phase Down is h = absurd (h refl)
+  in_phase AwaitLogon is h = first_here
+  in_phase Up is h = up_here (f.up is)
 
 -- a frame is taken, and answered
 pub handled_leads : (id : Identity) (s s' : State) (a b : Ahead) (frame : List ℕ) (notes : List Note) (r : Result ⊤ Ending) → GivesFrame a b frame → Handled id s frame notes r s' → (e : EndState) → Fits id (live s a) e → Leads id e (acts_of notes) (Behind (In id b s') r s')
@@ -202,6 +217,8 @@ handled_leads id s s' a b frame notes r gives h e f =
       connection = c;
       on = on_place id s a b c e taken.read f.on;
       counted = f.counted;
+      first = λ without. begun_frame c.read a b frame s.phase gives (λ l. unflagged_free frame p.fields without l (has_same frame l.fields p.fields l.has p.has)) f.begun;
+      up = λ is. begun_up (subst (IsBegunAt c.read a) is f.begun);
       read = λ x says. was_read c b (message_of p.fields) x taken says;
     } in
-    in_phase id frame b h.inbound p s e was s.phase f.on.phase notes r s' h.carried
+    in_phase id frame b h.inbound p s e was s.phase refl f.on.phase notes r s' h.carried

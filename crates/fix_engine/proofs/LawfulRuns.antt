@@ -20,6 +20,7 @@ use Rattle.fix_engine.specs.Lawful as lawful
 use Rattle.fix_engine.specs.Lawful.{IsCertain, Fits, HasLeft, IsLost, IsInDoubt, Leads, After, IsLawful}
 use Rattle.fix_engine.proofs.LeadsLemmas.{certain_settled, settled_phase, lost_down, leads_nowhere, leads_step, leads_lost, leads_on, leads_weaker}
 use Rattle.fix_engine.proofs.ReadLemmas.{read_none}
+use Rattle.fix_engine.proofs.LogonLemmas.{begun_none, begun_bytes}
 use Rattle.fix_engine.proofs.OnLemmas.{connected, settled_connected, on_state, reading, on_read, on_place, keeping, settled_kept, on_kept}
 use Rattle.fix_engine.proofs.LawfulSteps.{BehindEnd, Behind, Triple, HasNoDoubt}
 use Rattle.fix_engine.proofs.LawfulAnswers.{handled_leads}
@@ -35,7 +36,7 @@ certain_fits id l e f = f.on.settled.doubt
 
 taken_leads : (id : Identity) → Triple id state_of (Fits id) (Taken id) (Fits id)
 taken_leads id l notes r to (turn.no_more {s = s} {a = a} {b = b} gives) e f =
-    leads_nowhere id e (Fits id (live s b)) (record { connection = f.connection; on = on_place id s a b f.connection e (read_none f.connection.read a b gives f.on.read) f.on; counted = f.counted })
+    leads_nowhere id e (Fits id (live s b)) (record { connection = f.connection; on = on_place id s a b f.connection e (read_none f.connection.read a b gives f.on.read) f.on; begun = begun_none f.connection.read a b s.phase gives f.begun; counted = f.counted })
 taken_leads id l notes r to (turn.ends {s = s} {s' = s'} {a = a} {b = b} {e = end} frame gives h) e f = handled_leads id s s' a b frame notes (Err end) gives h e f
 taken_leads id l notes r to (turn.goes {s = s} {mid = mid} {a = a} {b = b} {first = first} {more = more} frame gives h others) e f =
     leads_on id e first more (Fits id (live mid b)) (Behind (Fits id to) r to.state) (certain_fits id (live mid b)) (handled_leads id s mid a b frame first (Ok tt) gives h e f) (λ m q. taken_leads id (live mid b) more r to others m q)
@@ -44,7 +45,7 @@ fed_leads : (id : Identity) (b : List ℕ) (l : Live) (notes : List Note) (r : R
 fed_leads id b l notes r to (turn.fed_frames d) e f =
     let c = f.connection in
     let mid = connected e (reading c b) in
-    let g : Fits id (live l.state (fed l.ahead b)) mid = record { connection = reading c b; on = on_read id l c e b f.on; counted = f.counted } in
+    let g : Fits id (live l.state (fed l.ahead b)) mid = record { connection = reading c b; on = on_read id l c e b f.on; begun = begun_bytes c.read b l.ahead l.state.phase f.begun; counted = f.counted } in
     leads_step id e mid (act.Read b) (acts_of notes) (Behind (Fits id to) r to.state) (record { certain = f.on.settled.doubt; row = steps.read b c f.on.is_open }) (λ held h. h) (taken_leads id (live l.state (fed l.ahead b)) notes r to d mid g)
 fed_leads id b l notes r to turn.fed_memory e f =
     let c = f.connection in
@@ -66,7 +67,7 @@ clocked_leads : (id : Identity) → Triple id state_of (Fits id) Clocked (Fits i
 clocked_leads id l notes r to (turn.now t) e f =
     let next = live (with_reading l.state t) l.ahead in
     leads_step id e e (act.Now t) [] (Fits id next) (record { certain = f.on.settled.doubt; row = steps.now t }) (λ held h. h)
-    (leads_nowhere id e (Fits id next) (record { connection = f.connection; on = on_state id l.state (with_reading l.state t) l.ahead f.connection e f.on.phase refl refl refl f.on; counted = f.counted }))
+    (leads_nowhere id e (Fits id next) (record { connection = f.connection; on = on_state id l.state (with_reading l.state t) l.ahead f.connection e f.on.phase refl refl refl f.on; begun = f.begun; counted = f.counted }))
 clocked_leads id l notes r to turn.now_memory e f = leads_nowhere id e (IsCertain l.state) f.on.settled
 
 -- one part, and then the other
@@ -89,7 +90,7 @@ expect_lost_leads : (id : Identity) (s : State) (e : EndState) → IsCertain s e
 expect_lost_leads id s e h =
     let left : EndState = record e { doubt = Some (Expect s.expected); connection = None } in
     leads_lost id e left (Expect s.expected) (IsInDoubt s) (record { certain = h.doubt; row = steps.lost_expect s.expected (sym h.numbers.expected) }) refl refl
-    (record { numbers = record { expected = h.numbers.expected; stored = h.numbers.stored; out = h.numbers.out }; record_lost = Expect s.expected; doubt = refl; is = lawful.number; closed = refl })
+    (record { numbers = record { expected = h.numbers.expected; stored = h.numbers.stored; out = h.numbers.out; role = h.numbers.role }; record_lost = Expect s.expected; doubt = refl; is = lawful.number; closed = refl })
 
 -- or kept
 expect_kept_leads : (id : Identity) (s : State) (e : EndState) (P : EndState → Type 0) → IsCertain s e → P (keeping e s.expected) → Leads id e (act.Kept (Expect s.expected) ∷ []) P
@@ -101,7 +102,7 @@ kept_leads : (id : Identity) → Triple id state_of (Fits id) KeptExpected (Fits
 kept_leads id l notes r to (turn.same h) e f = leads_nowhere id e (Fits id l) f
 kept_leads id l notes r to (turn.kept h) e f =
     let next = live (with_kept l.state) l.ahead in
-    expect_kept_leads id l.state e (Fits id next) f.on.settled (record { connection = f.connection; on = on_kept id l.state l.ahead f.connection e f.on; counted = f.counted })
+    expect_kept_leads id l.state e (Fits id next) f.on.settled (record { connection = f.connection; on = on_kept id l.state l.ahead f.connection e f.on; begun = f.begun; counted = f.counted })
 kept_leads id l notes r to (turn.expect_lost h) e f = expect_lost_leads id l.state e f.on.settled
 kept_leads id l notes r to (turn.expect_memory h) e f = leads_nowhere id e (IsCertain l.state) f.on.settled
 
@@ -195,7 +196,7 @@ not_cut_after id ending.AppFault to e t h = cc
 not_cut_after id ending.NumbersSpent to e t h = cc
 not_cut_after id ending.OutOfMemory to e t h = settled_phase to.state e h
 not_cut_after id ending.StoreFault to e t h = record {
-  numbers = record { expected = h.numbers.expected; stored = h.numbers.stored; out = h.numbers.out };
+  numbers = record { expected = h.numbers.expected; stored = h.numbers.stored; out = h.numbers.out; role = h.numbers.role };
   record_lost = h.record_lost;
   doubt = h.doubt;
   is = lost_down to.state h.is;
@@ -206,7 +207,7 @@ not_cut_after id ending.StoreFault to e t h = record {
 cut_leads : (id : Identity) (end : Ending) (to : Live) (e : EndState) → is_cut_of end ≡ true → IsCertain to.state e → Leads id e (act.Cut ∷ []) (After id (run_end (Err end)) (down to))
 cut_leads id end to e t h =
     let left : EndState = record e { connection = None } in
-    let is_left : HasLeft (down to).state left = record { phase = refl; settled = record { doubt = h.doubt; numbers = record { expected = h.numbers.expected; stored = h.numbers.stored; out = h.numbers.out } }; closed = refl } in
+    let is_left : HasLeft (down to).state left = record { phase = refl; settled = record { doubt = h.doubt; numbers = record { expected = h.numbers.expected; stored = h.numbers.stored; out = h.numbers.out; role = h.numbers.role } }; closed = refl } in
     leads_step id e left act.Cut [] (After id (run_end (Err end)) (down to)) (record { certain = h.doubt; row = steps.cut }) (λ held k. k) (leads_nowhere id left (After id (run_end (Err end)) (down to)) (left_after id end (down to) left t is_left))
 
 -- every run of the engine is a run of a lawful end

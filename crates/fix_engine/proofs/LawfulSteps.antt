@@ -11,7 +11,7 @@ use Rattle.fix_base.specs.Message as message
 use Rattle.fix_base.specs.Says.{HasFields, body_of}
 use Rattle.fix_base.specs.Stream.{Ahead}
 use Rattle.fix_base.specs.EndStep as steps
-use Rattle.fix_base.specs.EndStep.{Connection, EndState, WasRead, Grew, MayHand}
+use Rattle.fix_base.specs.EndStep.{Connection, EndState, WasRead, Grew, MayHand, LogonRule}
 use Rattle.fix_base.specs.Wrote.{Wrote}
 use Rattle.fix_base.specs.Seen.{Note, Did, acts_of}
 use Rattle.fix_base.proofs.ListLemmas.{Among-cons_cases}
@@ -23,10 +23,11 @@ use Rattle.fix_engine.specs.Answer as answer
 use Rattle.fix_engine.specs.Answer.{Performed, Carried, entry_of}
 use Rattle.fix_engine.specs.Turn.{live}
 use Rattle.fix_engine.specs.Lawful as lawful
-use Rattle.fix_engine.specs.Lawful.{HasNumbers, IsCertain, IsOn, Fits, IsLost, IsInDoubt, Leads}
+use Rattle.fix_engine.specs.Lawful.{HasNumbers, IsCertain, BeginsPlainly, plainly, IsOn, Fits, IsLost, IsInDoubt, Leads}
 use Rattle.fix_engine.proofs.LeadsLemmas.{leads_nowhere, leads_step, leads_lost, leads_move, leads_on}
 use Rattle.fix_engine.proofs.ReadLemmas.{has_same}
-use Rattle.fix_engine.proofs.OnLemmas.{pushed, writing, connected, settled_pushed, settled_connected, wrote_all, wrote_some, on_sent, on_state, passed, settled_passed, on_passed, giving, given, on_given, grew_given}
+use Rattle.fix_engine.proofs.LogonLemmas.{plain_free}
+use Rattle.fix_engine.proofs.OnLemmas.{pushed, writing, connected, settled_pushed, settled_connected, wrote_all, wrote_some, said_rule, some_rule, on_sent, on_state, passed, settled_passed, on_passed, giving, given, on_given, grew_given}
 
 -- behind a part that ends the whole
 abbrev pub BehindEnd : Ending → State → EndState → Type 0
@@ -54,11 +55,16 @@ itself s = s
 abbrev pub HasNoDoubt : {S : Type 0} → (S → EndState → Type 0) → Type 0
 HasNoDoubt {S} P = (s : S) (e : EndState) → P s e → e.doubt ≡ None
 
+-- and the end has the session's numbers
+abbrev pub IsSettledIn : (State → EndState → Type 0) → Type 0
+IsSettledIn P = (s : State) (e : EndState) → P s e → IsCertain s e
+
 -- the end is in step, and the administrative message of this number was read and is to be counted
 pub record AdminDue (id : Identity) (b : Ahead) (n : ℕ) (s : State) (e : EndState) : Type 0 where
   pub connection : Connection
   pub on : IsOn id (live s b) connection e
   pub counted : (k : ℕ) → Among k connection.gave → k < s.expected
+  pub free : BeginsPlainly connection.read
   pub read : WasRead connection (message.Admin n)
   pub due : n ≡ s.expected
 
@@ -67,6 +73,7 @@ pub record AppDue (id : Identity) (b : Ahead) (n : ℕ) (body : List ℕ) (s : S
   pub connection : Connection
   pub on : IsOn id (live s b) connection e
   pub counted : (k : ℕ) → Among k connection.gave → k < s.expected
+  pub free : BeginsPlainly connection.read
   pub read : WasRead connection (message.App n false body)
   pub due : n ≡ s.expected
 
@@ -75,6 +82,7 @@ pub record AppGiven (id : Identity) (b : Ahead) (n : ℕ) (body : List ℕ) (s :
   pub connection : Connection
   pub on : IsOn id (live s b) connection e
   pub counted : (k : ℕ) → Among k connection.gave → k ≤ s.expected
+  pub free : BeginsPlainly connection.read
   pub read : WasRead connection (message.App n false body)
   pub due : n ≡ s.expected
   pub grew : Grew connection e.handled n
@@ -99,17 +107,17 @@ module _ (id : Identity) where
   push_lost s entry e lost h =
       let left : EndState = record e { doubt = Some (Push entry); connection = None } in
       leads_lost id e left (Push entry) (IsInDoubt s) (record { certain = h.doubt; row = steps.lost_push entry }) refl refl
-      (record { numbers = record { expected = h.numbers.expected; stored = h.numbers.stored; out = h.numbers.out }; record_lost = Push entry; doubt = refl; is = lost; closed = refl })
+      (record { numbers = record { expected = h.numbers.expected; stored = h.numbers.stored; out = h.numbers.out; role = h.numbers.role }; record_lost = Push entry; doubt = refl; is = lost; closed = refl })
 
   -- it is kept, and then more is done
   pub push_kept : (entry : Entry) (e : EndState) (notes : List Note) (P : EndState → Type 0) → e.doubt ≡ None → Leads id (pushed e entry) (acts_of notes) P → Leads id e (act.Kept (Push entry) ∷ acts_of notes) P
-  push_kept entry e notes P certain l = leads_step id e (pushed e entry) (act.Kept (Push entry)) (acts_of notes) P (record { certain = certain; row = steps.kept_push entry }) (λ held h. h) l
+  push_kept entry e notes P certain l = leads_step id e (pushed e entry) (act.Kept (Push entry)) (acts_of notes) P (record { certain = certain; row = steps.kept_push entry steps.adds }) (λ held h. h) l
 
   -- it is kept, these bytes are written, and then more is done
-  pub push_wrote : (s : State) (a : Ahead) (c : Connection) (entry : Entry) (e : EndState) (w : List ℕ) (notes : List Note) (P : EndState → Type 0) → IsOn id (live s a) c e → Wrote id c.opened (pushed e entry).end (c.written ++ w) → Leads id (connected (pushed e entry) (writing c w)) (acts_of notes) P → Leads id e (act.Kept (Push entry) ∷ act.Wrote w ∷ acts_of notes) P
-  push_wrote s a c entry e w notes P h wrote l =
+  pub push_wrote : (s : State) (a : Ahead) (c : Connection) (entry : Entry) (e : EndState) (w : List ℕ) (notes : List Note) (P : EndState → Type 0) → IsOn id (live s a) c e → Wrote id c.opened (pushed e entry).end (c.written ++ w) → LogonRule id (pushed e entry) c w → Leads id (connected (pushed e entry) (writing c w)) (acts_of notes) P → Leads id e (act.Kept (Push entry) ∷ act.Wrote w ∷ acts_of notes) P
+  push_wrote s a c entry e w notes P h wrote rule l =
       push_kept entry e (Did (act.Wrote w) ∷ notes) P h.settled.doubt
-      (leads_step id (pushed e entry) (connected (pushed e entry) (writing c w)) (act.Wrote w) (acts_of notes) P (record { certain = h.settled.doubt; row = steps.wrote w c h.is_open wrote }) (λ held k. k) l)
+      (leads_step id (pushed e entry) (connected (pushed e entry) (writing c w)) (act.Wrote w) (acts_of notes) P (record { certain = h.settled.doubt; row = steps.wrote w c h.is_open wrote rule }) (λ held k. k) l)
 
   -- it is kept, and memory is refused
   pub push_alone : (s : State) (entry : Entry) (e : EndState) → IsCertain s e → Leads id e (act.Kept (Push entry) ∷ []) (IsCertain (with_last s (s.last + 1)))
@@ -133,31 +141,31 @@ module _ (id : Identity) (frame : List ℕ) (b : Ahead) where
   pub nothing_leads : (P : State → EndState → Type 0) → Triple id itself P (λ s. Performed id frame s do_step.Nothing) P
   nothing_leads P s notes r s' answer.nothing e h = leads_nowhere id e (P s) h
 
-  pub close_leads : (why : Why) (Q : State → EndState → Type 0) → Triple id itself (In id b) (λ s. Performed id frame s (do_step.Close why)) Q
-  close_leads why Q s notes r s' (answer.close w) e f =
-      let h = f.on.settled in
-      leads_nowhere id e (IsCertain (with_phase s Down)) (record { doubt = h.doubt; numbers = record { expected = h.numbers.expected; stored = h.numbers.stored; out = h.numbers.out } })
+  pub close_leads : (why : Why) (P Q : State → EndState → Type 0) → IsSettledIn P → Triple id itself P (λ s. Performed id frame s (do_step.Close why)) Q
+  close_leads why P Q settled s notes r s' (answer.close w) e f =
+      let h = settled s e f in
+      leads_nowhere id e (IsCertain (with_phase s Down)) (record { doubt = h.doubt; numbers = record { expected = h.numbers.expected; stored = h.numbers.stored; out = h.numbers.out; role = h.numbers.role } })
 
-  pub give_up_leads : (n : ℕ) (Q : State → EndState → Type 0) → Triple id itself (In id b) (λ s. Performed id frame s (do_step.GiveUp n)) Q
-  give_up_leads n Q s notes r s' (answer.give_up m) e f =
-      let h = f.on.settled in
-      leads_nowhere id e (IsCertain (with_phase s Down)) (record { doubt = h.doubt; numbers = record { expected = h.numbers.expected; stored = h.numbers.stored; out = h.numbers.out } })
+  pub give_up_leads : (n : ℕ) (P Q : State → EndState → Type 0) → IsSettledIn P → Triple id itself P (λ s. Performed id frame s (do_step.GiveUp n)) Q
+  give_up_leads n P Q settled s notes r s' (answer.give_up m) e f =
+      let h = settled s e f in
+      leads_nowhere id e (IsCertain (with_phase s Down)) (record { doubt = h.doubt; numbers = record { expected = h.numbers.expected; stored = h.numbers.stored; out = h.numbers.out; role = h.numbers.role } })
 
   pub go_up_leads : (n : ℕ) → Triple id itself (AdminDue id b n) (λ s. Performed id frame s do_step.GoUp) (AdminDue id b n)
   go_up_leads n s notes r s' answer.go_up e f =
-      leads_nowhere id e (AdminDue id b n (with_phase s Up)) (record { connection = f.connection; on = on_state id s (with_phase s Up) b f.connection e (λ h. cc) refl refl refl f.on; counted = f.counted; read = f.read; due = f.due })
+      leads_nowhere id e (AdminDue id b n (with_phase s Up)) (record { connection = f.connection; on = on_state id s (with_phase s Up) b f.connection e (λ h. cc) refl refl refl f.on; counted = f.counted; free = f.free; read = f.read; due = f.due })
 
   pub count_admin_leads : (n : ℕ) → Triple id itself (AdminDue id b n) (λ s. Performed id frame s (do_step.Count n)) (In id b)
   count_admin_leads n s notes r s' (answer.count m) e f =
       let at : n ≡ e.expected = f.due ∙ sym f.on.settled.numbers.expected in
-      leads_move id e (passed e) [] (In id b (with_expected s (n + 1))) (steps.past_admin f.connection (message.Admin n) f.on.is_open f.read at) refl
-      (leads_nowhere id (passed e) (In id b (with_expected s (n + 1))) (record { connection = f.connection; on = on_passed id s b f.connection e n f.due f.on; counted = λ k m. omega (arith, f.counted k m, f.due) }))
+      leads_move id e (passed e) [] (In id b (with_expected s (n + 1))) (steps.past_admin f.connection (message.Admin n) (plain_free e f.connection f.on.settled.numbers.role f.on.is_open f.free) f.on.is_open f.read at) refl
+      (leads_nowhere id (passed e) (In id b (with_expected s (n + 1))) (record { connection = f.connection; on = on_passed id s b f.connection e n f.due f.on; begun = plainly f.free; counted = λ k m. omega (arith, f.counted k m, f.due) }))
 
   pub count_app_leads : (n : ℕ) (body : List ℕ) → Triple id itself (AppGiven id b n body) (λ s. Performed id frame s (do_step.Count n)) (In id b)
   count_app_leads n body s notes r s' (answer.count m) e f =
       let at : n ≡ e.expected = f.due ∙ sym f.on.settled.numbers.expected in
-      leads_move id e (passed e) [] (In id b (with_expected s (n + 1))) (steps.past_app f.connection n false body f.on.is_open f.read at f.grew) refl
-      (leads_nowhere id (passed e) (In id b (with_expected s (n + 1))) (record { connection = f.connection; on = on_passed id s b f.connection e n f.due f.on; counted = λ k m. omega (arith, f.counted k m, f.due) }))
+      leads_move id e (passed e) [] (In id b (with_expected s (n + 1))) (steps.past_app f.connection n false body (plain_free e f.connection f.on.settled.numbers.role f.on.is_open f.free) f.on.is_open f.read at f.grew) refl
+      (leads_nowhere id (passed e) (In id b (with_expected s (n + 1))) (record { connection = f.connection; on = on_passed id s b f.connection e n f.due f.on; begun = plainly f.free; counted = λ k m. omega (arith, f.counted k m, f.due) }))
 
   -- it wasn't given on this connection before
   may_hand : (n : ℕ) (body : List ℕ) (s : State) (e : EndState) (f : AppDue id b n body s e) → MayHand e f.connection n false body
@@ -174,10 +182,11 @@ module _ (id : Identity) (frame : List ℕ) (b : Ahead) where
       let c = f.connection in
       let body = body_of fs in
       let may : MayHand e c n false body = may_hand n body s e f in
-      let l : Leads id e (act.Handed n false body ∷ []) (AppGiven id b n body s) = leads_step id e (given e c n body) (act.Handed n false body) [] (AppGiven id b n body s) (record { certain = f.on.settled.doubt; row = steps.handed c n false body may }) (λ held h. h) (leads_nowhere id (given e c n body) (AppGiven id b n body s) (record {
+      let l : Leads id e (act.Handed n false body ∷ []) (AppGiven id b n body s) = leads_step id e (given e c n body) (act.Handed n false body) [] (AppGiven id b n body s) (record { certain = f.on.settled.doubt; row = steps.handed c n false body (plain_free e c f.on.settled.numbers.role f.on.is_open f.free) may }) (λ held h. h) (leads_nowhere id (given e c n body) (AppGiven id b n body s) (record {
         connection = giving c n;
         on = on_given id (live s b) c e n body f.on;
         counted = λ k m. elim (Among-cons_cases m) as (λ _. k ≤ s.expected) [ inl same_one ↦ omega (arith, same_one, f.due) | inr earlier ↦ (let low = f.counted k earlier in omega arith) ];
+        free = f.free;
         read = record { messages = f.read.messages; shows = f.read.shows; among = f.read.among };
         due = f.due;
         grew = grew_given id (live s b) c e n body f.on;
@@ -190,7 +199,7 @@ module _ (id : Identity) (frame : List ℕ) (b : Ahead) where
       let may : MayHand e c n false body = may_hand n body s e f in
       let left : EndState = record e { connection = None } in
       let h = f.on.settled in
-      let l : Leads id e (act.HandLost n false body ∷ []) (IsCertain s) = leads_step id e left (act.HandLost n false body) [] (IsCertain s) (record { certain = h.doubt; row = steps.hand_lost c n false body may }) (λ held h. h) (leads_nowhere id left (IsCertain s) (record { doubt = h.doubt; numbers = record { expected = h.numbers.expected; stored = h.numbers.stored; out = h.numbers.out } })) in
+      let l : Leads id e (act.HandLost n false body ∷ []) (IsCertain s) = leads_step id e left (act.HandLost n false body) [] (IsCertain s) (record { certain = h.doubt; row = steps.hand_lost c n false body (plain_free e c f.on.settled.numbers.role f.on.is_open f.free) may }) (λ held h. h) (leads_nowhere id left (IsCertain s) (record { doubt = h.doubt; numbers = record { expected = h.numbers.expected; stored = h.numbers.stored; out = h.numbers.out; role = h.numbers.role } })) in
       subst (λ (gs : List Field). Leads id e (act.HandLost n false (body_of gs) ∷ []) (IsCertain s)) (sym same) l
   hand_leads n fs has s notes r s' (answer.hand_memory k marked) e f = leads_nowhere id e (IsCertain s) f.on.settled
 
@@ -201,11 +210,12 @@ module _ (id : Identity) (frame : List ℕ) (b : Ahead) where
   answer_leads say n s notes r s' (answer.keep_lost w m h) e f = push_lost id s (entry_of s say) e (lawful.entry say) f.on.settled
   answer_leads say n s notes r s' (answer.sent w m text small said) e f =
       let c = f.connection in
-      push_wrote id s b c (entry_of s say) e text [] (AdminDue id b n (with_last s (s.last + 1))) f.on (wrote_all id s b c e say text small said f.on)
+      push_wrote id s b c (entry_of s say) e text [] (AdminDue id b n (with_last s (s.last + 1))) f.on (wrote_all id s b c e say text small said f.on) (said_rule id s b c e say text said f.on)
       (leads_nowhere id (connected (pushed e (entry_of s say)) (writing c text)) (AdminDue id b n (with_last s (s.last + 1))) (record {
         connection = writing c text;
         on = on_sent id s b c e say text small said f.on;
         counted = f.counted;
+        free = f.free;
         read = record { messages = f.read.messages; shows = f.read.shows; among = f.read.among };
         due = f.due;
       }))
@@ -215,8 +225,8 @@ module _ (id : Identity) (frame : List ℕ) (b : Ahead) where
       let at : n ≡ e.expected = f.due ∙ sym f.on.settled.numbers.expected in
       let end = with_expected (with_last s (s.last + 1)) (n + 1) in
       let read : WasRead (writing c (take many text)) (message.Admin n) = record { messages = f.read.messages; shows = f.read.shows; among = f.read.among } in
-      push_wrote id s b c (entry_of s say) e (take many text) [] (IsCertain end) f.on (wrote_some id s b c e say text many small said f.on)
-      (leads_move id to (passed to) [] (IsCertain end) (steps.past_admin (writing c (take many text)) (message.Admin n) refl read at) refl
+      push_wrote id s b c (entry_of s say) e (take many text) [] (IsCertain end) f.on (wrote_some id s b c e say text many small said f.on) (some_rule id s b c e say text many said f.on)
+      (leads_move id to (passed to) [] (IsCertain end) (steps.past_admin (writing c (take many text)) (message.Admin n) (plain_free to (writing c (take many text)) f.on.settled.numbers.role refl f.free) refl read at) refl
       (leads_nowhere id (passed to) (IsCertain end) (settled_passed (with_last s (s.last + 1)) to n f.due (settled_sent id s c (entry_of s say) e (take many text) f.on.settled))))
   answer_leads say n s notes r s' (answer.write_memory w m small) e f = push_alone id s (entry_of s say) e f.on.settled
 
@@ -227,11 +237,11 @@ module _ (id : Identity) (frame : List ℕ) (b : Ahead) where
   send_leads say s notes r s' (answer.keep_lost w m h) e f = push_lost id s (entry_of s say) e (lawful.entry say) f.on.settled
   send_leads say s notes r s' (answer.sent w m text small said) e f =
       let c = f.connection in
-      push_wrote id s b c (entry_of s say) e text [] (In id b (with_last s (s.last + 1))) f.on (wrote_all id s b c e say text small said f.on)
-      (leads_nowhere id (connected (pushed e (entry_of s say)) (writing c text)) (In id b (with_last s (s.last + 1))) (record { connection = writing c text; on = on_sent id s b c e say text small said f.on; counted = f.counted }))
+      push_wrote id s b c (entry_of s say) e text [] (In id b (with_last s (s.last + 1))) f.on (wrote_all id s b c e say text small said f.on) (said_rule id s b c e say text said f.on)
+      (leads_nowhere id (connected (pushed e (entry_of s say)) (writing c text)) (In id b (with_last s (s.last + 1))) (record { connection = writing c text; on = on_sent id s b c e say text small said f.on; begun = f.begun; counted = f.counted }))
   send_leads say s notes r s' (answer.write_lost w m text many small said) e f =
       let c = f.connection in
       let to = connected (pushed e (entry_of s say)) (writing c (take many text)) in
-      push_wrote id s b c (entry_of s say) e (take many text) [] (IsCertain (with_last s (s.last + 1))) f.on (wrote_some id s b c e say text many small said f.on)
+      push_wrote id s b c (entry_of s say) e (take many text) [] (IsCertain (with_last s (s.last + 1))) f.on (wrote_some id s b c e say text many small said f.on) (some_rule id s b c e say text many said f.on)
       (leads_nowhere id to (IsCertain (with_last s (s.last + 1))) (settled_sent id s c (entry_of s say) e (take many text) f.on.settled))
   send_leads say s notes r s' (answer.write_memory w m small) e f = push_alone id s (entry_of s say) e f.on.settled

@@ -19,7 +19,7 @@ certain_settled s e h = h.doubt
 
 -- the phase makes no difference to the numbers
 pub settled_phase : (s : State) (e : EndState) → IsCertain s e → IsCertain (with_phase s Down) e
-settled_phase s e h = record { doubt = h.doubt; numbers = record { expected = h.numbers.expected; stored = h.numbers.stored; out = h.numbers.out } }
+settled_phase s e h = record { doubt = h.doubt; numbers = record { expected = h.numbers.expected; stored = h.numbers.stored; out = h.numbers.out; role = h.numbers.role } }
 
 -- nor to what was lost
 pub lost_down : (s : State) {lost : Record} → IsLost s lost → IsLost (with_phase s Down) lost

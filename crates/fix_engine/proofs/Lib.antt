@@ -10,6 +10,7 @@ pub mod Causes
 pub mod Phases
 pub mod LeadsLemmas
 pub mod ReadLemmas
+pub mod LogonLemmas
 pub mod OnLemmas
 pub mod LawfulSteps
 pub mod LawfulAnswers

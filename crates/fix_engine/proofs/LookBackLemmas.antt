@@ -1,11 +1,11 @@
 -- The state and the place in the stream that are found by looking back.
-use Rattle.std.proofs.Common.{◌≡◌, ◌≢◌, ℕ, ◌+◌, List, [], ◌∷◌, ◌++◌, min, Bool, true, false, Option, Some, None, Result, Ok, Err, refl, sym, ap, subst, ◌∙◌, append_assoc, length-append, arith}
+use Rattle.std.proofs.Common.{◌≡◌, ◌≢◌, ℕ, ◌+◌, ◌==◌, length, List, [], ◌∷◌, ◌++◌, min, Bool, true, false, Option, Some, None, Result, Ok, Err, refl, sym, ap, subst, ◌∙◌, append_assoc, length-append, arith}
 use Rattle.std.proofs.lemmas.List.{append-nil}
 use Rattle.std.specs.Prelude.{if◌then◌else◌, OnOk}
 use Rattle.fix_base.specs.declared.identity.Identity.{Identity}
 use Rattle.fix_base.specs.declared.act.Act.{Act}
 use Rattle.fix_base.specs.declared.act.Act.TheVariants as act
-use Rattle.fix_base.specs.declared.entry.Record.TheVariants.{Push, Expect, Reset}
+use Rattle.fix_base.specs.declared.entry.Record.TheVariants.{Push, Expect, Many, Withhold, Reset, ResetAsk, Confirm}
 use Rattle.fix_base.specs.Payload.{LAST_TIME}
 use Rattle.fix_base.specs.Reader.{bytes_read}
 use Rattle.fix_base.specs.Stream.{Ahead, Item, Frame, frames}
@@ -29,14 +29,22 @@ pub last_sent-append : (n : ℕ) (xs ys : List Act) → last_sent n (xs ++ ys) �
 last_sent-append n [] ys = refl
 last_sent-append n (act.Kept (Push entry) ∷ xs) ys = last_sent-append (n + 1) xs ys
 last_sent-append n (act.Kept (Expect m) ∷ xs) ys = last_sent-append n xs ys
+last_sent-append n (act.Kept (Many pushes m) ∷ xs) ys = last_sent-append (n + length pushes) xs ys
+last_sent-append n (act.Kept (Withhold m) ∷ xs) ys = last_sent-append n xs ys
 last_sent-append n (act.Kept (Reset t) ∷ xs) ys = last_sent-append 0 xs ys
+last_sent-append n (act.Kept (ResetAsk t) ∷ xs) ys = last_sent-append 0 xs ys
+last_sent-append n (act.Kept Confirm ∷ xs) ys = last_sent-append n xs ys
 last_sent-append n (_ ∷ xs) ys = last_sent-append n xs ys
 
 pub last_kept-append : (n : ℕ) (xs ys : List Act) → last_kept n (xs ++ ys) ≡ last_kept (last_kept n xs) ys
 last_kept-append n [] ys = refl
 last_kept-append n (act.Kept (Push entry) ∷ xs) ys = last_kept-append n xs ys
 last_kept-append n (act.Kept (Expect m) ∷ xs) ys = last_kept-append m xs ys
+last_kept-append n (act.Kept (Many pushes m) ∷ xs) ys = last_kept-append (if m == 0 then n else m) xs ys
+last_kept-append n (act.Kept (Withhold m) ∷ xs) ys = last_kept-append n xs ys
 last_kept-append n (act.Kept (Reset t) ∷ xs) ys = last_kept-append 1 xs ys
+last_kept-append n (act.Kept (ResetAsk t) ∷ xs) ys = last_kept-append 1 xs ys
+last_kept-append n (act.Kept Confirm ∷ xs) ys = last_kept-append n xs ys
 last_kept-append n (_ ∷ xs) ys = last_kept-append n xs ys
 
 pub last_reading-append : (t : ℕ) (xs ys : List Act) → last_reading t (xs ++ ys) ≡ last_reading (last_reading t xs) ys

@@ -1,5 +1,6 @@
 -- How an end stays in step with a session on its connection.
-use Rattle.std.proofs.Common.{◌≡◌, ◌≢◌, inl, inr, ℕ, ◌+◌, ◌<◌, List, [], ◌∷◌, ◌++◌, length-append, take, drop, false, Some, refl, sym, ap, ◌∙◌, subst, arith}
+use Rattle.std.proofs.Common.{◌≡◌, ◌≢◌, inl, inr, ℕ, ◌+◌, ◌<◌, List, [], ◌∷◌, ◌++◌, length-append, take, drop, false, Some, None, refl, sym, ap, ◌∙◌, subst, arith}
+use Rattle.std.specs.List.{AllByRecursion}
 use Rattle.std.proofs.lemmas.List.{take-append-drop, drop-append-le}
 use Rattle.fix_base.specs.Lists.{Among, here, IsPrefixOf}
 use Rattle.fix_base.specs.declared.identity.Identity.{Identity}
@@ -7,26 +8,34 @@ use Rattle.fix_base.specs.declared.entry.Entry.{Entry}
 use Rattle.fix_base.specs.declared.entry.Entry.TheVariants.{Admin}
 use Rattle.fix_base.specs.declared.entry.Record.TheVariants.{Push, Expect}
 use Rattle.fix_base.specs.Stream.{Ahead}
+use Rattle.fix_base.specs.Logon.{IsResetLogon}
+use Rattle.fix_base.specs.Payload.{IsEntryField}
 use Rattle.fix_base.specs.End.{folded, IsEntry}
 use Rattle.fix_base.specs.Wrote as wrote
-use Rattle.fix_base.specs.Wrote.{Carries, IsOriginal, Writes, Wrote, WroteWhole}
-use Rattle.fix_base.specs.EndStep.{Handling, Connection, EndState, Grew}
-use Rattle.fix_base.proofs.ListLemmas.{Among-append_right, prefix_refl, prefix_append, prefix_under}
-use Rattle.fix_base.proofs.WholeLemmas.{whole_grown, whole_more, whole_wrote, front_wrote}
+use Rattle.fix_base.specs.Wrote.{Carries, IsOriginal, Wrote, WroteWhole}
+use Rattle.fix_base.specs.EndStep.{Handling, Connection, EndState, Grew, LogonRule}
+use Rattle.fix_base.proofs.ListLemmas.{Among-append_right, prefix_refl, prefix_under}
+use Rattle.fix_base.proofs.WholeLemmas.{push_grows, expect_grows, whole_grown, whole_more, whole_wrote, front_wrote}
 use Rattle.fix_engine.specs.State.{State, Down, Say, Logon, Logout, with_expected, with_last, with_kept}
 use Rattle.fix_engine.specs.Answer.{kind_of, fields_of, IsSaid, entry_of}
 use Rattle.fix_engine.specs.Turn.{Live, live, fed}
-use Rattle.fix_engine.specs.Lawful.{IsCertain, IsReadUpTo, IsOn}
+use Rattle.fix_engine.specs.Lawful.{IsCertain, IsReadUpTo, IsPlainly, IsOn}
 use Rattle.fix_engine.proofs.ReadLemmas.{read_more}
+use Rattle.fix_engine.proofs.LogonLemmas.{plain_more, plain_rule, original_frame, said_free}
 
 -- ---- the original of what is said
 
-carries_say : (time : ℕ) (say : Say) → Carries (Admin time (kind_of say) 0) (kind_of say ∷ []) (fields_of say)
-carries_say time (Logon heart) = wrote.admin {kind = 65} refl (
+say_fields : (say : Say) → AllByRecursion IsEntryField (fields_of say)
+say_fields (Logon heart) = (
   record { no_begin = λ e. omega arith; no_length = λ e. omega arith; no_sum = λ e. omega arith; no_type = λ e. omega arith; no_header = refl },
   (record { no_begin = λ e. omega arith; no_length = λ e. omega arith; no_sum = λ e. omega arith; no_type = λ e. omega arith; no_header = refl }, tt),
 )
-carries_say time Logout = wrote.admin {kind = 53} refl tt
+say_fields Logout = tt
+
+-- it carries the fields of its kind
+carries_say : (time : ℕ) (say : Say) → Carries (Admin time (kind_of say) 0) (kind_of say ∷ []) (fields_of say)
+carries_say time (Logon heart) = wrote.admin (wrote.logon heart false)
+carries_say time Logout = wrote.admin (wrote.logout None)
 
 said_original : (id : Identity) (n : ℕ) (s : State) (say : Say) (text : List ℕ) → IsSaid id n s.reading say text → IsOriginal id n (entry_of s say) text
 said_original id n s say text h = record {
@@ -54,15 +63,15 @@ connected e c = record e { connection = Some c }
 pub settled_pushed : (s : State) (e : EndState) (entry : Entry) → IsCertain s e → IsCertain (with_last s (s.last + 1)) (pushed e entry)
 settled_pushed s e entry h = record {
   doubt = h.doubt;
-  numbers = record { expected = h.numbers.expected; stored = h.numbers.stored; out = omega (arith, h.numbers.out, length-append e.end.out (entry ∷ [])) };
+  numbers = record { expected = h.numbers.expected; stored = h.numbers.stored; out = omega (arith, h.numbers.out, length-append e.end.out (entry ∷ [])); role = h.numbers.role };
 }
 
 -- the connection makes no difference to the numbers
 pub settled_connected : (s : State) (e : EndState) (c : Connection) → IsCertain s e → IsCertain s (connected e c)
-settled_connected s e c h = record { doubt = h.doubt; numbers = record { expected = h.numbers.expected; stored = h.numbers.stored; out = h.numbers.out } }
+settled_connected s e c h = record { doubt = h.doubt; numbers = record { expected = h.numbers.expected; stored = h.numbers.stored; out = h.numbers.out; role = h.numbers.role } }
 
 whole_pushed : (id : Identity) (l : Live) (c : Connection) (e : EndState) (entry : Entry) (h : IsOn id l c e) → WroteWhole id c.opened (pushed e entry).end h.last c.written
-whole_pushed id l c e entry h = whole_grown id c.opened e.end (pushed e entry).end h.last c.written (prefix_append e.end.out (entry ∷ [])) h.whole
+whole_pushed id l c e entry h = whole_grown id c.opened e.end (pushed e entry).end h.last c.written (push_grows e.end entry) h.whole
 
 -- the original of the new entry may follow
 original_follows : (id : Identity) (s : State) (a : Ahead) (c : Connection) (e : EndState) (entry : Entry) (text : List ℕ) → s.last < 999999999 → IsOriginal id (s.last + 1) entry text → IsOn id (live s a) c e → WroteWhole id c.opened (pushed e entry).end (s.last + 1) (c.written ++ text)
@@ -70,7 +79,7 @@ original_follows id s a c e entry text small original h =
     let out = h.settled.numbers.out in
     let is : IsEntry (e.end.out ++ entry ∷ []) (s.last + 1) entry = record { before = e.end.out; after = []; is = refl; place = omega (arith, out) } in
     whole_more id c.opened (pushed e entry).end h.last (s.last + 1) c.written text
-    (wrote.original (s.last + 1) entry (omega arith) (omega (arith, out, h.kept)) is original wrote.done)
+    (wrote.next_original (s.last + 1) entry (omega arith) (omega (arith, out, h.kept)) is original)
     (whole_pushed id (live s a) c e entry h)
 
 -- all of it is written
@@ -83,9 +92,23 @@ original_some id s a c e entry text many small original h =
     let front : IsPrefixOf (take many text) text = record { rest = drop many text; is = sym (take-append-drop many text) } in
     front_wrote id c.opened (pushed e entry).end (c.written ++ text) (c.written ++ take many text) (prefix_under c.written front) (original_all id s a c e entry text small original h)
 
+-- with it no frame asks for a reset
+original_plain : (id : Identity) (n : ℕ) (written text : List ℕ) (entry : Entry) → IsOriginal id n entry text → (IsResetLogon text → ⊥) → IsPlainly written → IsPlainly (written ++ text)
+original_plain id n written text entry original free h = plain_more written text (original_frame id n entry text original) free h
+
+-- all of it may be written
+pub rule_all : (id : Identity) (s : State) (a : Ahead) (c : Connection) (e : EndState) (entry : Entry) (text : List ℕ) → IsOriginal id (s.last + 1) entry text → (IsResetLogon text → ⊥) → IsOn id (live s a) c e → LogonRule id (pushed e entry) c text
+rule_all id s a c e entry text original free h = plain_rule id (pushed e entry) c text (c.written ++ text) h.settled.numbers.role (original_plain id (s.last + 1) c.written text entry original free h.plain) (prefix_refl (c.written ++ text))
+
+-- and some of it
+pub rule_some : (id : Identity) (s : State) (a : Ahead) (c : Connection) (e : EndState) (entry : Entry) (text : List ℕ) (many : ℕ) → IsOriginal id (s.last + 1) entry text → (IsResetLogon text → ⊥) → IsOn id (live s a) c e → LogonRule id (pushed e entry) c (take many text)
+rule_some id s a c e entry text many original free h =
+    let front : IsPrefixOf (take many text) text = record { rest = drop many text; is = sym (take-append-drop many text) } in
+    plain_rule id (pushed e entry) c (take many text) (c.written ++ text) h.settled.numbers.role (original_plain id (s.last + 1) c.written text entry original free h.plain) (prefix_under c.written front)
+
 -- and the end is in step again
-pub on_original : (id : Identity) (s : State) (a : Ahead) (c : Connection) (e : EndState) (entry : Entry) (text : List ℕ) → s.last < 999999999 → IsOriginal id (s.last + 1) entry text → IsOn id (live s a) c e → IsOn id (live (with_last s (s.last + 1)) a) (writing c text) (connected (pushed e entry) (writing c text))
-on_original id s a c e entry text small original h = record {
+pub on_original : (id : Identity) (s : State) (a : Ahead) (c : Connection) (e : EndState) (entry : Entry) (text : List ℕ) → s.last < 999999999 → IsOriginal id (s.last + 1) entry text → (IsResetLogon text → ⊥) → IsOn id (live s a) c e → IsOn id (live (with_last s (s.last + 1)) a) (writing c text) (connected (pushed e entry) (writing c text))
+on_original id s a c e entry text small original free h = record {
   phase = h.phase;
   settled = settled_connected (with_last s (s.last + 1)) (pushed e entry) (writing c text) (settled_pushed s e entry h.settled);
   is_open = refl;
@@ -93,6 +116,7 @@ on_original id s a c e entry text small original h = record {
   last = s.last + 1;
   kept = omega (arith, h.settled.numbers.out, length-append e.end.out (entry ∷ []));
   whole = original_follows id s a c e entry text small original h;
+  plain = original_plain id (s.last + 1) c.written text entry original free h.plain;
   base = h.base;
 }
 
@@ -106,6 +130,7 @@ on_pushed id s a c e entry h = record {
   last = h.last;
   kept = omega (arith, h.kept, length-append e.end.out (entry ∷ []));
   whole = whole_pushed id (live s a) c e entry h;
+  plain = h.plain;
   base = h.base;
 }
 
@@ -116,20 +141,27 @@ wrote_all id s a c e say text small said h = original_all id s a c e (entry_of s
 pub wrote_some : (id : Identity) (s : State) (a : Ahead) (c : Connection) (e : EndState) (say : Say) (text : List ℕ) (many : ℕ) → s.last < 999999999 → IsSaid id (s.last + 1) s.reading say text → IsOn id (live s a) c e → Wrote id c.opened (pushed e (entry_of s say)).end (c.written ++ take many text)
 wrote_some id s a c e say text many small said h = original_some id s a c e (entry_of s say) text many small (said_original id (s.last + 1) s say text said) h
 
+pub said_rule : (id : Identity) (s : State) (a : Ahead) (c : Connection) (e : EndState) (say : Say) (text : List ℕ) → IsSaid id (s.last + 1) s.reading say text → IsOn id (live s a) c e → LogonRule id (pushed e (entry_of s say)) c text
+said_rule id s a c e say text said h = rule_all id s a c e (entry_of s say) text (said_original id (s.last + 1) s say text said) (said_free id (s.last + 1) s.reading say text (say_fields say) said) h
+
+pub some_rule : (id : Identity) (s : State) (a : Ahead) (c : Connection) (e : EndState) (say : Say) (text : List ℕ) (many : ℕ) → IsSaid id (s.last + 1) s.reading say text → IsOn id (live s a) c e → LogonRule id (pushed e (entry_of s say)) c (take many text)
+some_rule id s a c e say text many said h = rule_some id s a c e (entry_of s say) text many (said_original id (s.last + 1) s say text said) (said_free id (s.last + 1) s.reading say text (say_fields say) said) h
+
 pub on_sent : (id : Identity) (s : State) (a : Ahead) (c : Connection) (e : EndState) (say : Say) (text : List ℕ) → s.last < 999999999 → IsSaid id (s.last + 1) s.reading say text → IsOn id (live s a) c e → IsOn id (live (with_last s (s.last + 1)) a) (writing c text) (connected (pushed e (entry_of s say)) (writing c text))
-on_sent id s a c e say text small said h = on_original id s a c e (entry_of s say) text small (said_original id (s.last + 1) s say text said) h
+on_sent id s a c e say text small said h = on_original id s a c e (entry_of s say) text small (said_original id (s.last + 1) s say text said) (said_free id (s.last + 1) s.reading say text (say_fields say) said) h
 
 -- ---- the state alone changes, or the expected number with it
 
 pub on_state : (id : Identity) (s s' : State) (a : Ahead) (c : Connection) (e : EndState) → s'.phase ≢ Down → s'.expected ≡ s.expected → s'.kept ≡ s.kept → s'.last ≡ s.last → IsOn id (live s a) c e → IsOn id (live s' a) c e
 on_state id s s' a c e phase expected kept last h = record {
   phase = phase;
-  settled = record { doubt = h.settled.doubt; numbers = record { expected = h.settled.numbers.expected ∙ sym expected; stored = h.settled.numbers.stored ∙ sym kept; out = h.settled.numbers.out ∙ sym last } };
+  settled = record { doubt = h.settled.doubt; numbers = record { expected = h.settled.numbers.expected ∙ sym expected; stored = h.settled.numbers.stored ∙ sym kept; out = h.settled.numbers.out ∙ sym last; role = h.settled.numbers.role } };
   is_open = h.is_open;
   read = h.read;
   last = h.last;
   kept = h.kept;
   whole = h.whole;
+  plain = h.plain;
   base = h.base;
 }
 
@@ -138,7 +170,7 @@ abbrev pub passed : EndState → EndState
 passed e = record e { expected = e.expected + 1 }
 
 pub settled_passed : (s : State) (e : EndState) (n : ℕ) → n ≡ s.expected → IsCertain s e → IsCertain (with_expected s (n + 1)) (passed e)
-settled_passed s e n due h = record { doubt = h.doubt; numbers = record { expected = ap (λ k. k + 1) (h.numbers.expected ∙ sym due); stored = h.numbers.stored; out = h.numbers.out } }
+settled_passed s e n due h = record { doubt = h.doubt; numbers = record { expected = ap (λ k. k + 1) (h.numbers.expected ∙ sym due); stored = h.numbers.stored; out = h.numbers.out; role = h.numbers.role } }
 
 pub on_passed : (id : Identity) (s : State) (a : Ahead) (c : Connection) (e : EndState) (n : ℕ) → n ≡ s.expected → IsOn id (live s a) c e → IsOn id (live (with_expected s (n + 1)) a) c (passed e)
 on_passed id s a c e n due h = record {
@@ -149,6 +181,7 @@ on_passed id s a c e n due h = record {
   last = h.last;
   kept = h.kept;
   whole = h.whole;
+  plain = h.plain;
   base = h.base;
 }
 
@@ -166,12 +199,13 @@ given e c n body = record e { handled = e.handled ++ handling n body ∷ []; con
 pub on_given : (id : Identity) (l : Live) (c : Connection) (e : EndState) (n : ℕ) (body : List ℕ) → IsOn id l c e → IsOn id l (giving c n) (given e c n body)
 on_given id l c e n body h = record {
   phase = h.phase;
-  settled = record { doubt = h.settled.doubt; numbers = record { expected = h.settled.numbers.expected; stored = h.settled.numbers.stored; out = h.settled.numbers.out } };
+  settled = record { doubt = h.settled.doubt; numbers = record { expected = h.settled.numbers.expected; stored = h.settled.numbers.stored; out = h.settled.numbers.out; role = h.settled.numbers.role } };
   is_open = refl;
   read = h.read;
   last = h.last;
   kept = h.kept;
   whole = h.whole;
+  plain = h.plain;
   base = omega (arith, h.base, length-append e.handled (handling n body ∷ []));
 }
 
@@ -196,6 +230,7 @@ on_read id l c e bytes h = record {
   last = h.last;
   kept = h.kept;
   whole = h.whole;
+  plain = h.plain;
   base = h.base;
 }
 
@@ -208,6 +243,7 @@ on_place id s a b c e read h = record {
   last = h.last;
   kept = h.kept;
   whole = h.whole;
+  plain = h.plain;
   base = h.base;
 }
 
@@ -217,7 +253,7 @@ abbrev pub keeping : EndState → ℕ → EndState
 keeping e n = record e { end = folded e.end (Expect n) }
 
 pub settled_kept : (s : State) (e : EndState) → IsCertain s e → IsCertain (with_kept s) (keeping e s.expected)
-settled_kept s e h = record { doubt = h.doubt; numbers = record { expected = h.numbers.expected; stored = refl; out = h.numbers.out } }
+settled_kept s e h = record { doubt = h.doubt; numbers = record { expected = h.numbers.expected; stored = refl; out = h.numbers.out; role = h.numbers.role } }
 
 pub on_kept : (id : Identity) (s : State) (a : Ahead) (c : Connection) (e : EndState) → IsOn id (live s a) c e → IsOn id (live (with_kept s) a) c (keeping e s.expected)
 on_kept id s a c e h = record {
@@ -227,6 +263,7 @@ on_kept id s a c e h = record {
   read = h.read;
   last = h.last;
   kept = h.kept;
-  whole = whole_grown id c.opened e.end (keeping e s.expected).end h.last c.written (prefix_refl e.end.out) h.whole;
+  whole = whole_grown id c.opened e.end (keeping e s.expected).end h.last c.written (expect_grows e.end s.expected) h.whole;
+  plain = h.plain;
   base = h.base;
 }

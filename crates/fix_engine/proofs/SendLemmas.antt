@@ -64,8 +64,8 @@ module _ (id : Identity) (a : Ahead) (d : DraftText) where
 
   -- a look at the clock leaves the end in step
   beside_reading : (s : State) (t : ℕ) (e : EndState) → IsBeside id (live s a) e → IsBeside id (live (with_reading s t) a) e
-  beside_reading s t e (step.connected f) = step.connected (record { connection = f.connection; on = on_state id s (with_reading s t) a f.connection e f.on.phase refl refl refl f.on; counted = f.counted })
-  beside_reading s t e (step.down p h) = step.down p (record { doubt = h.doubt; numbers = record { expected = h.numbers.expected; stored = h.numbers.stored; out = h.numbers.out } })
+  beside_reading s t e (step.connected f) = step.connected (record { connection = f.connection; on = on_state id s (with_reading s t) a f.connection e f.on.phase refl refl refl f.on; begun = f.begun; counted = f.counted })
+  beside_reading s t e (step.down p h) = step.down p (record { doubt = h.doubt; numbers = record { expected = h.numbers.expected; stored = h.numbers.stored; out = h.numbers.out; role = h.numbers.role } })
 
   drafted_leads : (s : State) (notes : List Note) (r : Result ℕ SendFault) (s' : State) → Drafted id d s notes r s' → s.last < 999999999 → (e : EndState) → IsBeside id (live s a) e → Leads id e (acts_of notes) (BehindSend id a r s')
   drafted_leads s notes r s' drafted.no_reading small e b = leads_nowhere id e (IsCertain s) (beside_settled id (live s a) e b)
@@ -94,7 +94,7 @@ module _ (id : Identity) (a : Ahead) (d : DraftText) where
   not_link_after fault.NumbersSpent s e t h = absurd h
   not_link_after fault.OutOfMemory s e t h = settled_phase s e h
   not_link_after fault.StoreFault s e t h = record {
-    numbers = record { expected = h.numbers.expected; stored = h.numbers.stored; out = h.numbers.out };
+    numbers = record { expected = h.numbers.expected; stored = h.numbers.stored; out = h.numbers.out; role = h.numbers.role };
     record_lost = h.record_lost;
     doubt = h.doubt;
     is = lost_down s h.is;
@@ -104,7 +104,7 @@ module _ (id : Identity) (a : Ahead) (d : DraftText) where
   cut_leads : (why : SendFault) (s : State) (e : EndState) → is_link_fault why ≡ true → IsCertain s e → Leads id e (act.Cut ∷ []) (AfterSend {T = ℕ} id (Err why) (live (with_phase s Down) a))
   cut_leads why s e t h =
       let left : EndState = record e { connection = None } in
-      let is_left : HasLeft (with_phase s Down) left = record { phase = refl; settled = record { doubt = h.doubt; numbers = record { expected = h.numbers.expected; stored = h.numbers.stored; out = h.numbers.out } }; closed = refl } in
+      let is_left : HasLeft (with_phase s Down) left = record { phase = refl; settled = record { doubt = h.doubt; numbers = record { expected = h.numbers.expected; stored = h.numbers.stored; out = h.numbers.out; role = h.numbers.role } }; closed = refl } in
       let P = AfterSend {T = ℕ} id (Err why) (live (with_phase s Down) a) in
       leads_step id e left act.Cut [] P (record { certain = h.doubt; row = steps.cut }) (λ held k. k) (leads_nowhere id left P (link_after why (with_phase s Down) left t is_left))
 

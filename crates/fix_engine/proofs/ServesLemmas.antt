@@ -19,13 +19,13 @@ use Rattle.fix_engine.proofs.WritingLemmas.{run_wrote, run_persistent}
 
 -- the opening of a connection is a step of an end that is in no doubt
 pub begun_opens : (id : Identity) (l : Live) (e : EndState) → IsCertain l.state e → EndStep id e act.Opened (opened_by e)
-begun_opens id l e h = opening id e h.doubt
+begun_opens id l e h = opening id e h.numbers.role h.doubt
 
 -- what the run wrote is lawful, and it keeps up with its counterparty
 pub begun_serves : (id : Identity) (n : ℕ) (l : Live) (hand : Hand) (t : ℕ) (answer : RunEnd) (to : Desk) (notes : List Note) → RanTo id n (desk (begun l t) hand) answer to notes → (start : EndState) → IsCertain l.state start → HasServed id answer to.live start (opened_by start) (acts_of notes)
 begun_serves id n l hand t answer to notes h start certain =
     let acts = acts_of notes in
-    let open_run = opening id start certain.doubt in
+    let open_run = opening id start certain.numbers.role certain.doubt in
     let led = Ran-lawful id n (desk (begun l t) hand) notes h.r to h.ran (opened_by start) (fits_opened id l t start certain) in
     let ran = Ran-plainly id n (desk (begun l t) hand) notes h.r to h.ran (omega arith) in
     subst (λ x. HasServed id x to.live start (opened_by start) acts) (sym h.answered)

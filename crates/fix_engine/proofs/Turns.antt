@@ -34,6 +34,8 @@ reads_in-append (act.Kept r ∷ xs) ys = reads_in-append xs ys
 reads_in-append (act.KeepLost r ∷ xs) ys = reads_in-append xs ys
 reads_in-append (act.Handed n marked body ∷ xs) ys = reads_in-append xs ys
 reads_in-append (act.HandLost n marked body ∷ xs) ys = reads_in-append xs ys
+reads_in-append (act.Withheld k ∷ xs) ys = reads_in-append xs ys
+reads_in-append (act.Allowed k ∷ xs) ys = reads_in-append xs ys
 reads_in-append (act.Cut ∷ xs) ys = reads_in-append xs ys
 reads_in-append (act.Stop ∷ xs) ys = reads_in-append xs ys
 
@@ -49,6 +51,8 @@ looks_in-append (act.Kept r ∷ xs) ys = looks_in-append xs ys
 looks_in-append (act.KeepLost r ∷ xs) ys = looks_in-append xs ys
 looks_in-append (act.Handed n marked body ∷ xs) ys = looks_in-append xs ys
 looks_in-append (act.HandLost n marked body ∷ xs) ys = looks_in-append xs ys
+looks_in-append (act.Withheld k ∷ xs) ys = looks_in-append xs ys
+looks_in-append (act.Allowed k ∷ xs) ys = looks_in-append xs ys
 looks_in-append (act.Cut ∷ xs) ys = looks_in-append xs ys
 looks_in-append (act.Stop ∷ xs) ys = looks_in-append xs ys
 

@@ -1,5 +1,5 @@
 -- The answer of a session to an inbound message, and what each step of it comes to.
-use Rattle.std.specs.Prelude.{◌<◌, ◌≤◌, ◌+◌, ◌-◌, length, ◌^◌, ◌∷◌, ◌&&◌, ◌||◌, ◌==◌, not, ℕ, List, [], take, Bool, false, if◌then◌else◌, bytes_eq, codes, Option, Some, None, is_none, Result, Ok, Err, ⊤, ℤ, pos, ◌+ℤ◌, int_le}
+use Rattle.std.specs.Prelude.{◌<◌, ◌≤◌, ◌+◌, ◌-◌, length, ◌^◌, ◌∷◌, ◌&&◌, ◌==◌, not, ℕ, List, [], take, Bool, false, if◌then◌else◌, bytes_eq, codes, Option, Some, None, is_none, Result, Ok, Err, ⊤, ℤ, pos, ◌+ℤ◌, int_le}
 use Rattle.std.specs.Fmt.{decimal}
 use Rattle.fix_base.specs.declared.identity.Identity.{Identity}
 use Rattle.fix_base.specs.Session.{begin_string_of}
@@ -50,7 +50,7 @@ is_in_order id s i = is_of_session id i.header && (is_numbered i.header.number s
 -- a MsgType (35) of an application message
 abbrev pub is_app_type : Option (List ℕ) → Bool
 is_app_type None = false
-is_app_type (Some type) = not (bytes_eq type (codes "4") || is_admin_type type)
+is_app_type (Some type) = not (is_admin_type type)
 
 -- the number, or 0 where none was readable
 abbrev pub number_or_0 : Option ℕ → ℕ

@@ -74,6 +74,8 @@ IsOfRun (act.Kept r) = IsPlainRecord r
 IsOfRun (act.KeepLost r) = IsPlainRecord r
 IsOfRun (act.Handed n marked body) = Unit {0}
 IsOfRun (act.HandLost n marked body) = Unit {0}
+IsOfRun (act.Withheld k) = Unit {0}
+IsOfRun (act.Allowed k) = Unit {0}
 IsOfRun act.Cut = Unit {0}
 IsOfRun act.Stop = ⊥
 
@@ -102,8 +104,8 @@ pub record ReadsFrom (id : Identity) (start : EndState) (acts : List Act) (f0 f1
   pub persistent : IsPersistent f1
   pub writes : Wrote (mirrored id) f0 f1 wrote
   pub front : IsPrefixOf (bytes_read acts) wrote
-  pub stored : Agrees start.end.stored start.handled f0.out
-  pub running : Agrees start.expected start.handled f0.out
+  pub stored : Agrees start.end.stored start.handled f0
+  pub running : Agrees start.expected start.handled f0
 
 -- all that these acts wrote
 abbrev pub bytes_written : List Act → List ℕ
@@ -118,6 +120,8 @@ bytes_written (act.Kept r ∷ acts) = bytes_written acts
 bytes_written (act.KeepLost r ∷ acts) = bytes_written acts
 bytes_written (act.Handed n marked body ∷ acts) = bytes_written acts
 bytes_written (act.HandLost n marked body ∷ acts) = bytes_written acts
+bytes_written (act.Withheld k ∷ acts) = bytes_written acts
+bytes_written (act.Allowed k ∷ acts) = bytes_written acts
 bytes_written (act.Cut ∷ acts) = bytes_written acts
 bytes_written (act.Stop ∷ acts) = bytes_written acts
 

@@ -4,16 +4,18 @@ use Rattle.fix_base.specs.Lists.{Among}
 use Rattle.fix_base.specs.declared.identity.Identity.{Identity}
 use Rattle.fix_base.specs.Stream.{Ahead, Item, TakesAll, frames}
 use Rattle.fix_base.specs.Message.{Message}
-use Rattle.fix_base.specs.Says.{SaysAll}
+use Rattle.fix_base.specs.Shape.{IsFrame}
+use Rattle.fix_base.specs.Says.{SaysAll, joined}
+use Rattle.fix_base.specs.Logon.{IsResetLogon, Begun}
 use Rattle.fix_base.specs.declared.entry.Record.{Record}
 use Rattle.fix_base.specs.declared.entry.Record.TheVariants.{Push, Expect}
 use Rattle.fix_base.specs.End.{End, folded}
 use Rattle.fix_base.specs.declared.act.Act.{Act}
 use Rattle.fix_base.specs.Wrote.{WroteWhole}
-use Rattle.fix_base.specs.EndStep.{Connection, EndState, EndRun}
+use Rattle.fix_base.specs.EndStep.{Acceptor, Connection, EndState, EndRun}
 use Rattle.fix_base.specs.Seen.{Stores, Note, acts_of}
 use Rattle.fix_fields.specs.Drafted.{DraftText, IsDraft}
-use Rattle.fix_engine.specs.State.{State, Down, Say}
+use Rattle.fix_engine.specs.State.{State, Phase, Down, AwaitLogon, Say}
 use Rattle.fix_engine.specs.Answer.{entry_of}
 use Rattle.fix_engine.specs.Turn.{Live}
 use Rattle.fix_engine.specs.Drafted.{entry_of_draft}
@@ -23,11 +25,13 @@ use Rattle.fix_engine.specs.declared.stop.BeginFault.{BeginFault}
 use Rattle.fix_engine.specs.declared.stop.BeginFault.TheVariants as begins
 use Rattle.fix_engine.specs.Run.{Seat}
 
--- the end's numbers are the session's: the running expected number, the one that is kept, and how many entries there are
+-- the end's numbers are the session's: the running expected number, the one that is kept, and how many entries there are.
+-- It is the end of an acceptor
 pub record HasNumbers (s : State) (e : EndState) : Type 0 where
   pub expected : e.expected ≡ s.expected
   pub stored : e.end.stored ≡ s.kept
   pub out : length e.end.out ≡ s.last
+  pub role : e.role ≡ Acceptor
 
 -- the same, and no record is in doubt
 pub record IsCertain (s : State) (e : EndState) : Type 0 where
@@ -41,8 +45,24 @@ pub record IsReadUpTo (bytes : List ℕ) (place : Ahead) : Type 0 where
   pub messages : List Message
   pub says : SaysAll (frames items) messages
 
+-- the bytes are whole frames, and none of them is a Logon with 141=Y
+pub record IsPlainly (bytes : List ℕ) : Type 0 where
+  pub texts : List (List ℕ)
+  pub are : bytes ≡ joined texts
+  pub frames : (text : List ℕ) → Among text texts → IsFrame text
+  pub plain : (text : List ℕ) → Among text texts → IsResetLogon text → ⊥
+
+-- the first frame of the bytes is there, and is no Logon with 141=Y
+abbrev pub BeginsPlainly : List ℕ → Type 0
+BeginsPlainly bytes = Begun (λ text. IsResetLogon text → ⊥) bytes
+
+-- in this phase, at this place of the bytes: while a session waits for its Logon no frame may be read yet
+pub data IsBegunAt (bytes : List ℕ) (place : Ahead) : Phase → Type 0 where
+  plainly : {phase : Phase} → BeginsPlainly bytes → IsBegunAt bytes place phase
+  silent : (items : List Item) → TakesAll (record { may_mark = true; bytes = bytes }) items place → frames items ≡ [] → IsBegunAt bytes place AwaitLogon
+
 -- the end is in step with a session on this connection: what was read on it is read up to the place that the session is
--- at, and what was written on it is whole messages, the last original of which is that of an entry
+-- at, and what was written on it is whole messages, the last original of which is that of an entry. None asks for a reset
 pub record IsOn (id : Identity) (l : Live) (c : Connection) (e : EndState) : Type 0 where
   pub phase : l.state.phase ≢ Down
   pub settled : IsCertain l.state e
@@ -51,12 +71,15 @@ pub record IsOn (id : Identity) (l : Live) (c : Connection) (e : EndState) : Typ
   pub last : ℕ
   pub kept : last ≤ length e.end.out
   pub whole : WroteWhole id c.opened e.end last c.written
+  pub plain : IsPlainly c.written
   pub base : c.base ≤ length e.handled
 
--- the end is in step with a session on its open connection, where each message that was given is counted
+-- the end is in step with a session on its open connection, where each message that was given is counted, and the first
+-- frame that was read, if any, is no Logon with 141=Y
 pub record Fits (id : Identity) (l : Live) (e : EndState) : Type 0 where
   pub connection : Connection
   pub on : IsOn id l connection e
+  pub begun : IsBegunAt connection.read l.ahead l.state.phase
   pub counted : (n : ℕ) → Among n connection.gave → n < l.state.expected
 
 -- the end is in step with a session that left its connection

@@ -1,9 +1,9 @@
 -- A run by looking back: over the frames that were answered on its connection, and over its acts.
-use Rattle.std.specs.Prelude.{◌≡◌, ◌+◌, ◌∷◌, ◌++◌, ℕ, List, [], Option, length, min, true, false, codes, Ok, Err, ⊤}
+use Rattle.std.specs.Prelude.{◌≡◌, ◌+◌, ◌==◌, if◌then◌else◌, ◌∷◌, ◌++◌, ℕ, List, [], Option, length, min, true, false, codes, Ok, Err, ⊤}
 use Rattle.fix_base.specs.declared.identity.Identity.{Identity}
 use Rattle.fix_base.specs.declared.act.Act.{Act}
 use Rattle.fix_base.specs.declared.act.Act.TheVariants as act
-use Rattle.fix_base.specs.declared.entry.Record.TheVariants.{Push, Expect, Reset}
+use Rattle.fix_base.specs.declared.entry.Record.TheVariants.{Push, Expect, Many, Withhold, Reset, ResetAsk, Confirm}
 use Rattle.fix_base.specs.Lists.{Among}
 use Rattle.fix_base.specs.Payload.{LAST_TIME}
 use Rattle.fix_base.specs.Reader.{bytes_read}
@@ -24,7 +24,11 @@ abbrev pub last_sent : ℕ → List Act → ℕ
 last_sent n [] = n
 last_sent n (act.Kept (Push entry) ∷ acts) = last_sent (n + 1) acts
 last_sent n (act.Kept (Expect m) ∷ acts) = last_sent n acts
+last_sent n (act.Kept (Many pushes m) ∷ acts) = last_sent (n + length pushes) acts
+last_sent n (act.Kept (Withhold m) ∷ acts) = last_sent n acts
 last_sent n (act.Kept (Reset t) ∷ acts) = last_sent 0 acts
+last_sent n (act.Kept (ResetAsk t) ∷ acts) = last_sent 0 acts
+last_sent n (act.Kept Confirm ∷ acts) = last_sent n acts
 last_sent n (act.Opened ∷ acts) = last_sent n acts
 last_sent n (act.Now t ∷ acts) = last_sent n acts
 last_sent n (act.Read b ∷ acts) = last_sent n acts
@@ -34,6 +38,8 @@ last_sent n (act.Wrote b ∷ acts) = last_sent n acts
 last_sent n (act.KeepLost r ∷ acts) = last_sent n acts
 last_sent n (act.Handed number marked body ∷ acts) = last_sent n acts
 last_sent n (act.HandLost number marked body ∷ acts) = last_sent n acts
+last_sent n (act.Withheld k ∷ acts) = last_sent n acts
+last_sent n (act.Allowed k ∷ acts) = last_sent n acts
 last_sent n (act.Cut ∷ acts) = last_sent n acts
 last_sent n (act.Stop ∷ acts) = last_sent n acts
 
@@ -42,7 +48,11 @@ abbrev pub last_kept : ℕ → List Act → ℕ
 last_kept n [] = n
 last_kept n (act.Kept (Push entry) ∷ acts) = last_kept n acts
 last_kept n (act.Kept (Expect m) ∷ acts) = last_kept m acts
+last_kept n (act.Kept (Many pushes m) ∷ acts) = last_kept (if m == 0 then n else m) acts
+last_kept n (act.Kept (Withhold m) ∷ acts) = last_kept n acts
 last_kept n (act.Kept (Reset t) ∷ acts) = last_kept 1 acts
+last_kept n (act.Kept (ResetAsk t) ∷ acts) = last_kept 1 acts
+last_kept n (act.Kept Confirm ∷ acts) = last_kept n acts
 last_kept n (act.Opened ∷ acts) = last_kept n acts
 last_kept n (act.Now t ∷ acts) = last_kept n acts
 last_kept n (act.Read b ∷ acts) = last_kept n acts
@@ -52,6 +62,8 @@ last_kept n (act.Wrote b ∷ acts) = last_kept n acts
 last_kept n (act.KeepLost r ∷ acts) = last_kept n acts
 last_kept n (act.Handed number marked body ∷ acts) = last_kept n acts
 last_kept n (act.HandLost number marked body ∷ acts) = last_kept n acts
+last_kept n (act.Withheld k ∷ acts) = last_kept n acts
+last_kept n (act.Allowed k ∷ acts) = last_kept n acts
 last_kept n (act.Cut ∷ acts) = last_kept n acts
 last_kept n (act.Stop ∷ acts) = last_kept n acts
 
@@ -68,6 +80,8 @@ last_reading t (act.Wrote b ∷ acts) = last_reading t acts
 last_reading t (act.KeepLost r ∷ acts) = last_reading t acts
 last_reading t (act.Handed number marked body ∷ acts) = last_reading t acts
 last_reading t (act.HandLost number marked body ∷ acts) = last_reading t acts
+last_reading t (act.Withheld k ∷ acts) = last_reading t acts
+last_reading t (act.Allowed k ∷ acts) = last_reading t acts
 last_reading t (act.Cut ∷ acts) = last_reading t acts
 last_reading t (act.Stop ∷ acts) = last_reading t acts
 

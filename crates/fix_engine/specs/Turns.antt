@@ -22,6 +22,8 @@ reads_in (act.Kept r ∷ acts) = reads_in acts
 reads_in (act.KeepLost r ∷ acts) = reads_in acts
 reads_in (act.Handed n marked body ∷ acts) = reads_in acts
 reads_in (act.HandLost n marked body ∷ acts) = reads_in acts
+reads_in (act.Withheld k ∷ acts) = reads_in acts
+reads_in (act.Allowed k ∷ acts) = reads_in acts
 reads_in (act.Cut ∷ acts) = reads_in acts
 reads_in (act.Stop ∷ acts) = reads_in acts
 
@@ -38,6 +40,8 @@ looks_in (act.Kept r ∷ acts) = looks_in acts
 looks_in (act.KeepLost r ∷ acts) = looks_in acts
 looks_in (act.Handed n marked body ∷ acts) = looks_in acts
 looks_in (act.HandLost n marked body ∷ acts) = looks_in acts
+looks_in (act.Withheld k ∷ acts) = looks_in acts
+looks_in (act.Allowed k ∷ acts) = looks_in acts
 looks_in (act.Cut ∷ acts) = looks_in acts
 looks_in (act.Stop ∷ acts) = looks_in acts
 

@@ -7,7 +7,7 @@ ghost use Rattle.fix_engine.specs.Presented.{inbound_of};
 
 use crate::inbound::Presented;
 use crate::{Decision, Phase, Refusal, Say, State, Step, Why};
-use fix_base::{Identity, SeqNum};
+use fix_base::{Identity, SeqNum, is_admin_type};
 use fix_fields::Envelope;
 
 /// How far SendingTime (52) may be from the clock, in microseconds: 120 seconds.
@@ -70,13 +70,7 @@ fn fits(identity: &Identity, state: &State, inbound: &Presented<'_>) -> bool
 fn is_app(kind: &[u8]) -> bool
     ensures { result ≡ is_app_type (Some kind.now) }
 {
-    !(kind == b"4".as_slice()
-        || kind == b"0".as_slice()
-        || kind == b"1".as_slice()
-        || kind == b"2".as_slice()
-        || kind == b"3".as_slice()
-        || kind == b"5".as_slice()
-        || kind == b"A".as_slice())
+    !is_admin_type(kind)
 }
 
 // The number, or 0 where none is readable.

@@ -1,6 +1,7 @@
 -- What is seen of the parts in memory, and which of their calls fail.
 use Rattle.std.specs.Prelude.{◌≡◌, ℕ, ◌+◌, ◌-◌, ◌<◌, ◌≤◌, map, option_map, take, vec_len, vec_capacity, min, List, [], ◌∷◌, length, drop, Option, Some, None, Contains}
 use Rattle.fix_base.specs.declared.act.Act.{Act}
+use Rattle.fix_base.specs.declared.entry.Entry.{Entry}
 use Rattle.fix_disk.specs.Script.{Script, script_with, told_room}
 use Rattle.fix_fields.specs.Drafted.{draft_body}
 use Rattle.fix_parts.specs.declared.memory_link.MemoryLink.{MemoryLink}
@@ -51,6 +52,6 @@ readings_of m = drop m.at m.readings.items
 abbrev pub acts_in : KeptTape → List Act
 acts_in t = t.acts.items
 
--- there is room for one act, and a buffer for its bytes
-abbrev pub KeptRoom : KeptTape → ℕ → Type 0
-KeptRoom t n = (vec_len t.acts < vec_capacity t.acts) × (t.spare.items ≡ []) × (n ≤ vec_capacity t.spare)
+-- there is room for one act, a buffer for its bytes, and a copy of these entries
+abbrev pub KeptRoom : KeptTape → ℕ → List Entry → Type 0
+KeptRoom t n entries = (vec_len t.acts < vec_capacity t.acts) × (t.spare.items ≡ []) × (n ≤ vec_capacity t.spare) × (t.entries.items ≡ entries)

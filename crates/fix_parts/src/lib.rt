@@ -21,7 +21,7 @@ mod tests;
 
 pub use app::{App, Given, Handed, Said};
 pub use clock::Clock;
-pub use copies::{copy_entry, copy_record};
+pub use copies::{copy_entries, copy_entry, copy_record};
 pub use line_app::LineApp;
 pub use link::{Link, ReadTurn, WriteTurn};
 pub use memory_app::MemoryApp;

@@ -15,6 +15,8 @@ pub enum Noted<'a> {
     KeepLost(&'a Record),
     Handed(&'a Handed<'a>),
     HandLost(&'a Handed<'a>),
+    Withheld(u32),
+    Allowed(u32),
     Cut,
     Stop,
 }

@@ -4,8 +4,10 @@ use Rattle.std.specs.Prelude.{IsSome, IfSome, is_some, slice_index}
 use Rattle.std.proofs.lemmas.Bool.{cases_lt, cases_eq}
 use Rattle.fix_base.specs.declared.act.Act.TheVariants as act
 use Rattle.fix_base.specs.declared.entry.Record.{Record}
+use Rattle.fix_base.specs.declared.entry.Record.TheVariants.{Push, Expect, Many, Withhold, Reset, ResetAsk, Confirm}
 use Rattle.fix_base.specs.declared.entry.Stored.{Stored}
 use Rattle.fix_base.specs.End.{End, new_end, folded}
+use Rattle.fix_base.specs.Payload.{IsKeepable}
 use Rattle.fix_base.specs.Seen.{Stores, Rises, acts_of, store_failures}
 use Rattle.fix_disk.specs.Disk.{DiskSeen, IsLawful}
 use Rattle.fix_journal.proofs.Moments.{started, weaker}
@@ -16,14 +18,15 @@ use Rattle.fix_journal.specs.Opening.{Opens, IsLeftByOpening, open_failures}
 use Rattle.fix_journal.proofs.SoundLemmas.{some_same}
 use Rattle.fix_store.specs.declared.fault.StoreFault.{StoreFault}
 use Rattle.fix_store.specs.declared.fault.StoreFault.TheVariants as fault
+use Rattle.fix_store.specs.Spelling.{IsStorable}
 use Rattle.fix_store.specs.Reading.{HasEnd, IsBrokenAt}
 use Rattle.fix_store.specs.Store.{StoreSeen, IsTold, IsInRange, stored_of, HoldsEnd, LastsEnd, IsEitherEnd, KeepAnswers, StoreKeeps}
 use Rattle.fix_store.specs.Opening.{IsOpened}
 use Rattle.fix_store.proofs.Ends.{one_end, not_broken}
 use Rattle.fix_rim.specs.declared.outside.KeepFault.{KeepFault}
 use Rattle.fix_rim.specs.declared.outside.LoadFault.{LoadFault}
-use Rattle.fix_rim.specs.Outside.{IsStoredOf, loads}
-use Rattle.fix_rim.specs.Held.{BreaksAt, DiskMoves, KeepLeaves, LoadLeaves, IsLoadedFrom, load_fault_of}
+use Rattle.fix_rim.specs.Outside.{IsStoredOf, HasPlace, loads}
+use Rattle.fix_rim.specs.Held.{HasOne, HoldsOne, LastsOne, BreaksAt, DiskMoves, KeepLeaves, LoadLeaves, IsLoadedFrom, load_fault_of}
 
 at_told : (o : Option (List ℕ)) → IsSome o → (file : List ℕ) × (o ≡ Some file)
 at_told None some = absurd (true≢false (sym some))
@@ -158,7 +161,7 @@ module _ {D : Type 0} (disk : D → DiskSeen) (old : DiskSeen) (store : StoreSee
     expected = range.expected.0;
     expected_bound = range.expected.1;
     since = range.since;
-    told = λ e h. subst (λ s. IsStoredOf s e) (sym (numbers e h)) (record { last = refl; expected = refl; since = refl });
+    told = λ e h. subst (λ s. IsStoredOf s e) (sym (numbers e h)) (record { last = refl; expected = refl; since = refl; asked = refl });
     one = one_held old;
     unbroken = λ place b. (let h = before (ap is_some b.1) in held_whole old h.0 h.1 place b);
   })
@@ -249,10 +252,22 @@ left_by_opening old e h lasts told c (inr unmade) =
     let was : HoldsEnd old new_end = (file.0, file.1, new_in file.0 (inl (file.2, refl))) in
     subst (HasEnd c) (one_held old new_end e was h) (new_in c unmade.1)
 
+one_by_opening : (old : DiskSeen) (e f : End) → HoldsOne old e f → LastsOne old e f → old.TellsImages → (c : List ℕ) → IsLeftByOpening old c → HasOne e f c
+one_by_opening old e f h lasts told c (inl left) = lasts told c left
+one_by_opening old e f h lasts told c (inr unmade) =
+    let file = unmade.0 in
+    let was : HoldsEnd old new_end = (file.0, file.1, new_in file.0 (inl (file.2, refl))) in
+    elim h as (λ _. HasOne e f c) [
+      | inl one ↦ inl (subst (HasEnd c) (one_held old new_end e was one) (new_in c unmade.1))
+      | inr other ↦ inr (subst (HasEnd c) (one_held old new_end f was other) (new_in c unmade.1))
+    ]
+
 pub load_leaves : (old new : DiskSeen) (failed : Option OpenFault) → IsLawful old → Opens failed old new → LoadLeaves old new
 load_leaves old new failed laws opens = record {
   any_moment = λ e h lasts. weaker old new (IsLeftByOpening old) (λ c. HasEnd c e) opens.any_moment (λ p c left. left_by_opening old e h lasts (laws.tells_now (opens.any_moment.told p)) c left);
   now = λ e h lasts told c left. left_by_opening old e h lasts (opens.tells_images.0 told) c (opens.now told c left);
+  either = λ e f h lasts. weaker old new (IsLeftByOpening old) (HasOne e f) opens.any_moment (λ p c left. one_by_opening old e f h lasts (laws.tells_now (opens.any_moment.told p)) c left);
+  either_now = λ e f h lasts told c left. one_by_opening old e f h lasts (opens.tells_images.0 told) c (opens.now told c left);
 }
 
 -- of no call at all
@@ -260,4 +275,17 @@ pub leaves_same : (seen : DiskSeen) → IsLawful seen → LoadLeaves seen seen
 leaves_same seen laws = record {
   any_moment = λ e h lasts. started seen (λ c. HasEnd c e) laws (λ p c left. lasts (laws.tells_now p) c left);
   now = λ e h lasts. lasts;
+  either = λ e f h lasts. started seen (HasOne e f) laws (λ p c left. lasts (laws.tells_now p) c left);
+  either_now = λ e f h lasts. lasts;
 }
+
+-- a record that has a place in a store is one that may be stored
+pub has_form : (r : Record) (at : Option ℕ) → IsKeepable r → HasPlace r at → IsStorable r
+has_form r None fits place = absurd place
+has_form (Push entry) (Some last) fits place = fits
+has_form (Expect number) (Some last) fits place = fits
+has_form (Reset time) (Some last) fits place = fits
+has_form (Many pushes number) (Some last) fits place = absurd place
+has_form (Withhold number) (Some last) fits place = absurd place
+has_form (ResetAsk time) (Some last) fits place = absurd place
+has_form Confirm (Some last) fits place = absurd place

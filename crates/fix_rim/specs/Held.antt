@@ -1,5 +1,5 @@
 -- What is seen of the disk of a message store, whether the store is open, and what its calls do to these.
-use Rattle.std.specs.Prelude.{◌≡◌, ◌↔◌, ℕ, ◌≤◌, List, [], if◌then◌else◌, Bool, true, false, Option, Some, None, IsSome, IfSome, Result, Ok, Err, ⊤}
+use Rattle.std.specs.Prelude.{◌≡◌, ◌⊎◌, ◌↔◌, ℕ, ◌≤◌, List, [], if◌then◌else◌, Bool, true, false, Option, Some, None, IsSome, IfSome, Result, Ok, Err, ⊤}
 use Rattle.fix_base.specs.declared.act.Act.{Act}
 use Rattle.fix_base.specs.declared.entry.By.{By}
 use Rattle.fix_base.specs.declared.entry.Entry.{Entry}
@@ -108,10 +108,23 @@ load_fault_of open_fault.DiskFault = load.Failed
 load_fault_of (open_fault.Damaged place) = load.Damaged place
 load_fault_of open_fault.OutOfMemory = load.OutOfMemory
 
+-- a file has one of two ends, a disk tells such a file, and a crash leaves one
+abbrev pub HasOne : End → End → List ℕ → Type 0
+HasOne e f file = HasEnd file e ⊎ HasEnd file f
+
+abbrev pub HoldsOne : DiskSeen → End → End → Type 0
+HoldsOne seen e f = HoldsEnd seen e ⊎ HoldsEnd seen f
+
+abbrev pub LastsOne : DiskSeen → End → End → Type 0
+LastsOne seen e f = seen.TellsImages → (c : List ℕ) → seen.image c → HasOne e f c
+
 -- a crash at any moment of an opening, or behind it, leaves the end that was on the disk
 pub record LoadLeaves (old new : DiskSeen) : Type 0 where
   pub any_moment : (e : End) → HoldsEnd old e → LastsEnd old e → LeavesOnly old new (λ c. HasEnd c e)
   pub now : (e : End) → HoldsEnd old e → LastsEnd old e → LastsEnd new e
+  -- and where it was one of two, as behind a record that may be kept or not, it leaves one of these
+  pub either : (e f : End) → HoldsOne old e f → LastsOne old e f → LeavesOnly old new (HasOne e f)
+  pub either_now : (e f : End) → HoldsOne old e f → LastsOne old e f → LastsOne new e f
 
 -- and behind an opening the end that is told is on it
 abbrev pub LoadLasts : {T : Type 0} → Result T LoadFault → DiskSeen → Type 0

@@ -1,7 +1,7 @@
 -- What each call of an Outside comes to, by what it answers.
 use Rattle.std.specs.Prelude.{◌≡◌, ℕ, ◌-◌, ◌+◌, ◌<◌, ◌≤◌, length, List, [], ◌∷◌, take, Bool, true, false, Option, Some, None, IfSome, option_map, Result, Ok, Err, ⊤}
 use Rattle.fix_base.specs.declared.entry.Record.{Record}
-use Rattle.fix_base.specs.declared.entry.Record.TheVariants.{Push, Expect, Reset}
+use Rattle.fix_base.specs.declared.entry.Record.TheVariants.{Push, Expect, Many, Withhold, Reset, ResetAsk, Confirm}
 use Rattle.fix_base.specs.declared.entry.Entry.TheVariants.{App}
 use Rattle.fix_base.specs.declared.entry.By.{By}
 use Rattle.fix_base.specs.declared.entry.Stored.{Stored}
@@ -63,18 +63,27 @@ hands said.OutOfMemory h = []
 
 -- ---- the store: whether it is open, and what it answers
 
--- a record may be kept: the store is open, and has a number for a further entry
+-- a record may be kept: the store is open, has a form for it, and a number for a further entry
 abbrev pub HasPlace : Record → Option ℕ → Type 0
 HasPlace r None = ⊥
 HasPlace (Push entry) (Some last) = last < 999999999
 HasPlace (Expect number) (Some last) = ⊤
 HasPlace (Reset time) (Some last) = ⊤
+-- a store has no form for these yet
+HasPlace (Many pushes number) (Some last) = ⊥
+HasPlace (Withhold number) (Some last) = ⊥
+HasPlace (ResetAsk time) (Some last) = ⊥
+HasPlace Confirm (Some last) = ⊥
 
 -- how many entries there are behind a record
 abbrev pub last_behind : Record → ℕ → ℕ
 last_behind (Push entry) last = last + 1
 last_behind (Expect number) last = last
+last_behind (Many pushes number) last = last + length pushes
+last_behind (Withhold number) last = last
 last_behind (Reset time) last = 0
+last_behind (ResetAsk time) last = 0
+last_behind Confirm last = last
 
 -- a store that failed isn't open
 abbrev pub open_kept : {T : Type 0} → Result T KeepFault → Record → Option ℕ → Option ℕ
@@ -99,6 +108,7 @@ pub record IsStoredOf (stored : Stored) (e : End) : Type 0 where
   pub last : stored.last ≡ length e.out
   pub expected : stored.expected ≡ e.stored
   pub since : stored.since ≡ e.since
+  pub asked : stored.asked ≡ e.asked
 
 -- what a load gives: numbers within their bounds, those of the end that is told, which is one, of a file that is a store's
 pub record IsLoaded (stored : Stored) (w : Seen) : Type 0 where

@@ -4,6 +4,7 @@ ghost use Rattle.fix_base.specs.End.{End, IsEntry};
 ghost use Rattle.fix_base.specs.Payload.{IsKeepable, HasPayload};
 ghost use Rattle.fix_base.specs.Seen.{acts_of, store_failures};
 ghost use Rattle.fix_store.specs.Store.{IsTold, KeepAnswers, StoreKeeps, HoldsEnd, fault_of};
+ghost use Rattle.fix_store.specs.Spelling.{IsStorable};
 ghost use Rattle.fix_store.specs.Rooms.{KeepRoom, room_left};
 ghost use Rattle.fix_rim.specs.declared.outside.KeepFault.TheVariants.{OutOfMemory};
 ghost use Rattle.fix_rim.specs.Outside.{keeps, loads, fetches, HasPlace, HasEntry, open_kept, open_loaded, open_fetched};
@@ -100,7 +101,7 @@ pub(crate) fn shut<D: Disk>(held: Held<D>) -> Held<D>
 
 // Keeps the record in a store.
 fn keep_on<D: Disk>(store: &mut Store<D>, kept: &Record) -> Result<(), StoreFault>
-    requires { IsKeepable kept.now }
+    requires { IsStorable kept.now }
     ensures answers { KeepAnswers (fault_of result) kept.now store.old store.new }
     ensures moves { store.old.stopped ≡ false → StoreKeeps (fault_of result) kept.now (D.disk store.old.disk) (D.disk store.new.disk) }
     ensures room { KeepRoom (fault_of result) kept.now (D.disk store.old.disk) (D.disk store.new.disk) }
@@ -113,6 +114,10 @@ fn keep_on<D: Disk>(store: &mut Store<D>, kept: &Record) -> Result<(), StoreFaul
         },
         Record::Expect(number) => store.expect(*number),
         Record::Reset(time) => store.reset(*time),
+        Record::Many { .. } => unreachable!(),
+        Record::Withhold(_) => unreachable!(),
+        Record::ResetAsk(_) => unreachable!(),
+        Record::Confirm => unreachable!(),
     }
 }
 

@@ -121,7 +121,8 @@ impl<D: Disk, L: Link, A: App, C: Clock, T: Tape> Outside for Rim<D, L, A, C, T>
         ensures noted { Moves (seen_of (T.told self.old.tape) (seen_on D.disk self.old.shelf.device) self.old.shelf.open_at (plug_of L.link self.old.plug) (A.app self.old.app) (C.readings self.old.clock)) (seen_of (T.told self.new.tape) (seen_on D.disk self.new.shelf.device) self.new.shelf.open_at (plug_of L.link self.new.plug) (A.app self.new.app) (C.readings self.new.clock)) (loads result) }
         ensures answers { LoadAnswers result (seen_of (T.told self.old.tape) (seen_on D.disk self.old.shelf.device) self.old.shelf.open_at (plug_of L.link self.old.plug) (A.app self.old.app) (C.readings self.old.clock)) }
         ensures opens { self.new.shelf.open_at ≡ open_loaded result }
-        // A crash at any moment of it leaves the end that was on the disk; at Ok it is the one that is told.
+        // A crash at any moment of it leaves the end that was on the disk, or one of two where one of these was
+        // on it; at Ok it is the one that is told.
         ensures leaves { LoadLeaves (disk_seen D.disk self.old) (disk_seen D.disk self.new) }
         ensures lasts { LoadLasts result (disk_seen D.disk self.new) }
         ensures others { self.new ≡ with_store_of self.old self.new }

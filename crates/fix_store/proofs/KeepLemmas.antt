@@ -3,9 +3,9 @@ use Rattle.std.proofs.Common.{◌≡◌, ◌↔◌, inl, inr, ℕ, ◌-◌, ◌�
 use Rattle.std.specs.Prelude.{map, slice_get, IfSome, IsSome, is_some, is_err, OnOk}
 use Rattle.fix_base.specs.declared.entry.Entry.{Entry}
 use Rattle.fix_base.specs.declared.entry.Record.{Record}
-use Rattle.fix_base.specs.declared.entry.Record.TheVariants.{Push, Expect, Reset}
+use Rattle.fix_base.specs.declared.entry.Record.TheVariants.{Push, Expect, Many, Withhold, Reset, ResetAsk, Confirm}
 use Rattle.fix_base.specs.End.{End, new_end, folded, folded_all, IsEntry}
-use Rattle.fix_base.specs.Payload.{HasPayload, IsKeepable}
+use Rattle.fix_base.specs.Payload.{HasPayload}
 use Rattle.fix_disk.specs.Disk.{DiskSeen, IsLawful, LeavesAsIs}
 use Rattle.fix_journal.specs.Format.{IsJournal, HasRecords}
 use Rattle.fix_journal.specs.AtRest.{IsEither}
@@ -14,7 +14,7 @@ use Rattle.fix_journal.proofs.Moments.{weaker, started}
 use Rattle.fix_journal.proofs.Meaning.{one_list_of_records}
 use Rattle.fix_journal.proofs.SoundLemmas.{some_same, told_case}
 use Rattle.fix_store.specs.declared.fault.StoreFault.{StoreFault}
-use Rattle.fix_store.specs.Spelling.{spelled}
+use Rattle.fix_store.specs.Spelling.{spelled, IsStorable}
 use Rattle.fix_store.specs.Reading.{MayFollow, MayAllFollow, HasEnd}
 use Rattle.fix_store.specs.Store.{fault_of, HoldsEnd, LastsEnd, IsEitherEnd, StoreKeeps, HasNumber, store_failures, NO_ENTRY, ReadsAs, StoreReads}
 use Rattle.fix_store.specs.Keeping.{AppendAnswers, Appends}
@@ -89,7 +89,7 @@ module _ (old new : DiskSeen) (r : Record) (told : IsSome old.bytes → (count :
 pub calm : {D : Type 0} (disk : D → DiskSeen) (journal : JournalSeen D) (f : Fold) (stopped : Bool) → stopped ≡ false → IsSound disk journal f stopped → IsSound disk journal f false
 calm disk journal f stopped still sound = subst (λ b. IsSound disk journal f b) still sound
 
-module _ {D : Type 0} (disk : D → DiskSeen) (journal : JournalSeen D) (f : Fold) (sound : IsSound disk journal f false) (r : Record) (fits : IsKeepable r) (has : HasNumber r (stored_in f)) where
+module _ {D : Type 0} (disk : D → DiskSeen) (journal : JournalSeen D) (f : Fold) (sound : IsSound disk journal f false) (r : Record) (fits : IsStorable r) (has : HasNumber r (stored_in f)) where
   told : IsSome (disk journal.disk).bytes → (count : ℕ) × (records : List Record) × (g : Fold) × IsKeptOf (disk journal.disk) count records g × MayFollow (folded_all new_end records) r
   told some =
       let k = sound.kept refl some in
@@ -162,7 +162,11 @@ sound_read disk journal new f sound count same images stopped is = record {
 abbrev pushed : Record → Entry
 pushed (Push entry) = entry
 pushed (Expect number) = NO_ENTRY
+pushed (Many pushes number) = NO_ENTRY
+pushed (Withhold number) = NO_ENTRY
 pushed (Reset time) = NO_ENTRY
+pushed (ResetAsk time) = NO_ENTRY
+pushed Confirm = NO_ENTRY
 
 -- what was read of an entry's record is the entry
 this_entry : (payload : List ℕ) (entry other : Entry) → HasPayload other → payload ≡ spelled (Push other) → ReadsAs payload entry → entry ≡ other

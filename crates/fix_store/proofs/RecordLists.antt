@@ -3,8 +3,7 @@ use Rattle.std.proofs.Common.{◌≡◌, ℕ, zero, suc, List, [], ◌∷◌, �
 use Rattle.std.specs.Prelude.{map, slice_get, IfSome}
 use Rattle.fix_base.specs.declared.entry.Record.{Record}
 use Rattle.fix_base.specs.End.{End, folded, folded_all}
-use Rattle.fix_base.specs.Payload.{IsKeepable}
-use Rattle.fix_store.specs.Spelling.{spelled}
+use Rattle.fix_store.specs.Spelling.{spelled, IsStorable}
 use Rattle.fix_store.specs.Reading.{MayFollow, MayAllFollow}
 use Rattle.fix_store.specs.Ends.{record_in}
 use Rattle.fix_store.proofs.Spellings.{back, one_record}
@@ -35,9 +34,9 @@ follow-push e [] r all next = (next, tt)
 follow-push e (q ∷ rs) r all next = (all.0, follow-push (folded e q) rs r all.1 next)
 
 -- each is one that may be kept
-pub keepable_at : (e : End) (rs : List Record) (i : ℕ) (r : Record) → MayAllFollow e rs → slice_get rs i ≡ Some r → IsKeepable r
+pub keepable_at : (e : End) (rs : List Record) (i : ℕ) (r : Record) → MayAllFollow e rs → slice_get rs i ≡ Some r → IsStorable r
 keepable_at e [] i r all is = absurd (subst (λ o. IfSome o (λ x. ⊥)) is tt)
-keepable_at e (q ∷ rs) zero r all is = subst (λ o. IfSome o IsKeepable) is all.0.keepable
+keepable_at e (q ∷ rs) zero r all is = subst (λ o. IfSome o IsStorable) is all.0.keepable
 keepable_at e (q ∷ rs) (suc i) r all is = keepable_at (folded e q) rs i r all.1 is
 
 pub backs : (e : End) (rs : List Record) → MayAllFollow e rs → map record_in (map spelled rs) ≡ rs

@@ -3,7 +3,7 @@ use Rattle.std.proofs.Common.{◌≡◌, ◌↔◌, inr, ℕ, ◌+◌, ◌-◌, 
 use Rattle.std.specs.Prelude.{map, IfSome, IsSome, is_some, nat_le, if◌then◌else◌}
 use Rattle.std.proofs.lemmas.Bool.{lt-leb}
 use Rattle.fix_base.specs.declared.entry.Record.{Record}
-use Rattle.fix_base.specs.declared.entry.Record.TheVariants.{Push, Expect, Reset}
+use Rattle.fix_base.specs.declared.entry.Record.TheVariants.{Push, Expect, Many, Withhold, Reset, ResetAsk, Confirm}
 use Rattle.fix_base.specs.declared.entry.Entry.TheVariants.{App, Admin}
 use Rattle.fix_base.specs.Parts.{HasNoRoom, TakesRoom, KeepsRoom}
 use Rattle.fix_base.specs.Payload.{record_size}
@@ -21,7 +21,7 @@ use Rattle.fix_journal.proofs.RoomLemmas.{size_push, needs_more, needs_then}
 use Rattle.fix_journal.proofs.SoundLemmas.{some_same}
 use Rattle.fix_store.specs.declared.fault.StoreFault.{StoreFault}
 use Rattle.fix_store.specs.declared.fault.StoreFault.TheVariants.{Stopped, NumbersSpent, OutOfMemory, DiskFault}
-use Rattle.fix_store.specs.Spelling.{spelled}
+use Rattle.fix_store.specs.Spelling.{spelled, IsStorable}
 use Rattle.fix_store.specs.Store.{fault_of, store_failures}
 use Rattle.fix_store.specs.Keeping.{Appends}
 use Rattle.fix_store.specs.Folding.{Fold, IsSound, Reads}
@@ -52,27 +52,31 @@ lacks_in (Some room) size (Some file) some need = lacks_if (nat_le 10 room) size
 
 -- ---- of a record
 
-length_spelled : (r : Record) → 5 + length (spelled r) ≡ record_size r
-length_spelled (Push (App time by body)) = omega arith
-length_spelled (Push (Admin time kind about)) = omega arith
-length_spelled (Expect number) = omega arith
-length_spelled (Reset time) = omega arith
+length_spelled : (r : Record) → IsStorable r → 5 + length (spelled r) ≡ record_size r
+length_spelled (Push (App time by body)) fits = omega arith
+length_spelled (Push (Admin time kind about)) fits = omega arith
+length_spelled (Expect number) fits = omega arith
+length_spelled (Reset time) fits = omega arith
+length_spelled (Many pushes number) fits = absurd fits
+length_spelled (Withhold number) fits = absurd fits
+length_spelled (ResetAsk time) fits = absurd fits
+length_spelled Confirm fits = absurd fits
 
 -- a file with one record more
-size_with : (payloads : List (List ℕ)) (r : Record) → file_size (payloads ++ spelled r ∷ []) ≡ file_size payloads + record_size r
-size_with payloads r = omega (arith, size_push payloads (spelled r), length-append (body_of (spelled r)) (0 ∷ []), length_spelled r)
+size_with : (payloads : List (List ℕ)) (r : Record) → IsStorable r → file_size (payloads ++ spelled r ∷ []) ≡ file_size payloads + record_size r
+size_with payloads r fits = omega (arith, size_push payloads (spelled r), length-append (body_of (spelled r)) (0 ∷ []), length_spelled r fits)
 
 -- ---- of a disk that holds records
 
 used_of : (seen : DiskSeen) (payloads : List (List ℕ)) → Holds seen payloads → (file : List ℕ) → seen.bytes ≡ Some file → used file ≡ file_size payloads
 used_of seen payloads holds file is = ap file_size (ap payloads_in (some_same file holds.0 (sym is ∙ holds.1)) ∙ computed holds.0 payloads (inr holds.2))
 
-module _ {D : Type 0} (disk : D → DiskSeen) (journal : JournalSeen D) (f : Fold) (sound : IsSound disk journal f false) (r : Record) (payload : List ℕ) (new : JournalSeen D) (is : payload ≡ spelled r) (same : (disk new.disk).room ≡ (disk journal.disk).room) where
+module _ {D : Type 0} (disk : D → DiskSeen) (journal : JournalSeen D) (f : Fold) (sound : IsSound disk journal f false) (r : Record) (fits : IsStorable r) (payload : List ℕ) (new : JournalSeen D) (is : payload ≡ spelled r) (same : (disk new.disk).room ≡ (disk journal.disk).room) where
   held : (file : List ℕ) → (disk journal.disk).bytes ≡ Some file → (payloads : List (List ℕ)) × Holds (disk journal.disk) payloads
   held file told = let k = sound.kept refl (ap is_some told) in (map spelled k.0, k.1.holds)
 
   with_payload : (payloads : List (List ℕ)) → file_size (payloads ++ payload ∷ []) ≡ file_size payloads + record_size r
-  with_payload payloads = ap (λ p. file_size (payloads ++ p ∷ [])) is ∙ size_with payloads r
+  with_payload payloads = ap (λ p. file_size (payloads ++ p ∷ [])) is ∙ size_with payloads r fits
 
   pub room_kept : (index : ℕ) → Appends (Ok index) payload (disk journal.disk) (disk new.disk) → TakesRoom r (room_left (disk journal.disk)) (room_left (disk new.disk))
   room_kept index done =
@@ -82,7 +86,7 @@ module _ {D : Type 0} (disk : D → DiskSeen) (journal : JournalSeen D) (f : Fol
       used_of (disk new.disk) (h.0 ++ payload ∷ []) (done.kept h.0 h.1).0 now then_told ∙ with_payload h.0 ∙ ap (λ n. n + record_size r) (sym (used_of (disk journal.disk) h.0 h.1 file told))))
 
   pub room_lacks : ((payloads : List (List ℕ)) → Holds (disk journal.disk) payloads → NeedsRoom 1 (file_size (payloads ++ payload ∷ [])) (disk journal.disk) (disk new.disk)) → HasNoRoom (record_size r) (room_left (disk journal.disk))
-  room_lacks need = lacks_in (disk journal.disk).room (record_size r) (disk journal.disk).bytes (omega (arith, length_spelled r)) (λ file told.
+  room_lacks need = lacks_in (disk journal.disk).room (record_size r) (disk journal.disk).bytes (omega (arith, length_spelled r fits)) (λ file told.
       let h = held file told in
       subst (MayFail (disk journal.disk).room) (with_payload h.0 ∙ ap (λ n. n + record_size r) (sym (used_of (disk journal.disk) h.0 h.1 file told))) ((need h.0 h.1).need (omega arith)))
 

@@ -1,9 +1,9 @@
 -- What a store keeps in memory of its records, and how a walk over the records makes it.
-use Rattle.std.specs.Prelude.{◌≡◌, ◌↔◌, ℕ, ◌<◌, ◌≤◌, Bool, false, List, [], ◌∷◌, ◌++◌, length, take, map, slice_get, All, Option, IfSome, Some, None, IsSome, Result, Ok, Err, ⊤}
+use Rattle.std.specs.Prelude.{◌≡◌, ◌↔◌, ℕ, ◌<◌, ◌≤◌, Bool, true, false, List, [], ◌∷◌, ◌++◌, length, take, map, slice_get, All, Option, IfSome, Some, None, IsSome, Result, Ok, Err, ⊤}
 use Rattle.fix_base.specs.declared.entry.Entry.{Entry}
 use Rattle.fix_base.specs.declared.entry.Record.{Record}
 use Rattle.fix_base.specs.declared.entry.Entry.TheVariants.{App, Admin}
-use Rattle.fix_base.specs.declared.entry.Record.TheVariants.{Push, Expect, Reset}
+use Rattle.fix_base.specs.declared.entry.Record.TheVariants.{Push, Expect, Many, Withhold, Reset, ResetAsk, Confirm}
 use Rattle.fix_base.specs.End.{new_end, folded_all}
 use Rattle.fix_base.specs.Payload.{IsKeepable, LAST_TIME}
 use Rattle.fix_base.specs.Seen.{Rises}
@@ -17,7 +17,7 @@ use Rattle.fix_journal.specs.Journal.{JournalSeen, Holds, Lasts}
 use Rattle.fix_store.specs.declared.folding.Folded.{Folded}
 use Rattle.fix_store.specs.declared.reading.Spelt.{Spelt}
 use Rattle.fix_store.specs.declared.reading.Spelt.TheVariants as spelt
-use Rattle.fix_store.specs.Spelling.{spelled}
+use Rattle.fix_store.specs.Spelling.{spelled, IsStorable}
 use Rattle.fix_store.specs.Reading.{LAST_NUMBER, MayFollow, MayAllFollow}
 use Rattle.fix_store.specs.Store.{stored_of, HasNumber}
 
@@ -28,26 +28,31 @@ record_of (spelt.Admin time kind about) = Push (Admin time kind about)
 record_of (spelt.Expect number) = Expect number
 record_of (spelt.Reset time) = Reset time
 
--- the indexes of the entries' records, the expected number and the last reset
+-- the indexes of the entries' records, the expected number, the last reset, and whether one is asked for
 pub record Fold : Type 0 where
   pub places : List ℕ
   pub expected : ℕ
   pub since : Option ℕ
+  pub asked : Bool
 
 abbrev pub fold_of : Folded → Fold
-fold_of f = record { places = f.places.items; expected = f.expected; since = f.since }
+fold_of f = record { places = f.places.items; expected = f.expected; since = f.since; asked = f.asked }
 
 abbrev pub new_fold : Fold
-new_fold = record { places = []; expected = 1; since = None }
+new_fold = record { places = []; expected = 1; since = None; asked = false }
 
--- behind the record of this index
+-- behind the record of this index; one of several entries, or that withholds one, has no form yet
 abbrev pub fold_with : ℕ → Fold → Record → Fold
 fold_with index f (Push entry) = record f { places = f.places ++ index ∷ [] }
 fold_with index f (Expect number) = record f { expected = number }
-fold_with index f (Reset time) = record { places = []; expected = 1; since = Some time }
+fold_with index f (Many pushes number) = f
+fold_with index f (Withhold number) = f
+fold_with index f (Reset time) = record { places = []; expected = 1; since = Some time; asked = f.asked }
+fold_with index f (ResetAsk time) = record { places = []; expected = 1; since = Some time; asked = true }
+fold_with index f Confirm = record f { asked = false }
 
 abbrev pub stored_in : Fold → Stored
-stored_in f = record { last = length f.places; expected = f.expected; since = f.since }
+stored_in f = record { last = length f.places; expected = f.expected; since = f.since; asked = f.asked }
 
 -- the records at these indexes are those of these entries
 abbrev pub ArePlaces : List Record → List ℕ → List Entry → Type 0
@@ -115,12 +120,12 @@ pub record GoesOn {D : Type 0} (old new : JournalSeen D) : Type 0 where
 -- the payload of this index is this record, which may come next
 pub record IsNext (payloads : List (List ℕ)) (index : ℕ) (f : Fold) (r : Record) : Type 0 where
   pub there : slice_get payloads index ≡ Some (spelled r)
-  pub keepable : IsKeepable r
+  pub keepable : IsStorable r
   pub numbered : HasNumber r (stored_in f)
 
 -- one step of the walk, whatever the disk gave back
 abbrev pub Steps : ℕ → Fold → Fold → Type 0
-Steps index old new = (r : Record) × IsKeepable r × HasNumber r (stored_in old) × (new ≡ fold_with index old r)
+Steps index old new = (r : Record) × IsStorable r × HasNumber r (stored_in old) × (new ≡ fold_with index old r)
 
 -- one step of the walk, over a disk that tells its file
 abbrev pub Takes : Option OpenFault → ℕ → List (List ℕ) → Fold → Fold → Type 0

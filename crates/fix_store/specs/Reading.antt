@@ -2,9 +2,8 @@
 use Rattle.std.specs.Prelude.{◌≡◌, ◌⊎◌, ℕ, ◌≤◌, List, [], ◌∷◌, ◌++◌, length, map, ⊤}
 use Rattle.fix_base.specs.declared.entry.Record.{Record}
 use Rattle.fix_base.specs.End.{End, new_end, folded, folded_all}
-use Rattle.fix_base.specs.Payload.{IsKeepable}
 use Rattle.fix_journal.specs.Format.{front, HasRecords, IsDamagedAt}
-use Rattle.fix_store.specs.Spelling.{spelled}
+use Rattle.fix_store.specs.Spelling.{spelled, IsStorable}
 
 -- the greatest MsgSeqNum (34)
 abbrev pub LAST_NUMBER : ℕ
@@ -12,7 +11,7 @@ LAST_NUMBER = 999999999
 
 -- a record that may be kept behind such an end: each entry has a number
 pub record MayFollow (e : End) (r : Record) : Type 0 where
-  pub keepable : IsKeepable r
+  pub keepable : IsStorable r
   pub numbered : length (folded e r).out ≤ LAST_NUMBER
 
 -- records that may be kept one behind the other

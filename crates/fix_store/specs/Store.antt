@@ -1,9 +1,9 @@
 -- What is seen of a store, and what its calls do.
-use Rattle.std.specs.Prelude.{◌≡◌, ◌⊎◌, ◌↔◌, ℕ, ◌+◌, ◌<◌, ◌≤◌, Bool, true, false, List, length, Option, Some, None, IsSome, IfSome, Result, Ok, Err, IfOk, ⊤}
+use Rattle.std.specs.Prelude.{◌≡◌, ◌⊎◌, ◌↔◌, ℕ, ◌+◌, ◌<◌, ◌≤◌, ◌==◌, if◌then◌else◌, Bool, true, false, List, length, Option, Some, None, IsSome, IfSome, Result, Ok, Err, IfOk, ⊤}
 use Rattle.fix_base.specs.declared.entry.Entry.{Entry}
 use Rattle.fix_base.specs.declared.entry.Record.{Record}
 use Rattle.fix_base.specs.declared.entry.Entry.TheVariants.{Admin}
-use Rattle.fix_base.specs.declared.entry.Record.TheVariants.{Push, Expect, Reset}
+use Rattle.fix_base.specs.declared.entry.Record.TheVariants.{Push, Expect, Many, Withhold, Reset, ResetAsk, Confirm}
 use Rattle.fix_base.specs.End.{End, folded, IsEntry}
 use Rattle.fix_base.specs.Payload.{HasPayload, IsKeepable, LAST_TIME}
 use Rattle.fix_base.specs.Seen.{Rises}
@@ -23,7 +23,7 @@ pub record StoreSeen (D : Type 0) : Type 0 where
 
 -- what a store tells of an end
 abbrev pub stored_of : End → Stored
-stored_of e = record { last = length e.out; expected = e.stored; since = e.since }
+stored_of e = record { last = length e.out; expected = e.stored; since = e.since; asked = e.asked }
 
 -- its numbers are ones that a store may tell
 pub record IsInRange (s : Stored) : Type 0 where
@@ -35,7 +35,11 @@ pub record IsInRange (s : Stored) : Type 0 where
 abbrev pub stored_with : Stored → Record → Stored
 stored_with s (Push entry) = record s { last = s.last + 1 }
 stored_with s (Expect number) = record s { expected = number }
-stored_with s (Reset time) = record { last = 0; expected = 1; since = Some time }
+stored_with s (Many pushes number) = record s { last = s.last + length pushes; expected = if number == 0 then s.expected else number }
+stored_with s (Withhold number) = s
+stored_with s (Reset time) = record { last = 0; expected = 1; since = Some time; asked = s.asked }
+stored_with s (ResetAsk time) = record { last = 0; expected = 1; since = Some time; asked = true }
+stored_with s Confirm = record s { asked = false }
 
 -- the disk tells a file with this end
 abbrev pub HoldsEnd : DiskSeen → End → Type 0
@@ -53,17 +57,25 @@ IsEitherEnd e r file = HasEnd file e ⊎ HasEnd file (folded e r)
 abbrev pub IsTold : {D : Type 0} → (D → DiskSeen) → StoreSeen D → Type 0
 IsTold disk store = store.stopped ≡ false → IfSome (disk store.disk).bytes (λ file. (e : End) × HasEnd file e × (store.stored ≡ stored_of e))
 
--- an entry has a number left
+-- each entry has a number left
 abbrev pub HasNumber : Record → Stored → Type 0
 HasNumber (Push entry) s = s.last < LAST_NUMBER
 HasNumber (Expect number) s = ⊤
+HasNumber (Many pushes number) s = s.last + length pushes ≤ LAST_NUMBER
+HasNumber (Withhold number) s = ⊤
 HasNumber (Reset time) s = ⊤
+HasNumber (ResetAsk time) s = ⊤
+HasNumber Confirm s = ⊤
 
--- an entry has none left
+-- one of them has none left
 abbrev pub HasNoNumber : Record → Stored → Type 0
 HasNoNumber (Push entry) s = s.last ≡ LAST_NUMBER
 HasNoNumber (Expect number) s = ⊥
+HasNoNumber (Many pushes number) s = LAST_NUMBER < s.last + length pushes
+HasNoNumber (Withhold number) s = ⊥
 HasNoNumber (Reset time) s = ⊥
+HasNoNumber (ResetAsk time) s = ⊥
+HasNoNumber Confirm s = ⊥
 
 -- why a call wasn't done, if it wasn't
 abbrev pub fault_of : {T : Type 0} → Result T StoreFault → Option StoreFault

@@ -17,6 +17,7 @@ pub(crate) struct Folded {
     pub(crate) places: Vec<u64>,
     pub(crate) expected: u32,
     pub(crate) since: Option<u64>,
+    pub(crate) asked: bool,
 }
 
 impl Folded {
@@ -28,6 +29,7 @@ impl Folded {
             places: Vec::new(alloc),
             expected: 1,
             since: None,
+            asked: false,
         }
     }
 
@@ -72,6 +74,7 @@ impl Folded {
             last: u32::try_from(self.places.len()).unwrap_or(u32::MAX),
             expected: self.expected,
             since: self.since,
+            asked: self.asked,
         }
     }
 }

@@ -3,9 +3,9 @@ ghost use Rattle.std.specs.Int.{w32, w64, to_be_bytes};
 ghost use Rattle.fix_base.specs.declared.entry.Record.{Record as TheRecord};
 ghost use Rattle.fix_base.specs.declared.entry.Record.TheVariants.{Push, Expect, Reset};
 ghost use Rattle.fix_base.specs.declared.entry.Entry.TheVariants.{App, Admin};
-ghost use Rattle.fix_base.specs.Payload.{IsAppPayload, IsAdminPayload, IsKeepable, LAST_TIME};
+ghost use Rattle.fix_base.specs.Payload.{IsAppPayload, IsAdminPayload, LAST_TIME};
 ghost use Rattle.fix_base.specs.Payload as payload;
-ghost use Rattle.fix_store.specs.Spelling.{spelled, mark_of};
+ghost use Rattle.fix_store.specs.Spelling.{spelled, mark_of, IsStorable};
 ghost use Rattle.fix_store.specs.Folding.{record_of};
 
 use crate::numbers::{number_in, time_at};
@@ -30,8 +30,8 @@ pub(crate) enum Spelt<'a> {
 // The record that the payload is, where it may be kept.
 pub(crate) fn record_in(payload: &[u8]) -> Option<Spelt<'_>>
     ensures { MatchOption result
-        ((r : TheRecord) → IsKeepable r → payload.now ≡ spelled r → ⊥)
-        (λ s. IsKeepable (record_of s) × (payload.now ≡ spelled (record_of s))) }
+        ((r : TheRecord) → IsStorable r → payload.now ≡ spelled r → ⊥)
+        (λ s. IsStorable (record_of s) × (payload.now ≡ spelled (record_of s))) }
 {
     let (mark, rest) = payload.split_first()?;
     match *mark {
@@ -47,7 +47,7 @@ pub(crate) fn record_in(payload: &[u8]) -> Option<Spelt<'_>>
 fn app_in(rest: &[u8], by: By) -> Option<Spelt<'_>>
     ensures { MatchOption result
         ((time : ℕ) (body : List ℕ) → IsAppPayload time body → rest.now ≡ to_be_bytes w64 time ++ body → ⊥)
-        (λ s. IsKeepable (record_of s) × (mark_of by ∷ rest.now ≡ spelled (record_of s))) }
+        (λ s. IsStorable (record_of s) × (mark_of by ∷ rest.now ≡ spelled (record_of s))) }
 {
     let (time, body) = time_at(rest)?;
     if body.len() > MOST_BODY_BYTES {
@@ -62,7 +62,7 @@ fn app_in(rest: &[u8], by: By) -> Option<Spelt<'_>>
 fn admin_in(rest: &[u8]) -> Option<Spelt<'_>>
     ensures { MatchOption result
         ((time kind about : ℕ) → IsAdminPayload time kind about → rest.now ≡ to_be_bytes w64 time ++ kind ∷ to_be_bytes w32 about → ⊥)
-        (λ s. IsKeepable (record_of s) × (3 ∷ rest.now ≡ spelled (record_of s))) }
+        (λ s. IsStorable (record_of s) × (3 ∷ rest.now ≡ spelled (record_of s))) }
 {
     let (time, later) = time_at(rest)?;
     let (kind, later) = later.split_first()?;
@@ -77,7 +77,7 @@ fn admin_in(rest: &[u8]) -> Option<Spelt<'_>>
     })
 }
 
-// Heartbeat, TestRequest, ResendRequest, Reject, Logout, Logon, and a message that is withheld.
+// Heartbeat, TestRequest, ResendRequest, Reject, Logout, Logon, and a message that is sent once.
 fn is_admin_kind(kind: u8) -> bool
     ensures { result ≡ payload.is_admin_kind kind }
 {
@@ -87,7 +87,7 @@ fn is_admin_kind(kind: u8) -> bool
 fn expect_in(rest: &[u8]) -> Option<Spelt<'_>>
     ensures { MatchOption result
         ((number : ℕ) → 1 ≤ number → number ≤ 1000000000 → rest.now ≡ to_be_bytes w32 number → ⊥)
-        (λ s. IsKeepable (record_of s) × (4 ∷ rest.now ≡ spelled (record_of s))) }
+        (λ s. IsStorable (record_of s) × (4 ∷ rest.now ≡ spelled (record_of s))) }
 {
     let number = number_in(rest)?;
     if number < 1 {
@@ -102,7 +102,7 @@ fn expect_in(rest: &[u8]) -> Option<Spelt<'_>>
 fn reset_in(rest: &[u8]) -> Option<Spelt<'_>>
     ensures { MatchOption result
         ((time : ℕ) → time ≤ LAST_TIME → rest.now ≡ to_be_bytes w64 time → ⊥)
-        (λ s. IsKeepable (record_of s) × (5 ∷ rest.now ≡ spelled (record_of s))) }
+        (λ s. IsStorable (record_of s) × (5 ∷ rest.now ≡ spelled (record_of s))) }
 {
     let (time, later) = time_at(rest)?;
     if !later.is_empty() {

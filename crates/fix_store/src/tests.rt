@@ -61,6 +61,7 @@ const NEW: Stored = Stored {
     last: 0,
     expected: 1,
     since: None,
+    asked: false,
 };
 
 #[test]
@@ -122,6 +123,7 @@ const ONE_ENTRY: Stored = Stored {
     last: 1,
     expected: 1,
     since: None,
+    asked: false,
 };
 
 #[test]
@@ -161,6 +163,7 @@ fn which_payloads_are_records(rt: HostRuntime) -> Result<(), Fail> {
                 last: 0,
                 expected: 1,
                 since: Some(0),
+                asked: false,
             }),
         ),
         (
@@ -171,6 +174,7 @@ fn which_payloads_are_records(rt: HostRuntime) -> Result<(), Fail> {
                 last: 0,
                 expected: 1,
                 since: Some(4_102_444_799_999_999),
+                asked: false,
             }),
         ),
         (5, &past, b"", bad),
@@ -201,6 +205,7 @@ fn which_expected_numbers_are_records(rt: HostRuntime) -> Result<(), Fail> {
                 last: 0,
                 expected: number,
                 since: None,
+                asked: false,
             })
         } else {
             Err(OpenFault::Damaged(9))
@@ -265,11 +270,13 @@ fn stored_with(record: Kept) -> Stored {
             last: 0,
             expected,
             since: None,
+            asked: false,
         },
         Kept::Reset(time) => Stored {
             last: 0,
             expected: 1,
             since: Some(time),
+            asked: false,
         },
     }
 }

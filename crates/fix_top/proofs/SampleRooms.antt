@@ -23,6 +23,8 @@ lines_in (act.Wrote b ∷ acts) = lines_in acts
 lines_in (act.Kept r ∷ acts) = lines_in acts
 lines_in (act.KeepLost r ∷ acts) = lines_in acts
 lines_in (act.Cut ∷ acts) = lines_in acts
+lines_in (act.Withheld k ∷ acts) = lines_in acts
+lines_in (act.Allowed k ∷ acts) = lines_in acts
 lines_in (act.Stop ∷ acts) = lines_in acts
 
 pub lines_in-append : (xs ys : List Act) → lines_in (xs ++ ys) ≡ lines_in xs ++ lines_in ys
@@ -38,6 +40,8 @@ lines_in-append (act.Now t ∷ xs) ys = lines_in-append xs ys
 lines_in-append (act.Kept r ∷ xs) ys = lines_in-append xs ys
 lines_in-append (act.KeepLost r ∷ xs) ys = lines_in-append xs ys
 lines_in-append (act.Cut ∷ xs) ys = lines_in-append xs ys
+lines_in-append (act.Withheld k ∷ xs) ys = lines_in-append xs ys
+lines_in-append (act.Allowed k ∷ xs) ys = lines_in-append xs ys
 lines_in-append (act.Stop ∷ xs) ys = lines_in-append xs ys
 
 -- ---- the room of the store
@@ -87,6 +91,8 @@ rooms_first (Did act.Opened ∷ xs) ys link app store h = rooms_first xs ys link
 rooms_first (Did act.Idle ∷ xs) ys link app store h = rooms_first xs ys link app store h
 rooms_first (Did act.Ended ∷ xs) ys link app store h = rooms_first xs ys link app store h
 rooms_first (Did act.Cut ∷ xs) ys link app store h = rooms_first xs ys link app store h
+rooms_first (Did (act.Withheld k) ∷ xs) ys link app store h = rooms_first xs ys link app store h
+rooms_first (Did (act.Allowed k) ∷ xs) ys link app store h = rooms_first xs ys link app store h
 rooms_first (Did act.Stop ∷ xs) ys link app store h = rooms_first xs ys link app store h
 rooms_first (Failed (LinkPart unsent) ∷ xs) ys link app store h = (h.0, rooms_first xs ys link app store h.1)
 rooms_first (Failed StorePart ∷ xs) ys link app store h = rooms_first xs ys link app 0 h
@@ -116,6 +122,8 @@ rooms_then (Did act.Opened ∷ xs) ys link app store h = rooms_then xs ys link a
 rooms_then (Did act.Idle ∷ xs) ys link app store h = rooms_then xs ys link app store h
 rooms_then (Did act.Ended ∷ xs) ys link app store h = rooms_then xs ys link app store h
 rooms_then (Did act.Cut ∷ xs) ys link app store h = rooms_then xs ys link app store h
+rooms_then (Did (act.Withheld k) ∷ xs) ys link app store h = rooms_then xs ys link app store h
+rooms_then (Did (act.Allowed k) ∷ xs) ys link app store h = rooms_then xs ys link app store h
 rooms_then (Did act.Stop ∷ xs) ys link app store h = rooms_then xs ys link app store h
 rooms_then (Failed (LinkPart unsent) ∷ xs) ys link app store h = rooms_then xs ys link app store h.1
 rooms_then (Failed StorePart ∷ xs) ys link app store h = rooms_then xs ys link app 0 h

@@ -7,7 +7,7 @@ use Rattle.fix_base.specs.End.{End}
 use Rattle.fix_base.specs.declared.act.Act.{Act}
 use Rattle.fix_base.specs.declared.act.Act.TheVariants as act
 use Rattle.fix_base.specs.EndStep as steps
-use Rattle.fix_base.specs.EndStep.{EndState, EndRun}
+use Rattle.fix_base.specs.EndStep.{Acceptor, EndState, EndRun}
 use Rattle.fix_base.specs.Seen.{Faults, Counts, Note, Did, Stores, acts_of, Seen, HoldsOn, Moves, Goes}
 use Rattle.fix_base.proofs.SeenLemmas.{Moves-append}
 use Rattle.fix_base.proofs.RunLemmas.{EndRun-append}
@@ -24,8 +24,8 @@ use Rattle.fix_engine.specs.declared.stop.StopCause.{StopCause}
 use Rattle.fix_engine.specs.Run as seats
 use Rattle.fix_engine.specs.Run.{Seat, desk_of, seated_at, OpensTo, from_stored, no_store, BeginsTo, opened_to, no_memory, no_memory_to_open, ReopensTo, RanTo, RunHasCause}
 use Rattle.fix_engine.specs.Lawful.{MayHold}
-use Rattle.fix_engine.specs.Restart.{StartsAt}
-use Rattle.fix_engine.proofs.RestartLemmas.{restarts}
+use Rattle.fix_engine.specs.Restart.{StartsAt, NumbersTell}
+use Rattle.fix_engine.proofs.RestartLemmas.{restarts, restarts_at}
 use Rattle.fix_engine.proofs.ServesLemmas.{begun_opens, begun_serves}
 use Rattle.fix_top.specs.Serve.{status_of, load_status, Served, not_made, not_opened, not_begun, ran, HoldsStill, IsServedFrom, ServedLawfully, not_started, not_loaded, only_loaded, not_connected, served, StatusHasCause}
 
@@ -60,9 +60,9 @@ Served-lawful id turns status notes a holds stores (not_opened (load.Damaged pla
 Served-lawful id turns status notes a holds stores (not_opened load.OutOfMemory told) = not_loaded load.OutOfMemory (holds_still a.Holds holds [] stores (λ e e' s. some_end e' e s))
 Served-lawful id turns status notes a holds stores (not_begun stored numbers no_memory) = only_loaded (holds_still a.Holds holds (act.Stop ∷ []) stores (λ e e' s. some_end e' e (s.2 ∙ s.1)))
 Served-lawful id turns status notes a holds stores (not_begun stored numbers (no_memory_to_open t)) = not_connected t (holds_still a.Holds holds (act.Stop ∷ act.Now t ∷ []) stores (λ e e' s. some_end e' e (s.2.2 ∙ s.2.1 ∙ s.1)))
-Served-lawful id turns status notes a holds stores (ran {to = to} {answer = answer} {more = more} stored numbers (opened_to t) r) = served t stored numbers.told from
+Served-lawful id turns status notes a holds stores (ran {to = to} {answer = answer} {more = more} stored numbers (opened_to t) r) = served t stored numbers.told from over
   where
-    from : (start : EndState) → StartsAt stored start → IsServedFrom id a.Holds holds answer to.live t (acts_of more) start
+    from : (start : EndState) → StartsAt stored start → IsServedFrom id a.Holds holds answer to.live t (acts_of more) start (NumbersTell start)
     from start starts =
         let again = restarts id stored start starts in
         let l = (seated_at id stored).live in
@@ -73,10 +73,29 @@ Served-lawful id turns status notes a holds stores (ran {to = to} {answer = answ
           at = _;
           opens = begun_opens id l again.to again.certain;
           served = h;
-          held = λ first held now.
+          held = λ tell first held now.
               (let had = stores.only held now in
               let s = had.2 in
-              let is = again.held had.0 (first had.0 had.1) (numbers.told had.0 had.1) in
+              let is = again.held tell had.0 (first had.0 had.1) (numbers.told had.0 had.1) in
+              h.store (Some held) (subst (λ o. Stores (acts_of more) o (Some held)) (s.2.2.1 ∙ s.2.1 ∙ s.1 ∙ ap Some is) s.2.2.2));
+        }
+
+    -- over the end that the store told
+    over : (start : EndState) (e : End) → a.Holds e → start.role ≡ Acceptor → MayHold start.doubt start.end (Some e) → IsServedFrom id a.Holds holds answer to.live t (acts_of more) start ⊤
+    over start e known role may =
+        let again = restarts_at id stored start e role may (numbers.told e known) in
+        let l = (seated_at id stored).live in
+        let h = begun_serves id turns l no_draft t answer to more r again.to again.certain in
+        record {
+          again = again.to;
+          restarts = EndRun-append again.run (steps.step (record { certain = again.certain.doubt; row = steps.now t }) steps.stop);
+          at = _;
+          opens = begun_opens id l again.to again.certain;
+          served = h;
+          held = λ tell first held now.
+              (let had = stores.only held now in
+              let s = had.2 in
+              let is = numbers.one had.0 e had.1 known ∙ again.is in
               h.store (Some held) (subst (λ o. Stores (acts_of more) o (Some held)) (s.2.2.1 ∙ s.2.1 ∙ s.1 ∙ ap Some is) s.2.2.2));
         }
 
@@ -107,7 +126,7 @@ ran_cause id a b c d loaded seat first x to answer m (from_stored stored) begun 
 -- the store is blamed where it failed, or its file is none
 pub load_causes : (id : Identity) (fault : LoadFault) (a b : Seen) (loaded : Result Stored LoadFault) (notes : List Note) → LoadAnswers loaded a → Moves a b notes → OpensTo id (Err fault) loaded notes → StatusHasCause (load_status fault) a b
 load_causes id load.Failed a b loaded notes told m (no_store f) = record { store = λ e. inl m.faults.store; link = λ e. omega (arith, e); app = λ e. omega (arith, e) }
-load_causes id (load.Damaged place) a b loaded notes told m (no_store f) = record { store = λ e. inr (place, told); link = λ e. omega (arith, e); app = λ e. omega (arith, e) }
+load_causes id (load.Damaged place) a b loaded notes told m (no_store f) = record { store = λ e. inr (λ t. (place, told t)); link = λ e. omega (arith, e); app = λ e. omega (arith, e) }
 load_causes id load.OutOfMemory a b loaded notes told m (no_store f) = record { store = λ e. absurd (omega (arith, e)); link = λ e. omega (arith, e); app = λ e. omega (arith, e) }
 
 -- want of memory blames no part

@@ -75,6 +75,8 @@ LooksAt t (act.KeepLost r ∷ acts) = LooksAt t acts
 LooksAt t (act.Handed n marked body ∷ acts) = LooksAt t acts
 LooksAt t (act.HandLost n marked body ∷ acts) = LooksAt t acts
 LooksAt t (act.Cut ∷ acts) = LooksAt t acts
+LooksAt t (act.Withheld k ∷ acts) = LooksAt t acts
+LooksAt t (act.Allowed k ∷ acts) = LooksAt t acts
 LooksAt t (act.Stop ∷ acts) = LooksAt t acts
 
 -- The reads are those of a connection with these pieces to come: each read takes a front of the first piece, nothing
@@ -92,6 +94,8 @@ ReadsPieces pieces (act.KeepLost r ∷ acts) = ReadsPieces pieces acts
 ReadsPieces pieces (act.Handed n marked body ∷ acts) = ReadsPieces pieces acts
 ReadsPieces pieces (act.HandLost n marked body ∷ acts) = ReadsPieces pieces acts
 ReadsPieces pieces (act.Cut ∷ acts) = ReadsPieces pieces acts
+ReadsPieces pieces (act.Withheld k ∷ acts) = ReadsPieces pieces acts
+ReadsPieces pieces (act.Allowed k ∷ acts) = ReadsPieces pieces acts
 ReadsPieces pieces (act.Stop ∷ acts) = ReadsPieces pieces acts
 
 -- The connection fails only at a write that doesn't fit into its room, the application only at a line that doesn't fit
@@ -110,6 +114,8 @@ HasRooms link app store (Did act.Opened ∷ notes) = HasRooms link app store not
 HasRooms link app store (Did act.Idle ∷ notes) = HasRooms link app store notes
 HasRooms link app store (Did act.Ended ∷ notes) = HasRooms link app store notes
 HasRooms link app store (Did act.Cut ∷ notes) = HasRooms link app store notes
+HasRooms link app store (Did (act.Withheld k) ∷ notes) = HasRooms link app store notes
+HasRooms link app store (Did (act.Allowed k) ∷ notes) = HasRooms link app store notes
 HasRooms link app store (Did act.Stop ∷ notes) = HasRooms link app store notes
 HasRooms link app store (Failed (LinkPart unsent) ∷ notes) = (link < unsent) × HasRooms link app store notes
 HasRooms link app store (Failed StorePart ∷ notes) = HasRooms link app 0 notes
@@ -130,6 +136,8 @@ handed_in (act.Wrote b ∷ acts) = handed_in acts
 handed_in (act.Kept r ∷ acts) = handed_in acts
 handed_in (act.KeepLost r ∷ acts) = handed_in acts
 handed_in (act.Cut ∷ acts) = handed_in acts
+handed_in (act.Withheld k ∷ acts) = handed_in acts
+handed_in (act.Allowed k ∷ acts) = handed_in acts
 handed_in (act.Stop ∷ acts) = handed_in acts
 
 -- the status 0, with these bytes written and these messages handed over, and none lost at that

@@ -5,7 +5,7 @@ use Rattle.fix_base.specs.declared.act.Act.{Act}
 use Rattle.fix_base.specs.declared.act.Act.TheVariants as act
 use Rattle.fix_base.specs.declared.entry.Stored.{Stored}
 use Rattle.fix_base.specs.End.{End}
-use Rattle.fix_base.specs.EndStep.{EndState, EndStep, EndRun}
+use Rattle.fix_base.specs.EndStep.{Acceptor, EndState, EndStep, EndRun}
 use Rattle.fix_base.specs.Seen.{Note, Did, Rises, Seen}
 use Rattle.fix_engine.specs.declared.state.Why.TheVariants.{PeerEnd, LoggedOut, Refused}
 use Rattle.fix_engine.specs.declared.stop.RunEnd.{RunEnd}
@@ -17,7 +17,7 @@ use Rattle.fix_rim.specs.Outside.{IsStoredOf, IsLoaded, LoadAnswers, loads}
 use Rattle.fix_engine.specs.Turn.{Live}
 use Rattle.fix_engine.specs.Lawful.{MayHold}
 use Rattle.fix_engine.specs.InStep.{HasServed}
-use Rattle.fix_engine.specs.Restart.{StartsAt}
+use Rattle.fix_engine.specs.Restart.{StartsAt, NumbersTell}
 use Rattle.fix_engine.specs.Desk.{Desk}
 use Rattle.fix_engine.specs.Run.{Seat, desk_of, seated_at, BeginsTo, RanTo}
 
@@ -63,29 +63,30 @@ abbrev pub HoldsStill : (End → Type 0) → (End → Type 0) → Type 0
 HoldsStill was holds = (start : EndState) → HoldsEnd was start → HoldsEnd holds start
 
 -- From this end on the process started again, and served a connection lawfully: what was written on it may be written,
--- what was handed over is what the counterparty sent, in order and none left out, and the end that this led to is stored.
-pub record IsServedFrom (id : Identity) (was holds : End → Type 0) (answer : RunEnd) (to : Live) (t : ℕ) (acts : List Act) (start : EndState) : Type 0 where
+-- what was handed over is what the counterparty sent, in order and none left out, and, where it is told which end the store
+-- held, the end that this led to is stored.
+pub record IsServedFrom (id : Identity) (was holds : End → Type 0) (answer : RunEnd) (to : Live) (t : ℕ) (acts : List Act) (start : EndState) (told : Type 0) : Type 0 where
   pub again : EndState
   pub restarts : EndRun id start (act.Stop ∷ act.Now t ∷ []) again
   pub at : EndState
   pub opens : EndStep id again act.Opened at
   pub served : HasServed id answer to again at acts
-  pub held : HoldsEnd was start → HoldsEnd holds served.to
+  pub held : told → HoldsEnd was start → HoldsEnd holds served.to
 
 -- the same by the acts alone, and what is stored then: from whatever end there was with the numbers that the store
--- gave, in doubt or not
+-- gave, in doubt or not, and from the end that the store told
 pub data ServedLawfully (id : Identity) (was holds : End → Type 0) : ℕ → List Act → Type 0 where
   not_started : HoldsStill was holds → ServedLawfully id was holds 9 []
   not_loaded : (fault : LoadFault) → HoldsStill was holds → ServedLawfully id was holds (load_status fault) []
   only_loaded : HoldsStill was holds → ServedLawfully id was holds 9 (act.Stop ∷ [])
   not_connected : (t : ℕ) → HoldsStill was holds → ServedLawfully id was holds 9 (act.Stop ∷ act.Now t ∷ [])
-  served : {answer : RunEnd} {to : Live} {acts : List Act} (t : ℕ) (stored : Stored) → AreNumbersOf was stored → ((start : EndState) → StartsAt stored start → IsServedFrom id was holds answer to t acts start) → ServedLawfully id was holds (status_of answer) (act.Stop ∷ act.Now t ∷ act.Opened ∷ acts)
+  served : {answer : RunEnd} {to : Live} {acts : List Act} (t : ℕ) (stored : Stored) → AreNumbersOf was stored → ((start : EndState) → StartsAt stored start → IsServedFrom id was holds answer to t acts start (NumbersTell start)) → ((start : EndState) (e : End) → was e → start.role ≡ Acceptor → MayHold start.doubt start.end (Some e) → IsServedFrom id was holds answer to t acts start ⊤) → ServedLawfully id was holds (status_of answer) (act.Stop ∷ act.Now t ∷ act.Opened ∷ acts)
 
--- the file isn't a store's, where it is told
+-- the file isn't a store's. This is said where the store tells its file, and of a store that tells none nothing is said
 abbrev pub IsBroken : Seen → Type 0
-IsBroken w = (place : ℕ) × (w.Tells → w.Breaks place)
+IsBroken w = w.Tells → (place : ℕ) × w.Breaks place
 
--- a part is blamed only where its count of faults rose, or where the store's file is none
+-- a part is blamed only where its count of faults rose, or the store where its file, if it is told, is none
 pub record StatusHasCause (status : ℕ) (old new : Seen) : Type 0 where
   pub store : status ≡ 5 → Rises 1 old.faults.store new.faults.store ⊎ IsBroken old
   pub link : status ≡ 6 → Rises 1 old.faults.link new.faults.link

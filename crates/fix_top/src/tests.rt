@@ -161,6 +161,7 @@ fn an_order_is_handed_over(rt: HostRuntime) -> Result<(), Fail> {
         last: 2,
         expected: 4,
         since: None,
+        asked: false,
     };
     assert_eq!(rt; stored, want);
     Ok(())
@@ -312,6 +313,7 @@ fn a_stop_before_the_number_is_kept_leaves_the_old_one(rt: HostRuntime) -> Resul
         last: 1,
         expected: 1,
         since: None,
+        asked: false,
     };
     assert_eq!(rt; stored(&mut o)?, want);
     Ok(())
@@ -540,6 +542,7 @@ impl Outside for Spent {
             last: 999_999_999,
             expected: 1,
             since: None,
+            asked: false,
         })
     }
 

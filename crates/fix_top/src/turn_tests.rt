@@ -356,6 +356,7 @@ impl Outside for Full {
             last: 999_999_999,
             expected: 1,
             since: None,
+            asked: false,
         })
     }
 

@@ -5,7 +5,7 @@ use Rattle.fix_base.specs.Seen.{Rises}
 use Rattle.fix_store.specs.Store.{store_failures}
 use Rattle.fix_rim.specs.declared.outside.KeepFault.TheVariants as keep
 use Rattle.fix_rim.specs.Held.{disk_in, DiskMoves, KeepLeaves}
-use Rattle.fix_rim.proofs.HeldLemmas.{told_end, still_then, kept_moves, lost_moves, kept_leaves, lost_leaves}
+use Rattle.fix_rim.proofs.HeldLemmas.{told_end, still_then, kept_moves, lost_moves, kept_leaves, lost_leaves, has_form}
 use Rattle.fix_rim.proofs.held.keep_in.Goals as goal
 
 pub returns-in-Ok-clause-moves : goal.returns-in-Ok-clause-moves
@@ -42,3 +42,6 @@ returns-in-Err-DiskFault-clause-leaves g c =
     let keeps = failed.ensures.moves still in
     subst (λ h. KeepLeaves {T = Unit {0}} (Err keep.Failed) c.args.kept.now (disk_in disk h) (disk c.keep_on.new.store.disk)) (sym c.in-Open.is)
     (lost_leaves (disk s.disk) (disk c.keep_on.new.store.disk) c.args.kept.now (Some failed.field-0) keeps (told_end disk s failed.ensures.told still) keep.Failed)
+
+pub keep_on-requires : goal.keep_on-requires
+keep_on-requires g c = has_form c.args.kept.now _ c.requires.payload c.requires.place

@@ -30,11 +30,11 @@ returns-in-Ok-clause-room g c =
     let s = c.self.inside in
     let disk = g.D.Disk.disk in
     rw (← c.self.view_is)
-    (room_at disk s.journal (fold_of s.folded) (calm disk s.journal (fold_of s.folded) s.stopped c.if-self.false c.self.invariant) (Expect c.args.next) c.expect_payload.result c.append.new.journal c.expect_payload.ensures c.in-Ok.ensures.room (Ok c.in-Ok.field-0) c.in-Ok.ensures.moves c.in-Ok.ensures.need)
+    (room_at disk s.journal (fold_of s.folded) (calm disk s.journal (fold_of s.folded) s.stopped c.if-self.false c.self.invariant) (Expect c.args.next) (c.requires.first, c.requires.last) c.expect_payload.result c.append.new.journal c.expect_payload.ensures c.in-Ok.ensures.room (Ok c.in-Ok.field-0) c.in-Ok.ensures.moves c.in-Ok.ensures.need)
 
 pub returns-in-Err-clause-room : goal.returns-in-Err-clause-room
 returns-in-Err-clause-room g c =
     let s = c.self.inside in
     let disk = g.D.Disk.disk in
     rw (← c.self.view_is)
-    (room_at disk s.journal (fold_of s.folded) (calm disk s.journal (fold_of s.folded) s.stopped c.if-self.false c.self.invariant) (Expect c.args.next) c.expect_payload.result c.append.new.journal c.expect_payload.ensures c.in-Err.ensures.room (Err c.in-Err.fault) c.in-Err.ensures.moves c.in-Err.ensures.need)
+    (room_at disk s.journal (fold_of s.folded) (calm disk s.journal (fold_of s.folded) s.stopped c.if-self.false c.self.invariant) (Expect c.args.next) (c.requires.first, c.requires.last) c.expect_payload.result c.append.new.journal c.expect_payload.ensures c.in-Err.ensures.room (Err c.in-Err.fault) c.in-Err.ensures.moves c.in-Err.ensures.need)

@@ -28,7 +28,7 @@ invariant_of-self-in-Ok g c =
     let f = fold_of s.folded in
     let places : c.put.new.values.items ≡ f.places ++ c.in-Ok.index ∷ [] = c.put.ensures.items ∙ ap (λ l. l ++ c.in-Ok.index ∷ []) c.stage.ensures.places in
     let payload : c.deref.result.now ≡ spelled (Push c.args.entry.now) = c.deref.ensures.value ∙ when_ok c.stage.result c.if-is_err.ensures.value c.stage.ensures.payload in
-    subst (λ l. IsSound disk c.append.new.journal (record { places = l; expected = f.expected; since = f.since }) c.append.new.stopped) (sym places)
+    subst (λ l. IsSound disk c.append.new.journal (record { places = l; expected = f.expected; since = f.since; asked = f.asked }) c.append.new.stopped) (sym places)
     (sound_at disk s.journal f (calm disk s.journal f s.stopped c.if-self.false c.self.invariant) (Push c.args.entry.now) c.requires (omega (arith, c.in-Some.ensures.0, c.len.ensures)) c.in-Ok.index c.deref.result.now c.append.new.journal payload c.in-Ok.ensures.answers c.in-Ok.ensures.moves c.append.new.stopped c.in-Ok.ensures.stops)
 
 pub returns-in-Ok-clause-moves : goal.returns-in-Ok-clause-moves
@@ -56,7 +56,7 @@ returns-in-Ok-clause-room g c =
     let f = fold_of s.folded in
     let payload : c.deref.result.now ≡ spelled (Push c.args.entry.now) = c.deref.ensures.value ∙ when_ok c.stage.result c.if-is_err.ensures.value c.stage.ensures.payload in
     rw (← c.self.view_is)
-    (room_at disk s.journal f (calm disk s.journal f s.stopped c.if-self.false c.self.invariant) (Push c.args.entry.now) c.deref.result.now c.append.new.journal payload c.in-Ok.ensures.room (Ok c.in-Ok.index) c.in-Ok.ensures.moves c.in-Ok.ensures.need)
+    (room_at disk s.journal f (calm disk s.journal f s.stopped c.if-self.false c.self.invariant) (Push c.args.entry.now) c.requires c.deref.result.now c.append.new.journal payload c.in-Ok.ensures.room (Ok c.in-Ok.index) c.in-Ok.ensures.moves c.in-Ok.ensures.need)
 
 pub returns-in-Err-clause-room : goal.returns-in-Err-clause-room
 returns-in-Err-clause-room g c =
@@ -65,4 +65,4 @@ returns-in-Err-clause-room g c =
     let f = fold_of s.folded in
     let payload : c.deref.result.now ≡ spelled (Push c.args.entry.now) = c.deref.ensures.value ∙ when_ok c.stage.result c.if-is_err.ensures.value c.stage.ensures.payload in
     rw (← c.self.view_is)
-    (room_at disk s.journal f (calm disk s.journal f s.stopped c.if-self.false c.self.invariant) (Push c.args.entry.now) c.deref.result.now c.append.new.journal payload c.in-Err.ensures.room (Err c.in-Err.fault) c.in-Err.ensures.moves c.in-Err.ensures.need)
+    (room_at disk s.journal f (calm disk s.journal f s.stopped c.if-self.false c.self.invariant) (Push c.args.entry.now) c.requires c.deref.result.now c.append.new.journal payload c.in-Err.ensures.room (Err c.in-Err.fault) c.in-Err.ensures.moves c.in-Err.ensures.need)
