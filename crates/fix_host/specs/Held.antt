@@ -1,5 +1,5 @@
 -- A connection of which bytes were read ahead.
-use Rattle.std.specs.Prelude.{◌≡◌, ℕ, ◌<◌, min, List, [], length, take, drop, Option, option_map}
+use Rattle.std.specs.Prelude.{◌≡◌, ℕ, ◌<◌, min, List, [], length, take, drop, option_map}
 use Rattle.fix_base.specs.Parts.{left_before}
 use Rattle.fix_parts.specs.Link.{LinkSeen, LinkReads}
 use Rattle.fix_parts.specs.declared.link.ReadTurn.{ReadTurn}

@@ -1,4 +1,4 @@
-ghost use Rattle.std.specs.Prelude.{◌≡◌, ◌≤◌, ◌<◌, ◌++◌, [], length, take, min};
+ghost use Rattle.std.specs.Prelude.{◌≡◌, ◌≤◌, ◌<◌, [], length, take, min};
 ghost use Rattle.fix_parts.specs.Link.{LinkReads, LinkWrites};
 ghost use Rattle.fix_host.specs.Held.{ahead_of, inner_of, held_seen, HeldReads};
 

@@ -1,4 +1,4 @@
-use Rattle.std.proofs.Common.{◌≤◌, ◌<◌, length, vec_len, arith}
+use Rattle.std.proofs.Common.{arith}
 use Rattle.fix_host.proofs.HeldLemmas.{read_link, read_ahead}
 use Rattle.fix_host.proofs.held.HeldLink.read.Goals as goal
 
