@@ -18,8 +18,6 @@ use Rattle.fix_base.specs.Wrote as wrote
 use Rattle.fix_base.specs.Wrote.{IsSealed, original_fields, SkipsBetween, Gap, Writes, Wrote}
 use Rattle.fix_base.specs.EndStep as steps
 use Rattle.fix_base.specs.EndStep.{Initiator, Acceptor, IsAsking, IsBlocked, Handling, Connection, EndState, new_state, WasRead, MayHand, Chain, Row, EndStep, Move}
-use Rattle.fix_base.specs.Resend as resend
-use Rattle.fix_base.specs.Resend.{resend_list}
 use Rattle.fix_base.specs.Agrees as agrees
 use Rattle.fix_base.specs.Agrees.{Agrees, fresh}
 use Rattle.fix_base.proofs.ListLemmas.{prefix_refl, some_same, Among-cons_cases}
@@ -339,16 +337,6 @@ no_repeat_behind_its_gap_fill {id = id} {text = text} body says (wrote.gap_fill 
     let low = IsSkipped-some (skips.each n (le_refl n) some) in
     let same = says_same text (message.GapFill n m) (message.App 1 true body) (gap_fill_says id n m text is.at low (omega (arith, some, le)) (omega (arith, some, low)) le is.sealed_so) says in
     cc
-
--- ---- what a resend has
-
--- a Heartbeat, an order, a message of another type and an order again, where the orders are withheld
-pub a_resend_over_withheld_orders : (a b c : List ℕ) → resend_list (beat ∷ App 0 Caller a ∷ App 0 Caller b ∷ App 0 Caller c ∷ []) (2 ∷ 4 ∷ []) 1 4 ≡ resend.Gap 1 3 ∷ resend.Repeat 3 ∷ resend.Gap 4 5 ∷ []
-a_resend_over_withheld_orders a b c = refl
-
--- where none is
-pub a_resend_of_orders : (a b c : List ℕ) → resend_list (beat ∷ App 0 Caller a ∷ App 0 Caller b ∷ App 0 Caller c ∷ []) [] 1 3 ≡ resend.Gap 1 2 ∷ resend.Repeat 2 ∷ resend.Repeat 3 ∷ []
-a_resend_of_orders a b c = refl
 
 -- ---- when two ends agree
 

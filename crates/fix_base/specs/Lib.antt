@@ -17,7 +17,6 @@ pub mod Act
 pub mod Line
 pub mod Parts
 pub mod Wrote
-pub mod Resend
 pub mod EndStep
 pub mod Agrees
 pub mod Reader

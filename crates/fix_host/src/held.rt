@@ -1,0 +1,76 @@
+ghost use Rattle.std.specs.Prelude.{◌≡◌, ◌≤◌, ◌<◌, [], length, take, min};
+ghost use Rattle.fix_parts.specs.Link.{LinkReads, LinkWrites};
+ghost use Rattle.fix_host.specs.Held.{ahead_of, inner_of, held_seen, HeldReads};
+
+use fix_parts::{Link, ReadTurn, WriteTurn};
+use std::alloc::Global;
+
+/// A connection of which bytes were read ahead. It gives these before the connection's own.
+#[derive(Drop)]
+pub struct Held<L> {
+    link: L,
+    ahead: Vec<u8>,
+    // how many of these were given
+    given: usize,
+}
+
+impl<L: Link> Held<L> {
+    /// A connection of which nothing was read yet.
+    pub fn new(alloc: Global, link: L) -> Held<L>
+        ensures ahead { ahead_of result ≡ [] }
+        ensures inner { inner_of result ≡ link }
+    {
+        Held {
+            link,
+            ahead: Vec::new(alloc),
+            given: 0,
+        }
+    }
+
+    /// The connection itself, without the bytes that were read ahead.
+    pub fn into_link(self) -> L
+        ensures { result ≡ inner_of self }
+    {
+        let Held { link, .. } = self;
+        link
+    }
+}
+
+impl<L: Link> Link for Held<L> {
+    ghost use Rattle.std.specs.Prelude.{◌<◌, length};
+    ghost use Rattle.fix_parts.specs.Link.{LinkReads, LinkWrites};
+    ghost use Rattle.fix_host.specs.Held.{ahead_of, inner_of, held_seen, HeldReads};
+
+    ghost link = { λ h. held_seen (ahead_of h) (L.link (inner_of h)) };
+
+    fn read(&mut self, room: &mut [u8]) -> ReadTurn
+        requires { 0 < length room.old }
+        ensures moves { LinkReads result room.new (held_seen (ahead_of self.old) (L.link (inner_of self.old))) (held_seen (ahead_of self.new) (L.link (inner_of self.new))) }
+        ensures held { HeldReads result room.new (ahead_of self.old) (ahead_of self.new) (L.link (inner_of self.old)) (L.link (inner_of self.new)) }
+    {
+        if self.given >= self.ahead.len() {
+            return self.link.read(room);
+        }
+        let count = give(&self.ahead[self.given..], room);
+        self.given += count;
+        ReadTurn::Bytes(count)
+    }
+
+    fn write(&mut self, bytes: &[u8]) -> WriteTurn
+        ensures moves { LinkWrites result bytes.now (held_seen (ahead_of self.old) (L.link (inner_of self.old))) (held_seen (ahead_of self.new) (L.link (inner_of self.new))) }
+        ensures ahead { ahead_of self.new ≡ ahead_of self.old }
+        ensures inner { LinkWrites result bytes.now (L.link (inner_of self.old)) (L.link (inner_of self.new)) }
+    {
+        self.link.write(bytes)
+    }
+}
+
+// Copies as many of the bytes as there is room for, and says how many.
+fn give(bytes: &[u8], room: &mut [u8]) -> usize
+    ensures count { result ≡ min (length bytes.now) (length room.new) }
+    ensures bytes { take result room.new ≡ take result bytes.now }
+{
+    let count = bytes.len().min(room.len());
+    room[..count].copy_from_slice(&bytes[..count]);
+    count
+}

@@ -1,0 +1,15 @@
+//! Between sockets and sessions: one connection per session at a time, and threads that are started where there may
+//! be none. This is the step from a connection that was accepted to the thread of its session.
+#![tactic(auto)]
+
+mod held;
+mod slot;
+mod spawner;
+#[cfg(test)]
+mod tests;
+mod world;
+
+pub use held::Held;
+pub use slot::{LinkSlot, SlotState};
+pub use spawner::{Anything, FailingSpawner, Spawner, ThreadSpawner};
+pub use world::{Ear, Gate, MakeFault, World};

@@ -1,0 +1,5 @@
+pub mod CutLemmas
+pub mod WalkLemmas
+pub mod WaitingLemmas
+pub mod StandardFacts
+pub mod AllowedLemmas

@@ -1,0 +1,4 @@
+pub mod Cut
+pub mod Walks
+pub mod Waiting
+pub mod Allowed
