@@ -1,0 +1,14 @@
+//! The session messages of FIX: the step from a frame to what it asks of a session, and from what a
+//! session says to the fields of a frame.
+#![tactic(auto)]
+
+mod admin;
+mod building;
+mod reading;
+mod say;
+mod tags;
+mod texts;
+
+pub use admin::{Admin, read_admin};
+pub use building::{build, business};
+pub use say::{LogoutText, Say};

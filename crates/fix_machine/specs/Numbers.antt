@@ -1,0 +1,63 @@
+-- What the steps of an answer do to the numbers, one step after the other. Where an answer ends at one
+-- of its steps, since no number is left, a write or a hand-over failed, or memory was refused, the
+-- steps before it stand, a count among them, and no later one is done.
+use Rattle.std.specs.Prelude.{ℕ, ◌+◌, List, [], ◌∷◌, take, Bool, true, false}
+use Rattle.std.specs.List.{list_any}
+use Rattle.fix_machine.specs.Event.{StepSeen, Send, Serve, Hand, Stash, Expect, Reset, Confirm, Close, Nothing}
+use Rattle.fix_machine.specs.State.{number_after}
+
+-- the inbound number that is expected after a step
+abbrev pub expected_by : StepSeen → ℕ → ℕ
+expected_by (Send say) expected = expected
+expected_by (Serve from to) expected = expected
+expected_by Hand expected = expected
+expected_by Stash expected = expected
+expected_by (Expect number) expected = number
+expected_by Reset expected = 1
+expected_by Confirm expected = expected
+expected_by (Close why) expected = expected
+expected_by Nothing expected = expected
+
+-- the last outbound number after a step
+abbrev pub last_by : StepSeen → ℕ → ℕ
+last_by (Send say) last = number_after last
+last_by (Serve from to) last = last
+last_by Hand last = last
+last_by Stash last = last
+last_by (Expect number) last = last
+last_by Reset last = 0
+last_by Confirm last = last
+last_by (Close why) last = last
+last_by Nothing last = last
+
+abbrev pub expected_after : List StepSeen → ℕ → ℕ
+expected_after [] expected = expected
+expected_after (step ∷ steps) expected = expected_after steps (expected_by step expected)
+
+abbrev pub last_after : List StepSeen → ℕ → ℕ
+last_after [] last = last
+last_after (step ∷ steps) last = last_after steps (last_by step last)
+
+-- where an answer ends before its step of this place, counted from 0, this is expected, and this was
+-- the last number sent
+abbrev pub expected_before : ℕ → List StepSeen → ℕ → ℕ
+expected_before place steps expected = expected_after (take place steps) expected
+
+abbrev pub last_before : ℕ → List StepSeen → ℕ → ℕ
+last_before place steps last = last_after (take place steps) last
+
+-- a step that what is staged is kept and written before: an answer that has one does that before its
+-- first step, so that a request which is served is counted only after it
+abbrev pub is_after_a_flush : StepSeen → Bool
+is_after_a_flush (Send say) = false
+is_after_a_flush (Serve from to) = true
+is_after_a_flush Hand = true
+is_after_a_flush Stash = false
+is_after_a_flush (Expect number) = false
+is_after_a_flush Reset = true
+is_after_a_flush Confirm = true
+is_after_a_flush (Close why) = false
+is_after_a_flush Nothing = false
+
+abbrev pub begins_with_a_flush : List StepSeen → Bool
+begins_with_a_flush steps = list_any is_after_a_flush steps
