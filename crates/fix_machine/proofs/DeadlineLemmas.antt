@@ -16,8 +16,8 @@ passed after since now h = grind (arith, nat_tests)
 pub not_passed : (after since now : ℕ) → 1 ≤ after → now < since + after → has_passed after since now ≡ false
 not_passed after since now some h = grind (arith, nat_tests)
 
-pub always_passed : (since now : ℕ) → has_passed 0 since now ≡ true
-always_passed since now = grind (arith, nat_tests)
+pub passed_at_once : (after since now : ℕ) → after ≡ 0 → has_passed after since now ≡ true
+passed_at_once after since now none = grind (arith, nat_tests)
 
 -- a test that is true from a time on
 capped_by : (s : MachineState) (p : ℕ → Bool) (at : ℕ) (b : Bool) → nat_le at LAST_TIME ≡ b → s.reading < at
@@ -42,13 +42,15 @@ earlier_first s p q a b (never x) (first u ahead is least) = first u ahead (rw (
 earlier_first s p q a b (first t ahead is least) (never y) = first t ahead (rw is refl) (λ v h below. rw (y v h, least v h below) refl)
 earlier_first s p q a b (first t ahead is least) (first u ahead2 is2 least2) =
     elim (cases_lt t u) [
-      inl lt ↦ (let e : min t u ≡ t = omega arith in
-        rw e (first t ahead (rw is refl) (λ v h below. rw (least v h below, least2 v h (omega arith)) refl)))
-    | inr le ↦ (let e : min t u ≡ u = omega arith in
-        rw e (first u ahead2 (elim (cases_lt u t) [
-            inl lt ↦ rw (least u ahead2 lt, is2) refl
-          | inr ge ↦ (let same : t ≡ u = omega arith in rw (← same, is) refl) ])
-          (λ v h below. rw (least v h (omega arith), least2 v h below) refl))) ]
+      | inl lt ↦ (let e : min t u ≡ t = omega arith in
+          rw e (first t ahead (rw is refl) (λ v h below. rw (least v h below, least2 v h (omega arith)) refl)))
+      | inr le ↦ (let e : min t u ≡ u = omega arith in
+          rw e (first u ahead2 (elim (cases_lt u t) [
+            | inl lt ↦ rw (least u ahead2 lt, is2) refl
+            | inr ge ↦ (let same : t ≡ u = omega arith in rw (← same, is) refl)
+          ])
+          (λ v h below. rw (least v h (omega arith), least2 v h below) refl)))
+    ]
 
 -- HeartBtInt and a fifth of it is a sum too
 pub silent_is_passed : (heart since now : ℕ) → is_silent heart since now ≡ has_passed (1200000 * heart) since now

@@ -1,1 +1,3 @@
 mod DeadlineLemmas
+mod TimedLemmas
+mod EventLemmas

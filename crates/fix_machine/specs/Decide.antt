@@ -7,7 +7,7 @@ use Rattle.fix_machine.specs.declared.state.Phase.TheVariants.{Down, AwaitLogon,
 use Rattle.fix_machine.specs.declared.state.Requested.{Requested}
 use Rattle.fix_machine.specs.Event.{EventSeen, Begin, First, Frame, Moved, Clock, Leave, Ended, Wrote, Inbound, Send}
 use Rattle.fix_machine.specs.State.{Options, MachineState, read_clock, begun_as, heard, sent, closed}
-use Rattle.fix_machine.specs.Answer.{Answered, answer, silent, ask_step, asked}
+use Rattle.fix_machine.specs.Answer.{Texts, texts_of, Answered, answer, silent, ask_step, asked}
 use Rattle.fix_machine.specs.AwaitLogon.{await_logon}
 use Rattle.fix_machine.specs.LoggedOn.{logged_on}
 use Rattle.fix_machine.specs.Clock.{clock}
@@ -36,6 +36,17 @@ leave Down s = silent s
 leave AwaitLogon s = silent s
 leave Up s = answer (Send (Logout text.Empty) ∷ []) (record (sent s) { phase = LogoutSent; left_at = s.reading })
 leave LogoutSent s = silent s
+
+-- the texts of the message, where the event is one
+abbrev pub texts_in : EventSeen → Texts
+texts_in (Begin role now) = record { type = []; id = [] }
+texts_in First = record { type = []; id = [] }
+texts_in (Frame i) = texts_of i
+texts_in (Moved waiting) = record { type = []; id = [] }
+texts_in (Clock now inside) = record { type = []; id = [] }
+texts_in (Leave now) = record { type = []; id = [] }
+texts_in Ended = record { type = []; id = [] }
+texts_in (Wrote now) = record { type = []; id = [] }
 
 abbrev pub answer_to : Options → MachineState → EventSeen → Answered
 answer_to o s (Begin role now) = silent (begun_as o role (read_clock now s))

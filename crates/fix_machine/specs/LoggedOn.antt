@@ -12,12 +12,11 @@ use Rattle.fix_machine.specs.declared.state.Phase.TheVariants.{Down, AwaitLogon,
 use Rattle.fix_machine.specs.declared.event.Refusal.{Refusal}
 use Rattle.fix_machine.specs.declared.event.Refusal.TheVariants as refusal
 use Rattle.fix_machine.specs.declared.event.Why.TheVariants.{LoggedOut, Refused}
-use Rattle.fix_machine.specs.declared.checks.Finding.{Finding}
-use Rattle.fix_machine.specs.declared.checks.Finding.TheVariants as found
 use Rattle.fix_machine.specs.Event.{Inbound, VerdictSeen, App, Admin, Bad, StepSeen, Send, Serve, Hand, Stash, Expect, Close}
 use Rattle.fix_machine.specs.State.{Options, MachineState, sent, expecting, counted, closed}
-use Rattle.fix_machine.specs.Answer.{Answered, answer, names, is_of_session, number_or_0, silent, refuse_with, reject, ask_step, asked}
-use Rattle.fix_machine.specs.Checks.{finding}
+use Rattle.fix_machine.specs.Answer.{Answered, answer, names, is_of_session, number_or_0, type_in, silent, refuse_with, reject, ask_step, asked}
+use Rattle.fix_machine.specs.Checks as found
+use Rattle.fix_machine.specs.Checks.{FindingSeen, checked}
 
 -- ---- 1. and 2. BeginString (8), and a readable MsgSeqNum (34): a Logout (5) and the end of the connection
 
@@ -45,13 +44,13 @@ new_seq_no_in (Bad fault) = 0
 abbrev pub reset_to : ℕ → ℕ → Inbound → MachineState → Answered
 reset_to next n i s =
     if nat_le s.expected next then answer (Expect next ∷ []) (expecting next s)
-    else answer (reject n i.header (fault_of 5 36) ∷ []) (sent s)
+    else answer (reject n (type_in i.header) (fault_of 5 36) ∷ []) (sent s)
 
-abbrev pub reset_by : Finding → ℕ → Inbound → MachineState → Answered
+abbrev pub reset_by : FindingSeen → ℕ → Inbound → MachineState → Answered
 reset_by found.Fine n i s = reset_to (new_seq_no_in i.verdict) n i s
-reset_by (found.Reject fault) n i s = answer (reject n i.header fault ∷ []) (sent s)
+reset_by (found.Reject fault) n i s = answer (reject n (type_in i.header) fault ∷ []) (sent s)
 reset_by (found.RejectAndClose fault text cause) n i s =
-    answer (reject n i.header fault ∷ Send (Logout text) ∷ Close (Refused n cause) ∷ []) (closed (sent (sent s)))
+    answer (reject n (type_in i.header) fault ∷ Send (Logout text) ∷ Close (Refused n cause) ∷ []) (closed (sent (sent s)))
 
 -- ---- 4. MsgSeqNum (34) above the expected one: ResendRequest (2) and Logout (5) are served at once,
 -- others wait; and the gap is asked for, once
@@ -96,14 +95,14 @@ early_of (Admin admin) o n s = served_early admin o n s
 early_of (Bad fault) o n s = then_ask o n [] s
 
 -- one with a fault is dropped
-abbrev pub early_by : Finding → Options → ℕ → Inbound → MachineState → Answered
+abbrev pub early_by : FindingSeen → Options → ℕ → Inbound → MachineState → Answered
 early_by found.Fine o n i s = early_of i.verdict o n s
 early_by (found.Reject fault) o n i s = then_ask o n [] s
 early_by (found.RejectAndClose fault text cause) o n i s = then_ask o n [] s
 
 abbrev pub too_high : Options → ℕ → Inbound → MachineState → Answered
 too_high o n i s =
-    if is_early i then early_by (finding o s i) o n i s
+    if is_early i then early_by (checked o s i) o n i s
     else (if i.full then then_ask o n [] s
     else then_ask o n (Stash ∷ []) s)
 
@@ -117,11 +116,11 @@ too_low n i s =
 -- ---- 6. to 9. the checks: a Reject (3) and a count, and at a wrong CompID or time the end
 
 abbrev pub rejected : Fault → ℕ → Inbound → MachineState → Answered
-rejected fault n i s = answer (reject n i.header fault ∷ Expect (n + 1) ∷ []) (counted n (sent s))
+rejected fault n i s = answer (reject n (type_in i.header) fault ∷ Expect (n + 1) ∷ []) (counted n (sent s))
 
 abbrev pub rejected_and_closed : Fault → LogoutText → Refusal → ℕ → Inbound → MachineState → Answered
 rejected_and_closed fault text cause n i s =
-    answer (reject n i.header fault ∷ Expect (n + 1) ∷ Send (Logout text) ∷ Close (Refused n cause) ∷ []) (closed (sent (counted n (sent s))))
+    answer (reject n (type_in i.header) fault ∷ Expect (n + 1) ∷ Send (Logout text) ∷ Close (Refused n cause) ∷ []) (closed (sent (counted n (sent s))))
 
 -- ---- 10. by type
 
@@ -137,6 +136,14 @@ abbrev pub logged_on_again : Bool → ℕ → MachineState → Answered
 logged_on_again true n s = refuse_with text.ResetFlag n refusal.ResetAsked s
 logged_on_again false n s = count n s
 
+-- an application message is handed over, and counted
+abbrev pub handed : ℕ → MachineState → Answered
+handed n s = answer (Hand ∷ Expect (n + 1) ∷ []) (counted n s)
+
+-- a ResendRequest (2) is counted, and served
+abbrev pub resend_request : ℕ → ℕ → ℕ → MachineState → Answered
+resend_request from to n s = answer (Expect (n + 1) ∷ Serve from to ∷ []) (counted n s)
+
 -- a TestRequest (1) is answered by a Heartbeat (0) with its TestReqID (112)
 abbrev pub test_request : List ℕ → ℕ → MachineState → Answered
 test_request id n s = answer (Send (Heartbeat (Some id)) ∷ Expect (n + 1) ∷ []) (counted n (sent s))
@@ -148,18 +155,18 @@ logout n s = answer (Expect (n + 1) ∷ logout_steps s.phase n) (logged_out s.ph
 abbrev pub session_message : AdminSeen → ℕ → Inbound → MachineState → Answered
 session_message (admin.Heartbeat id) n i s = count n s
 session_message (admin.TestRequest id) n i s = test_request id n s
-session_message (admin.ResendRequest from to) n i s = answer (Expect (n + 1) ∷ Serve from to ∷ []) (counted n s)
+session_message (admin.ResendRequest from to) n i s = resend_request from to n s
 session_message (admin.Reject about) n i s = count n s
 session_message (admin.SequenceReset next gap) n i s = filled next n i s
 session_message admin.Logout n i s = logout n s
 session_message (admin.Logon heart reset version) n i s = logged_on_again i.reset n s
 
 abbrev pub by_type : VerdictSeen → ℕ → Inbound → MachineState → Answered
-by_type App n i s = answer (Hand ∷ Expect (n + 1) ∷ []) (counted n s)
+by_type App n i s = handed n s
 by_type (Admin admin) n i s = session_message admin n i s
 by_type (Bad fault) n i s = rejected fault n i s
 
-abbrev pub in_order_by : Finding → ℕ → Inbound → MachineState → Answered
+abbrev pub in_order_by : FindingSeen → ℕ → Inbound → MachineState → Answered
 in_order_by found.Fine n i s = by_type i.verdict n i s
 in_order_by (found.Reject fault) n i s = rejected fault n i s
 in_order_by (found.RejectAndClose fault text cause) n i s = rejected_and_closed fault text cause n i s
@@ -169,10 +176,10 @@ in_order_by (found.RejectAndClose fault text cause) n i s = rejected_and_closed 
 -- with a readable MsgSeqNum (34)
 abbrev pub numbered : Options → ℕ → Inbound → MachineState → Answered
 numbered o n i s =
-    if is_reset i then reset_by (finding o s i) n i s
+    if is_reset i then reset_by (checked o s i) n i s
     else (if nat_lt s.expected n then too_high o n i s
     else (if nat_lt n s.expected then too_low n i s
-    else in_order_by (finding o s i) n i s))
+    else in_order_by (checked o s i) n i s))
 
 abbrev pub by_number : Options → Option ℕ → Inbound → MachineState → Answered
 by_number o None i s = refuse_with text.NoNumber 0 refusal.NoNumber s

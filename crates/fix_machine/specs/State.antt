@@ -14,14 +14,29 @@ pub record MachineSeen : Type 0 where
   pub options : Options
   pub state : MachineState
 
--- the times are readings of the clock
-pub record IsTimed (s : MachineState) : Type 0 where
-  pub reading : s.reading ≤ LAST_TIME
-  pub begun : s.begun ≤ LAST_TIME
-  pub sent_at : s.sent_at ≤ LAST_TIME
-  pub read_at : s.read_at ≤ LAST_TIME
-  pub left_at : s.left_at ≤ LAST_TIME
-  pub test_request : IfSome s.test_request_sent_at (λ t. t ≤ LAST_TIME)
+-- the times of a state
+pub record Times : Type 0 where
+  pub reading : ℕ
+  pub begun : ℕ
+  pub sent_at : ℕ
+  pub read_at : ℕ
+  pub left_at : ℕ
+  pub test_request : Option ℕ
+
+abbrev pub times_of : MachineState → Times
+times_of s = record { reading = s.reading; begun = s.begun; sent_at = s.sent_at; read_at = s.read_at; left_at = s.left_at; test_request = s.test_request_sent_at }
+
+-- readings of the clock, up to the end of 2099
+pub record AreReadings (t : Times) : Type 0 where
+  pub reading : t.reading ≤ LAST_TIME
+  pub begun : t.begun ≤ LAST_TIME
+  pub sent_at : t.sent_at ≤ LAST_TIME
+  pub read_at : t.read_at ≤ LAST_TIME
+  pub left_at : t.left_at ≤ LAST_TIME
+  pub test_request : IfSome t.test_request (λ u. u ≤ LAST_TIME)
+
+abbrev pub IsTimed : MachineState → Type 0
+IsTimed s = AreReadings (times_of s)
 
 -- the numbers are those of a session
 pub record IsNumbered (s : MachineState) : Type 0 where
@@ -32,9 +47,19 @@ pub record IsNumbered (s : MachineState) : Type 0 where
 -- a session with no connection, over what is stored
 abbrev pub stopped_at : Options → Stored → MachineState
 stopped_at o stored = record {
-  phase = phase.Down; role = role.Acceptor; expected = stored.expected; last = stored.last; heart = o.heart;
-  resend_requested = None; reset_asked = false;
-  reading = 0; begun = 0; sent_at = 0; read_at = 0; left_at = 0; test_request_sent_at = None;
+  phase = phase.Down;
+  role = role.Acceptor;
+  expected = stored.expected;
+  last = stored.last;
+  heart = o.heart;
+  resend_requested = None;
+  reset_asked = false;
+  reading = 0;
+  begun = 0;
+  sent_at = 0;
+  read_at = 0;
+  left_at = 0;
+  test_request_sent_at = None;
 }
 
 -- the numbers are those of what is stored
@@ -47,9 +72,16 @@ read_clock now s = record s { reading = min now LAST_TIME }
 
 -- a connection begins at the last reading
 abbrev pub begun_as : Options → Role → MachineState → MachineState
-begun_as o as s = record s {
-  phase = phase.AwaitLogon; role = as; heart = o.heart; resend_requested = None;
-  begun = s.reading; sent_at = s.reading; read_at = s.reading; left_at = s.reading; test_request_sent_at = None;
+begun_as o side s = record s {
+  phase = phase.AwaitLogon;
+  role = side;
+  heart = o.heart;
+  resend_requested = None;
+  begun = s.reading;
+  sent_at = s.reading;
+  read_at = s.reading;
+  left_at = s.reading;
+  test_request_sent_at = None;
 }
 
 -- a message was read

@@ -1,81 +1,136 @@
-ghost use Rattle.std.specs.Prelude.{◌≡◌, ◌≤◌, map, option_map};
+ghost use Rattle.std.specs.Prelude.{◌≡◌, ◌≤◌, ◌∷◌, [], option_map};
 ghost use Rattle.fix_admin.specs.Values.{fault_of};
 ghost use Rattle.fix_fields.specs.Header.{header_of};
-ghost use Rattle.fix_machine.specs.Event.{step_seen};
-ghost use Rattle.fix_machine.specs.Answer.{Answers, refuse, refuse_with, reject, ask_step};
+ghost use Rattle.fix_machine.specs.declared.answer.Task.TheVariants.{Nothing};
+ghost use Rattle.fix_machine.specs.Answer.{Texts, answered_by, task_seen, wrong_seen, planned, refuse, refuse_with};
 ghost use Rattle.fix_machine.specs.Answer as answers;
 ghost use Rattle.fix_machine.specs.State as states;
 ghost use Rattle.fix_machine.specs.State.{number_after};
 
-use crate::state::LAST_TIME;
-use crate::{MachineState, Options, Phase, Refusal, Requested, Step, Why};
-use fix_admin::{LogoutText, Say};
-use fix_base::{Fault, Identity, LAST_SEQ_NUM, SeqNum, Tag};
+use crate::limits::{LAST_SEQ_NUM, LAST_TIME};
+use crate::{MachineState, Options, Phase, Refusal, Requested, Why};
+use fix_admin::LogoutText;
+use fix_base::{Identity, SeqNum};
 use fix_fields::Envelope;
 
-/// The steps of an answer, and the state after it.
+/// One thing to do, as a step without the texts that it gives back: the MsgType (35) and the
+/// TestReqID (112) of the message that it answers.
+#[derive(Clone, Copy, Debug, PartialEq, Eq)]
+pub enum Task {
+    /// Heartbeat (0) without TestReqID (112).
+    Heartbeat,
+    /// Heartbeat (0) with the TestReqID (112) of the message.
+    HeartbeatBack,
+    TestRequest,
+    ResendRequest {
+        from: u32,
+        to: u32,
+    },
+    Reject {
+        about: u32,
+        reason: u16,
+        tag: Option<u32>,
+    },
+    Logout {
+        text: LogoutText,
+    },
+    Logon {
+        heart: u32,
+        reset: bool,
+        version: Option<u8>,
+    },
+    Serve {
+        from: u32,
+        to: u32,
+    },
+    Hand,
+    Stash,
+    Expect(u32),
+    Reset,
+    Confirm,
+    Close(Why),
+    Nothing,
+}
+
+/// The steps of an answer in order, and the state after it.
 #[derive(Clone, Copy)]
-pub struct Answer<'a> {
-    pub steps: [Step<'a>; 4],
+pub struct Answer {
+    pub first: Task,
+    pub second: Task,
+    pub third: Task,
+    pub fourth: Task,
     pub next: MachineState,
 }
 
 // Nothing is done.
-pub fn silent<'a>(state: MachineState) -> Answer<'a>
-    ensures { Answers result (answers.silent state) }
+pub fn silent(next: MachineState) -> Answer
+    ensures { (t : Texts) → answered_by t result ≡ answers.silent next }
+{
+    four(
+        Task::Nothing,
+        Task::Nothing,
+        Task::Nothing,
+        Task::Nothing,
+        next,
+    )
+}
+
+// One step.
+pub fn one(first: Task, next: MachineState) -> Answer
+    ensures { result ≡ planned first Nothing Nothing Nothing next }
+{
+    four(first, Task::Nothing, Task::Nothing, Task::Nothing, next)
+}
+
+pub fn two(first: Task, second: Task, next: MachineState) -> Answer
+    ensures { result ≡ planned first second Nothing Nothing next }
+{
+    four(first, second, Task::Nothing, Task::Nothing, next)
+}
+
+pub fn three(first: Task, second: Task, third: Task, next: MachineState) -> Answer
+    ensures { result ≡ planned first second third Nothing next }
+{
+    four(first, second, third, Task::Nothing, next)
+}
+
+pub fn four(first: Task, second: Task, third: Task, fourth: Task, next: MachineState) -> Answer
+    ensures { result ≡ planned first second third fourth next }
 {
     Answer {
-        steps: [Step::Nothing, Step::Nothing, Step::Nothing, Step::Nothing],
-        next: state,
+        first,
+        second,
+        third,
+        fourth,
+        next,
     }
 }
 
 // The message is refused, and the connection closed.
-pub fn refused<'a>(number: u32, cause: Refusal, state: MachineState) -> Answer<'a>
-    ensures { Answers result (refuse number cause state) }
+pub fn refused(number: u32, cause: Refusal, state: MachineState) -> Answer
+    ensures { (t : Texts) → answered_by t result ≡ refuse number cause state }
 {
     let why = Why::Refused { number, cause };
-    Answer {
-        steps: [
-            Step::Close(why),
-            Step::Nothing,
-            Step::Nothing,
-            Step::Nothing,
-        ],
-        next: closed(state),
-    }
+    one(Task::Close(why), closed(state))
 }
 
 // The same after a Logout (5) with a text.
-pub fn refused_with<'a>(
-    text: LogoutText,
-    number: u32,
-    cause: Refusal,
-    state: MachineState,
-) -> Answer<'a>
-    ensures { Answers result (refuse_with text number cause state) }
+pub fn refused_with(text: LogoutText, number: u32, cause: Refusal, state: MachineState) -> Answer
+    ensures { (t : Texts) → answered_by t result ≡ refuse_with text number cause state }
 {
     let why = Why::Refused { number, cause };
-    Answer {
-        steps: [
-            Step::Send(Say::Logout { text }),
-            Step::Close(why),
-            Step::Nothing,
-            Step::Nothing,
-        ],
-        next: closed(sent(state)),
-    }
+    two(Task::Logout { text }, Task::Close(why), closed(sent(state)))
 }
 
 // A Reject (3) of the message with this number.
-pub fn reject<'a>(number: u32, head: &Envelope<'a>, fault: Fault) -> Step<'a>
-    ensures { step_seen result ≡ answers.reject number (header_of head.now) fault }
+pub fn reject(number: u32, fault: Wrong) -> Task
+    ensures { (t : Texts) → task_seen t result ≡ answers.reject number t.type (wrong_seen fault) }
 {
-    Step::Send(Say::Reject {
+    Task::Reject {
         about: number,
-        kind: head.kind,
-        fault,
-    })
+        reason: fault.reason,
+        tag: fault.tag,
+    }
 }
 
 // EndSeqNo (16) of a ResendRequest (2) for the gap that the number shows.
@@ -90,13 +145,13 @@ pub fn end_of(chunk: u32, expected: u32, number: u32) -> u32
 }
 
 // A ResendRequest (2) for the gap that the number shows.
-pub fn ask_step<'a>(options: &Options, number: u32, state: &MachineState) -> Step<'a>
-    ensures { step_seen result ≡ answers.ask_step options.now number state.now }
+pub fn ask_step(options: &Options, number: u32, state: &MachineState) -> Task
+    ensures { (t : Texts) → task_seen t result ≡ answers.ask_step options.now number state.now }
 {
-    Step::Send(Say::ResendRequest {
+    Task::ResendRequest {
         from: state.expected,
         to: end_of(options.chunk, state.expected, number),
-    })
+    }
 }
 
 // The gap is asked for.
@@ -139,15 +194,22 @@ pub fn readable(number: Option<SeqNum>) -> u32
     }
 }
 
-// SessionRejectReason (373) and RefTagID (371).
-pub fn fault(reason: u16, tag: u32) -> Fault
+/// SessionRejectReason (373) and RefTagID (371), as numbers.
+#[derive(Clone, Copy, Debug, PartialEq, Eq)]
+pub struct Wrong {
+    pub reason: u16,
+    pub tag: Option<u32>,
+}
+
+// A fault at a tag.
+pub fn wrong_at(reason: u16, tag: u32) -> Wrong
     requires first { 1 ≤ tag }
     requires last { tag ≤ 999999999 }
-    ensures { result ≡ fault_of reason tag }
+    ensures { wrong_seen result ≡ fault_of reason tag }
 {
-    Fault {
+    Wrong {
         reason,
-        tag: Tag::new(tag),
+        tag: Some(tag),
     }
 }
 

@@ -2,26 +2,27 @@ ghost use Rattle.std.specs.Prelude.{◌≡◌, ◌≤◌, ◌<◌, ◌∷◌, []
 ghost use Rattle.fix_base.specs.Payload.{LAST_TIME};
 ghost use Rattle.fix_fields.specs.Header.{header_of};
 ghost use Rattle.fix_admin.specs.Admin.{admin_seen};
-ghost use Rattle.fix_machine.specs.Event.{verdict_seen, step_seen};
+ghost use Rattle.fix_machine.specs.Event.{verdict_seen};
 ghost use Rattle.fix_machine.specs.Read.{inbound_seen};
-ghost use Rattle.fix_machine.specs.Answer.{Answers, padded};
+ghost use Rattle.fix_machine.specs.Answer.{Texts, answered_by, texts_of, task_seen, padded};
 ghost use Rattle.fix_machine.specs.State as states;
 ghost use Rattle.fix_machine.specs.AwaitLogon as table;
 
 use crate::answer::{
-    Answer, ask_step, asked, counted, is_named, is_of_session, readable, refused, refused_with, sent,
+    Answer, Task, ask_step, asked, counted, is_named, is_of_session, one, readable, refused,
+    refused_with, sent, three, two,
 };
 use crate::checks::is_timely;
 use crate::inbound::Inbound;
-use crate::{MachineState, Options, Phase, Refusal, Role, Step, Verdict};
-use fix_admin::{Admin, LogoutText, Say};
+use crate::{MachineState, Options, Phase, Refusal, Role, Verdict};
+use fix_admin::{Admin, LogoutText};
 use fix_base::{Identity, SeqNum};
 use fix_fields::Envelope;
 
 // The first message on a connection.
-pub fn await_logon<'a>(options: &Options, state: MachineState, inbound: &Inbound<'a>) -> Answer<'a>
+pub fn await_logon(options: &Options, state: MachineState, inbound: &Inbound<'_>) -> Answer
     requires reading { state.reading ≤ LAST_TIME }
-    ensures { Answers result (table.await_logon options.now state (inbound_seen inbound.now)) }
+    ensures { answered_by (texts_of (inbound_seen inbound.now)) result ≡ table.await_logon options.now state (inbound_seen inbound.now) }
 {
     let number = readable(inbound.head.number);
     if inbound.head.kind != b"A".as_slice() {
@@ -37,14 +38,14 @@ pub fn await_logon<'a>(options: &Options, state: MachineState, inbound: &Inbound
 }
 
 // With a readable MsgSeqNum (34).
-fn numbered_answer<'a>(
+fn numbered_answer(
     options: &Options,
     number: SeqNum,
     state: MachineState,
-    inbound: &Inbound<'a>,
-) -> Answer<'a>
+    inbound: &Inbound<'_>,
+) -> Answer
     requires reading { state.reading ≤ LAST_TIME }
-    ensures { Answers result (table.numbered_answer options.now number state (inbound_seen inbound.now)) }
+    ensures { answered_by (texts_of (inbound_seen inbound.now)) result ≡ table.numbered_answer options.now number state (inbound_seen inbound.now) }
 {
     let n = number.get();
     if is_too_low(options, n, &state, inbound.reset) {
@@ -60,7 +61,7 @@ fn numbered_answer<'a>(
     if !is_near(options.latency, state.reading, inbound.sent) {
         return refused(n, Refusal::SendingTime, state);
     }
-    let heart = heart_in(options, &inbound.verdict);
+    let heart = heart_in(options, inbound.verdict);
     logon_answer(heart, options, inbound.reset, number, state)
 }
 
@@ -149,14 +150,14 @@ fn has_version(own: Option<u8>, read: Option<u8>) -> bool
 }
 
 // ResetSeqNumFlag (141) stands in a Logon of number 1 alone.
-fn logon_answer<'a>(
+fn logon_answer(
     heart: Option<u32>,
     options: &Options,
     reset: bool,
     number: SeqNum,
     state: MachineState,
-) -> Answer<'a>
-    ensures { Answers result (table.logon_answer heart options.now reset number state) }
+) -> Answer
+    ensures { (t : Texts) → answered_by t result ≡ table.logon_answer heart options.now reset number state }
 {
     let n = number.get();
     let Some(heart) = heart else {
@@ -172,100 +173,76 @@ fn logon_answer<'a>(
 }
 
 // The answer of an acceptor.
-fn acceptor_answer<'a>(
+fn acceptor_answer(
     options: &Options,
     reset: bool,
     number: SeqNum,
     heart: u32,
     state: MachineState,
-) -> Answer<'a>
-    ensures { Answers result (table.acceptor_answer options.now reset number heart state) }
+) -> Answer
+    ensures { (t : Texts) → answered_by t result ≡ table.acceptor_answer options.now reset number heart state }
 {
     let n = number.get();
     if reset {
         let next = counted(n, answered(heart, emptied(state)));
-        return Answer {
-            steps: [
-                Step::Reset,
-                logon(options, heart, true),
-                Step::Expect(n + 1),
-                Step::Nothing,
-            ],
+        return three(
+            Task::Reset,
+            logon(options, heart, true),
+            Task::Expect(n + 1),
             next,
-        };
+        );
     }
     if options.reset_on_logon {
         let up = answered(heart, emptied(state));
-        return Answer {
-            steps: [
-                Step::Reset,
-                logon(options, heart, false),
-                count_or_ask(options, number, &up),
-                Step::Nothing,
-            ],
-            next: counted_or_asked(options, number, up),
-        };
-    }
-    let up = answered(heart, state);
-    Answer {
-        steps: [
+        return three(
+            Task::Reset,
             logon(options, heart, false),
             count_or_ask(options, number, &up),
-            Step::Nothing,
-            Step::Nothing,
-        ],
-        next: counted_or_asked(options, number, up),
+            counted_or_asked(options, number, up),
+        );
     }
+    let up = answered(heart, state);
+    two(
+        logon(options, heart, false),
+        count_or_ask(options, number, &up),
+        counted_or_asked(options, number, up),
+    )
 }
 
 // The answer of an initiator.
-fn initiator_answer<'a>(
-    options: &Options,
-    reset: bool,
-    number: SeqNum,
-    state: MachineState,
-) -> Answer<'a>
-    ensures { Answers result (table.initiator_answer options.now reset number state) }
+fn initiator_answer(options: &Options, reset: bool, number: SeqNum, state: MachineState) -> Answer
+    ensures { (t : Texts) → answered_by t result ≡ table.initiator_answer options.now reset number state }
 {
     let n = number.get();
     if state.reset_asked {
         if !reset {
             return refused(n, Refusal::ResetUnanswered, state);
         }
-        return Answer {
-            steps: [
-                Step::Confirm,
-                Step::Expect(n + 1),
-                Step::Nothing,
-                Step::Nothing,
-            ],
-            next: counted(n, confirmed(state)),
-        };
+        return two(
+            Task::Confirm,
+            Task::Expect(n + 1),
+            counted(n, confirmed(state)),
+        );
     }
     if reset {
         return refused(n, Refusal::ResetAsked, state);
     }
     let up = logged_on(state);
-    Answer {
-        steps: [
-            count_or_ask(options, number, &up),
-            Step::Nothing,
-            Step::Nothing,
-            Step::Nothing,
-        ],
-        next: counted_or_asked(options, number, up),
-    }
+    one(
+        count_or_ask(options, number, &up),
+        counted_or_asked(options, number, up),
+    )
 }
 
 // The Logon is counted, or the messages before it are asked for.
-fn count_or_ask<'a>(options: &Options, number: SeqNum, state: &MachineState) -> Step<'a>
-    ensures { step_seen result ≡ table.count_or_ask options.now number state.now }
+fn count_or_ask(options: &Options, number: SeqNum, state: &MachineState) -> Task
+    ensures { (t : Texts) → task_seen t result ≡ table.count_or_ask options.now number state.now }
 {
     let n = number.get();
     if state.expected < n {
         ask_step(options, n, state)
     } else {
-        Step::Expect(n + 1)
+        Task::Expect(n + 1)
     }
 }
 
@@ -281,14 +258,14 @@ fn counted_or_asked(options: &Options, number: SeqNum, state: MachineState) -> M
 }
 
 // The Logon that answers one.
-fn logon<'a>(options: &Options, heart: u32, reset: bool) -> Step<'a>
-    ensures { step_seen result ≡ table.logon options.now heart reset }
+fn logon(options: &Options, heart: u32, reset: bool) -> Task
+    ensures { (t : Texts) → task_seen t result ≡ table.logon options.now heart reset }
 {
-    Step::Send(Say::Logon {
+    Task::Logon {
         heart,
         reset,
         version: options.version,
-    })
+    }
 }
 
 // ---- how the state changes

@@ -1,11 +1,13 @@
-ghost use Rattle.std.specs.Prelude.{◌≡◌, ◌≤◌, Some, option_map};
+ghost use Rattle.std.specs.Prelude.{◌≡◌, ◌≤◌, option_map};
 ghost use Rattle.fix_base.specs.Payload.{LAST_TIME};
 ghost use Rattle.fix_fields.specs.Header.{header_of};
 ghost use Rattle.fix_machine.specs.Event.{verdict_seen};
 ghost use Rattle.fix_machine.specs.Checks as checks;
+ghost use Rattle.fix_machine.specs.Checks.{finding_seen};
+ghost use Rattle.fix_machine.specs.Answer.{wrong_seen};
 ghost use Rattle.fix_machine.specs.Read.{inbound_seen};
 
-use crate::answer::{fault, is_named};
+use crate::answer::{Wrong, is_named, wrong_at};
 use crate::event::Refusal;
 use crate::inbound::Inbound;
 use crate::{MachineState, Options, Verdict};
@@ -19,19 +21,19 @@ pub enum Finding {
     /// Nothing.
     Fine,
     /// The message is to be rejected.
-    Reject(Fault),
+    Reject(Wrong),
     /// The message is to be rejected, and the connection closed.
     RejectAndClose {
-        fault: Fault,
+        fault: Wrong,
         text: LogoutText,
         cause: Refusal,
     },
 }
 
 // The checks in their order: CompIDs, then times, then content.
-pub fn finding(options: &Options, state: &MachineState, inbound: &Inbound<'_>) -> Finding
+pub fn checked(options: &Options, state: &MachineState, inbound: &Inbound<'_>) -> Finding
     requires { state.now.reading ≤ LAST_TIME }
-    ensures { result ≡ checks.finding options.now state.now (inbound_seen inbound.now) }
+    ensures { finding_seen result ≡ checks.checked options.now state.now (inbound_seen inbound.now) }
 {
     match comp_ids(&options.identity, inbound.head) {
         Finding::Fine => times(options, state, inbound),
@@ -42,9 +44,14 @@ pub fn finding(options: &Options, state: &MachineState, inbound: &Inbound<'_>) -
 // SendingTime (52), and what stands after it.
 fn times(options: &Options, state: &MachineState, inbound: &Inbound<'_>) -> Finding
     requires { state.now.reading ≤ LAST_TIME }
-    ensures { result ≡ checks.times options.now state.now (inbound_seen inbound.now) }
+    ensures { finding_seen result ≡ checks.times options.now state.now (inbound_seen inbound.now) }
 {
-    match sending_time(options.latency, state.reading, inbound.head.sent, inbound.sent) {
+    match sending_time(
+        options.latency,
+        state.reading,
+        inbound.head.sent,
+        inbound.sent,
+    ) {
         Finding::Fine => marks(inbound),
         found => found,
     }
@@ -52,23 +59,23 @@ fn times(options: &Options, state: &MachineState, inbound: &Inbound<'_>) -> Find
 
 // PossDupFlag (43), and the content.
 fn marks(inbound: &Inbound<'_>) -> Finding
-    ensures { result ≡ checks.marks (inbound_seen inbound.now) }
+    ensures { finding_seen result ≡ checks.marks (inbound_seen inbound.now) }
 {
     match poss_dup(inbound, inbound.head.dup) {
-        Finding::Fine => content(&inbound.verdict),
+        Finding::Fine => content(inbound.verdict),
         found => found,
     }
 }
 
 // SenderCompID (49) and TargetCompID (56).
 fn comp_ids(identity: &Identity, head: &Envelope<'_>) -> Finding
-    ensures { result ≡ checks.comp_ids identity.now (header_of head.now) }
+    ensures { finding_seen result ≡ checks.comp_ids identity.now (header_of head.now) }
 {
     if head.sender.is_none() {
-        return Finding::Reject(fault(1, 49));
+        return Finding::Reject(wrong_at(1, 49));
     }
     if head.target.is_none() {
-        return Finding::Reject(fault(1, 56));
+        return Finding::Reject(wrong_at(1, 56));
     }
     if !is_named(head.sender, identity.target.as_slice()) {
         return wrong_comp_id(49);
@@ -82,10 +89,10 @@ fn comp_ids(identity: &Identity, head: &Envelope<'_>) -> Finding
 fn wrong_comp_id(tag: u32) -> Finding
     requires first { 1 ≤ tag }
     requires last { tag ≤ 999999999 }
-    ensures { result ≡ checks.wrong_comp_id tag }
+    ensures { finding_seen result ≡ checks.wrong_comp_id tag }
 {
     Finding::RejectAndClose {
-        fault: fault(9, tag),
+        fault: wrong_at(9, tag),
         text: LogoutText::CompId,
         cause: Refusal::CompId,
     }
@@ -109,10 +116,10 @@ pub fn is_timely(latency: Option<u32>, reading: u64, time: i64) -> bool
 fn wrong_time(tag: u32) -> Finding
     requires first { 1 ≤ tag }
     requires last { tag ≤ 999999999 }
-    ensures { result ≡ checks.wrong_time tag }
+    ensures { finding_seen result ≡ checks.wrong_time tag }
 {
     Finding::RejectAndClose {
-        fault: fault(10, tag),
+        fault: wrong_at(10, tag),
         text: LogoutText::SendingTime,
         cause: Refusal::SendingTime,
     }
@@ -126,13 +133,13 @@ fn sending_time(
     time: Option<i64>,
 ) -> Finding
     requires { reading ≤ LAST_TIME }
-    ensures { result ≡ checks.sending_time latency reading (option_map (λ v. v.now) value.entry) time }
+    ensures { finding_seen result ≡ checks.sending_time latency reading (option_map (λ v. v.now) value.entry) time }
 {
     if value.is_none() {
-        return Finding::Reject(fault(1, 52));
+        return Finding::Reject(wrong_at(1, 52));
     }
     let Some(time) = time else {
-        return Finding::Reject(fault(6, 52));
+        return Finding::Reject(wrong_at(6, 52));
     };
     if is_timely(latency, reading, time) {
         Finding::Fine
@@ -143,13 +150,13 @@ fn sending_time(
 
 // OrigSendingTime (122) of a message that is sent again.
 fn orig_sending_time(value: Option<&[u8]>, time: Option<i64>, sent: Option<i64>) -> Finding
-    ensures { result ≡ checks.orig_sending_time (option_map (λ v. v.now) value.entry) time sent }
+    ensures { finding_seen result ≡ checks.orig_sending_time (option_map (λ v. v.now) value.entry) time sent }
 {
     if value.is_none() {
-        return Finding::Reject(fault(1, 122));
+        return Finding::Reject(wrong_at(1, 122));
     }
     let Some(time) = time else {
-        return Finding::Reject(fault(6, 122));
+        return Finding::Reject(wrong_at(6, 122));
     };
     if is_later(time, sent) {
         wrong_time(122)
@@ -170,7 +177,7 @@ fn is_later(time: i64, sent: Option<i64>) -> bool
 
 // PossDupFlag (43).
 fn poss_dup(inbound: &Inbound<'_>, value: Option<&[u8]>) -> Finding
-    ensures { result ≡ checks.poss_dup (inbound_seen inbound.now) (option_map (λ v. v.now) value.entry) }
+    ensures { finding_seen result ≡ checks.poss_dup (inbound_seen inbound.now) (option_map (λ v. v.now) value.entry) }
 {
     let Some(value) = value else {
         return Finding::Fine;
@@ -181,16 +188,32 @@ fn poss_dup(inbound: &Inbound<'_>, value: Option<&[u8]>) -> Finding
     if value == b"Y".as_slice() {
         return orig_sending_time(inbound.head.first_sent, inbound.first_sent, inbound.sent);
     }
-    Finding::Reject(fault(6, 43))
+    Finding::Reject(wrong_at(6, 43))
 }
 
 // The fault that reading or validation found.
 fn content(verdict: &Verdict<'_>) -> Finding
-    ensures { result ≡ checks.content (verdict_seen verdict.now) }
+    ensures { finding_seen result ≡ checks.content (verdict_seen verdict.now) }
 {
     match verdict {
         Verdict::App => Finding::Fine,
         Verdict::Admin(_) => Finding::Fine,
-        Verdict::Bad(fault) => Finding::Reject(*fault),
+        Verdict::Bad(fault) => Finding::Reject(wrong_of(fault)),
+    }
+}
+
+// A fault as its numbers.
+pub fn wrong_of(fault: &Fault) -> Wrong
+    ensures { wrong_seen result ≡ fault.now }
+{
+    match fault.tag {
+        None => Wrong {
+            reason: fault.reason,
+            tag: None,
+        },
+        Some(tag) => Wrong {
+            reason: fault.reason,
+            tag: Some(tag.get()),
+        },
     }
 }

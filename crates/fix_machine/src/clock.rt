@@ -1,12 +1,12 @@
 ghost use Rattle.std.specs.Prelude.{◌≡◌, ◌≤◌};
 ghost use Rattle.fix_machine.specs.State.{IsTimed};
 ghost use Rattle.fix_base.specs.Payload.{LAST_TIME};
-ghost use Rattle.fix_machine.specs.Answer.{Answers};
+ghost use Rattle.fix_machine.specs.Answer.{Texts, answered_by, texts_of, task_seen};
 ghost use Rattle.fix_machine.specs.Clock as table;
 
-use crate::answer::{Answer, closed, sent, silent};
-use crate::{MachineState, Options, Phase, Step, Why};
-use fix_admin::{LogoutText, Say};
+use crate::answer::{Answer, Task, closed, one, sent, silent, two};
+use crate::{MachineState, Options, Phase, Why};
+use fix_admin::LogoutText;
 
 /// What a reading of the clock brings.
 #[derive(Clone, Copy, Debug, PartialEq, Eq)]
@@ -24,9 +24,9 @@ pub enum Due {
 }
 
 // A reading of the clock, which is the last one by now.
-pub fn clock<'a>(options: &Options, state: MachineState, inside: bool) -> Answer<'a>
+pub fn clock(options: &Options, state: MachineState, inside: bool) -> Answer
     requires { IsTimed state }
-    ensures { Answers result (table.clock options.now state inside) }
+    ensures { (t : Texts) → answered_by t result ≡ table.clock options.now state inside }
 {
     if inside {
         due_answer(due_at(options, &state, state.reading), state)
@@ -36,41 +36,29 @@ pub fn clock<'a>(options: &Options, state: MachineState, inside: bool) -> Answer
 }
 
 // The session's time is over.
-fn out_of_window<'a>(state: MachineState) -> Answer<'a>
-    ensures { Answers result (table.out_of_window state.phase state.reading state) }
+fn out_of_window(state: MachineState) -> Answer
+    ensures { (t : Texts) → answered_by t result ≡ table.out_of_window state.phase state.reading state }
 {
     let why = Why::OutOfWindow { now: state.reading };
     match state.phase {
         Phase::Down => silent(state),
         Phase::AwaitLogon => closed_by(why, state),
-        Phase::Up => Answer {
-            steps: [
-                Step::Send(Say::Logout {
-                    text: LogoutText::OutOfWindow,
-                }),
-                Step::Close(why),
-                Step::Nothing,
-                Step::Nothing,
-            ],
-            next: closed(sent(state)),
-        },
+        Phase::Up => two(
+            Task::Logout {
+                text: LogoutText::OutOfWindow,
+            },
+            Task::Close(why),
+            closed(sent(state)),
+        ),
         Phase::LogoutSent => closed_by(why, state),
     }
 }
 
 // The connection is closed.
-fn closed_by<'a>(why: Why, state: MachineState) -> Answer<'a>
-    ensures { Answers result (table.closed_by why state) }
+fn closed_by(why: Why, state: MachineState) -> Answer
+    ensures { (t : Texts) → answered_by t result ≡ table.closed_by why state }
 {
-    Answer {
-        steps: [
-            Step::Close(why),
-            Step::Nothing,
-            Step::Nothing,
-            Step::Nothing,
-        ],
-        next: closed(state),
-    }
+    one(Task::Close(why), closed(state))
 }
 
 // What is due at the reading.
@@ -139,8 +127,8 @@ fn is_silent(heart: u32, since: u64, now: u64) -> bool
 }
 
 // The answer to what is due.
-fn due_answer<'a>(due: Option<Due>, state: MachineState) -> Answer<'a>
-    ensures { Answers result (table.due_answer due state) }
+fn due_answer(due: Option<Due>, state: MachineState) -> Answer
+    ensures { (t : Texts) → answered_by t result ≡ table.due_answer due state }
 {
     let now = state.reading;
     match due {
@@ -160,26 +148,13 @@ fn due_answer<'a>(due: Option<Due>, state: MachineState) -> Answer<'a>
             state,
         ),
         Some(Due::Silent(since)) => closed_by(Why::Silent { since, now }, state),
-        Some(Due::TestRequest) => Answer {
-            steps: [
-                Step::Send(Say::TestRequest),
-                Step::Nothing,
-                Step::Nothing,
-                Step::Nothing,
-            ],
-            next: MachineState {
+        Some(Due::TestRequest) => one(
+            Task::TestRequest,
+            MachineState {
                 test_request_sent_at: Some(now),
                 ..sent(state)
             },
-        },
-        Some(Due::Heartbeat) => Answer {
-            steps: [
-                Step::Send(Say::Heartbeat { id: None }),
-                Step::Nothing,
-                Step::Nothing,
-                Step::Nothing,
-            ],
-            next: sent(state),
-        },
+        ),
+        Some(Due::Heartbeat) => one(Task::Heartbeat, sent(state)),
     }
 }

@@ -4,7 +4,7 @@ ghost use Rattle.fix_machine.specs.State.{IsTimed};
 ghost use Rattle.fix_machine.specs.Deadline as deadlines;
 ghost use Rattle.fix_machine.specs.Deadline.{IsFirst, IsDeadline, has_passed, earlier};
 
-use crate::state::LAST_TIME;
+use crate::limits::LAST_TIME;
 use crate::{MachineState, Options, Phase};
 
 /// The least reading after the last one, up to the end of 2099, that brings something.
@@ -15,7 +15,11 @@ pub fn deadline(options: &Options, state: &MachineState) -> Option<u64>
     match state.phase {
         Phase::Down => None,
         Phase::AwaitLogon => {
-            first_from(state, state.begun, 1_000_000 * u64::from(options.logon_timeout))
+            first_from(
+                state,
+                state.begun,
+                1_000_000 * u64::from(options.logon_timeout),
+            )
         }
         Phase::LogoutSent => first_from(
             state,

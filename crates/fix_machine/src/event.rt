@@ -18,7 +18,10 @@ pub enum Verdict<'a> {
 #[derive(Clone, Copy, Debug)]
 pub enum Event<'a> {
     /// A connection begins, at this reading of the clock.
-    Begin { role: Role, now: u64 },
+    Begin {
+        role: Role,
+        now: u64,
+    },
     /// The first turn of a connection that this session opened.
     First,
     /// A message was read, or one that waited has the expected number now.
@@ -44,11 +47,15 @@ pub enum Event<'a> {
         inside: bool,
     },
     /// The session is to leave, at this reading.
-    Leave { now: u64 },
+    Leave {
+        now: u64,
+    },
     /// The connection ended by the other side, or by a fault.
     Ended,
     /// A draft or a BusinessMessageReject (j) was sent, at this reading.
-    Wrote { now: u64 },
+    Wrote {
+        now: u64,
+    },
 }
 
 /// Why a message is refused and the connection closed.
@@ -115,8 +122,12 @@ pub enum Step<'a> {
     Nothing,
 }
 
-/// The answer to an event: its steps, in order.
+/// The answer to an event: its steps, in order. Those that are not used are `Nothing`, and stand
+/// last.
 #[derive(Clone, Copy, Debug, PartialEq, Eq)]
 pub struct Decision<'a> {
-    pub steps: [Step<'a>; 4],
+    pub first: Step<'a>,
+    pub second: Step<'a>,
+    pub third: Step<'a>,
+    pub fourth: Step<'a>,
 }

@@ -9,7 +9,7 @@ pub struct Inbound<'a> {
     pub sent: Option<i64>,
     /// OrigSendingTime (122), likewise.
     pub first_sent: Option<i64>,
-    pub verdict: Verdict<'a>,
+    pub verdict: &'a Verdict<'a>,
     /// Whether there is no room for this message among those that wait.
     pub full: bool,
     /// Whether the first GapFillFlag (123) is Y.

@@ -16,6 +16,7 @@ mod deadline;
 mod event;
 mod inbound;
 mod laws;
+mod limits;
 mod logged_on;
 mod machine;
 mod state;

@@ -2,35 +2,31 @@ ghost use Rattle.std.specs.Prelude.{◌≡◌, ◌≤◌, ◌∷◌, []};
 ghost use Rattle.fix_base.specs.Payload.{LAST_TIME};
 ghost use Rattle.fix_fields.specs.Header.{header_of};
 ghost use Rattle.fix_admin.specs.Admin.{admin_seen};
-ghost use Rattle.fix_machine.specs.Event.{verdict_seen, step_seen};
+ghost use Rattle.fix_machine.specs.Event.{verdict_seen};
 ghost use Rattle.fix_machine.specs.Event as seen;
 ghost use Rattle.fix_machine.specs.Read.{inbound_seen};
-ghost use Rattle.fix_machine.specs.Answer.{Answers};
+ghost use Rattle.fix_machine.specs.Answer.{Texts, answered_by, texts_of, task_seen, wrong_seen};
+ghost use Rattle.fix_machine.specs.Checks.{finding_seen};
 ghost use Rattle.fix_machine.specs.LoggedOn as table;
 
 use crate::answer::{
-    Answer, ask_step, asked, closed, counted, expecting, fault, is_named, is_of_session, readable,
-    refused_with, reject, sent, silent,
+    Answer, Task, Wrong, ask_step, asked, closed, counted, expecting, four, is_named,
+    is_of_session, one, readable, refused_with, reject, sent, silent, three, two, wrong_at,
 };
-use crate::checks::{Finding, finding};
+use crate::checks::{Finding, checked, wrong_of};
 use crate::inbound::Inbound;
-use crate::{MachineState, Options, Phase, Refusal, Step, Verdict, Why};
-use fix_admin::{Admin, LogoutText, Say};
-use fix_base::{Fault, SeqNum};
+use crate::{MachineState, Options, Phase, Refusal, Verdict, Why};
+use fix_admin::{Admin, LogoutText};
+use fix_base::SeqNum;
 
 // A message after the Logon.
-pub fn logged_on<'a>(options: &Options, state: MachineState, inbound: &Inbound<'a>) -> Answer<'a>
+pub fn logged_on(options: &Options, state: MachineState, inbound: &Inbound<'_>) -> Answer
     requires reading { state.reading ≤ LAST_TIME }
-    ensures { Answers result (table.logged_on options.now state (inbound_seen inbound.now)) }
+    ensures { answered_by (texts_of (inbound_seen inbound.now)) result ≡ table.logged_on options.now state (inbound_seen inbound.now) }
 {
     if !is_of_session(&options.identity, inbound.head) {
         let number = readable(inbound.head.number);
-        return refused_with(
-            LogoutText::BeginString,
-            number,
-            Refusal::BeginString,
-            state,
-        );
+        return refused_with(LogoutText::BeginString, number, Refusal::BeginString, state);
     }
     match inbound.head.number {
         None => refused_with(LogoutText::NoNumber, 0, Refusal::NoNumber, state),
@@ -39,18 +35,13 @@ pub fn logged_on<'a>(options: &Options, state: MachineState, inbound: &Inbound<'
 }
 
 // With a readable MsgSeqNum (34).
-fn numbered<'a>(
-    options: &Options,
-    number: SeqNum,
-    inbound: &Inbound<'a>,
-    state: MachineState,
-) -> Answer<'a>
+fn numbered(options: &Options, number: SeqNum, inbound: &Inbound<'_>, state: MachineState) -> Answer
     requires reading { state.reading ≤ LAST_TIME }
-    ensures { Answers result (table.numbered options.now number (inbound_seen inbound.now) state) }
+    ensures { answered_by (texts_of (inbound_seen inbound.now)) result ≡ table.numbered options.now number (inbound_seen inbound.now) state }
 {
     let n = number.get();
     if is_reset(inbound) {
-        let found = finding(options, &state, inbound);
+        let found = checked(options, &state, inbound);
         return reset_by(found, n, inbound, state);
     }
     if state.expected < n {
@@ -59,7 +50,7 @@ fn numbered<'a>(
     if n < state.expected {
         return too_low(n, inbound, state);
     }
-    let found = finding(options, &state, inbound);
+    let found = checked(options, &state, inbound);
     in_order_by(found, number, inbound, state)
 }
 
@@ -71,71 +62,29 @@ fn is_reset(inbound: &Inbound<'_>) -> bool
     inbound.head.kind == b"4".as_slice() && !inbound.gap
 }
 
-fn reset_by<'a>(
-    found: Finding,
-    number: u32,
-    inbound: &Inbound<'a>,
-    state: MachineState,
-) -> Answer<'a>
-    ensures { Answers result (table.reset_by found number (inbound_seen inbound.now) state) }
+fn reset_by(found: Finding, number: u32, inbound: &Inbound<'_>, state: MachineState) -> Answer
+    ensures { answered_by (texts_of (inbound_seen inbound.now)) result ≡ table.reset_by (finding_seen found) number (inbound_seen inbound.now) state }
 {
     match found {
-        Finding::Fine => reset_to(
-            new_seq_no_in(&inbound.verdict),
-            number,
-            inbound,
-            state,
+        Finding::Fine => reset_to(new_seq_no_in(inbound.verdict), number, inbound, state),
+        Finding::Reject(fault) => one(reject(number, fault), sent(state)),
+        Finding::RejectAndClose { fault, text, cause } => three(
+            reject(number, fault),
+            Task::Logout { text },
+            Task::Close(Why::Refused { number, cause }),
+            closed(sent(sent(state))),
         ),
-        Finding::Reject(fault) => Answer {
-            steps: [
-                reject(number, inbound.head, fault),
-                Step::Nothing,
-                Step::Nothing,
-                Step::Nothing,
-            ],
-            next: sent(state),
-        },
-        Finding::RejectAndClose { fault, text, cause } => Answer {
-            steps: [
-                reject(number, inbound.head, fault),
-                Step::Send(Say::Logout { text }),
-                Step::Close(Why::Refused { number, cause }),
-                Step::Nothing,
-            ],
-            next: closed(sent(sent(state))),
-        },
     }
 }
 
 // It may not go back.
-fn reset_to<'a>(
-    next: u32,
-    number: u32,
-    inbound: &Inbound<'a>,
-    state: MachineState,
-) -> Answer<'a>
-    ensures { Answers result (table.reset_to next number (inbound_seen inbound.now) state) }
+fn reset_to(next: u32, number: u32, inbound: &Inbound<'_>, state: MachineState) -> Answer
+    ensures { answered_by (texts_of (inbound_seen inbound.now)) result ≡ table.reset_to next number (inbound_seen inbound.now) state }
 {
     if state.expected <= next {
-        return Answer {
-            steps: [
-                Step::Expect(next),
-                Step::Nothing,
-                Step::Nothing,
-                Step::Nothing,
-            ],
-            next: expecting(next, state),
-        };
+        return one(Task::Expect(next), expecting(next, state));
     }
-    Answer {
-        steps: [
-            reject(number, inbound.head, fault(5, 36)),
-            Step::Nothing,
-            Step::Nothing,
-            Step::Nothing,
-        ],
-        next: sent(state),
-    }
+    one(reject(number, wrong_at(5, 36)), sent(state))
 }
 
 // NewSeqNo (36).
@@ -165,23 +114,18 @@ fn new_seq_no_of(admin: &Admin<'_>) -> u32
 
 // ---- MsgSeqNum (34) above the expected one
 
-fn too_high<'a>(
-    options: &Options,
-    number: u32,
-    inbound: &Inbound<'a>,
-    state: MachineState,
-) -> Answer<'a>
+fn too_high(options: &Options, number: u32, inbound: &Inbound<'_>, state: MachineState) -> Answer
     requires reading { state.reading ≤ LAST_TIME }
-    ensures { Answers result (table.too_high options.now number (inbound_seen inbound.now) state) }
+    ensures { answered_by (texts_of (inbound_seen inbound.now)) result ≡ table.too_high options.now number (inbound_seen inbound.now) state }
 {
     if is_early(inbound) {
-        let found = finding(options, &state, inbound);
+        let found = checked(options, &state, inbound);
         return early_by(found, options, number, inbound, state);
     }
     if inbound.full {
         return asked_alone(options, number, state);
     }
-    asked_after(Step::Stash, options, number, state)
+    asked_after(Task::Stash, options, number, state)
 }
 
 // Whether it is a ResendRequest (2) or a Logout (5), which are served at once.
@@ -191,29 +135,24 @@ fn is_early(inbound: &Inbound<'_>) -> bool
     inbound.head.kind == b"2".as_slice() || inbound.head.kind == b"5".as_slice()
 }
 
-fn early_by<'a>(
+fn early_by(
     found: Finding,
     options: &Options,
     number: u32,
-    inbound: &Inbound<'a>,
+    inbound: &Inbound<'_>,
     state: MachineState,
-) -> Answer<'a>
-    ensures { Answers result (table.early_by found options.now number (inbound_seen inbound.now) state) }
+) -> Answer
+    ensures { answered_by (texts_of (inbound_seen inbound.now)) result ≡ table.early_by (finding_seen found) options.now number (inbound_seen inbound.now) state }
 {
     match found {
-        Finding::Fine => early_of(&inbound.verdict, options, number, state),
+        Finding::Fine => early_of(inbound.verdict, options, number, state),
         Finding::Reject(_) => asked_alone(options, number, state),
         Finding::RejectAndClose { .. } => asked_alone(options, number, state),
     }
 }
 
-fn early_of<'a>(
-    verdict: &Verdict<'a>,
-    options: &Options,
-    number: u32,
-    state: MachineState,
-) -> Answer<'a>
-    ensures { Answers result (table.early_of (verdict_seen verdict.now) options.now number state) }
+fn early_of(verdict: &Verdict<'_>, options: &Options, number: u32, state: MachineState) -> Answer
+    ensures { (t : Texts) → answered_by t result ≡ table.early_of (verdict_seen verdict.now) options.now number state }
 {
     match verdict {
         Verdict::App => asked_alone(options, number, state),
@@ -222,19 +161,11 @@ fn early_of<'a>(
     }
 }
 
-fn served_early<'a>(
-    admin: &Admin<'a>,
-    options: &Options,
-    number: u32,
-    state: MachineState,
-) -> Answer<'a>
-    ensures { Answers result (table.served_early (admin_seen admin.now) options.now number state) }
+fn served_early(admin: &Admin<'_>, options: &Options, number: u32, state: MachineState) -> Answer
+    ensures { (t : Texts) → answered_by t result ≡ table.served_early (admin_seen admin.now) options.now number state }
 {
     match *admin {
-        Admin::ResendRequest { from, to } => {
-            let from = from.get();
-            asked_after(Step::Serve { from, to }, options, number, state)
-        }
+        Admin::ResendRequest { from, to } => asked_after(serve(from, to), options, number, state),
         Admin::Logout => logged_out(number, state),
         Admin::Heartbeat { .. } => asked_alone(options, number, state),
         Admin::TestRequest { .. } => asked_alone(options, number, state),
@@ -244,83 +175,63 @@ fn served_early<'a>(
     }
 }
 
+fn serve(from: SeqNum, to: u32) -> Task
+    ensures { (t : Texts) → task_seen t result ≡ seen.Serve from to }
+{
+    Task::Serve {
+        from: from.get(),
+        to,
+    }
+}
+
 // The gap is asked for, where none is yet.
-fn asked_alone<'a>(options: &Options, number: u32, state: MachineState) -> Answer<'a>
-    ensures { Answers result (table.then_ask options.now number [] state) }
+fn asked_alone(options: &Options, number: u32, state: MachineState) -> Answer
+    ensures { (t : Texts) → answered_by t result ≡ table.then_ask options.now number [] state }
 {
     if state.resend_requested.is_some() {
         return silent(state);
     }
-    Answer {
-        steps: [
-            ask_step(options, number, &state),
-            Step::Nothing,
-            Step::Nothing,
-            Step::Nothing,
-        ],
-        next: asked(options, number, state),
-    }
+    one(
+        ask_step(options, number, &state),
+        asked(options, number, state),
+    )
 }
 
 // The same after a step.
-fn asked_after<'a>(
-    step: Step<'a>,
-    options: &Options,
-    number: u32,
-    state: MachineState,
-) -> Answer<'a>
-    ensures { Answers result (table.then_ask options.now number (step_seen step.entry ∷ []) state) }
+fn asked_after(step: Task, options: &Options, number: u32, state: MachineState) -> Answer
+    ensures { (t : Texts) → answered_by t result ≡ table.then_ask options.now number (task_seen t step ∷ []) state }
 {
     if state.resend_requested.is_some() {
-        return Answer {
-            steps: [step, Step::Nothing, Step::Nothing, Step::Nothing],
-            next: state,
-        };
+        return one(step, state);
     }
-    Answer {
-        steps: [
-            step,
-            ask_step(options, number, &state),
-            Step::Nothing,
-            Step::Nothing,
-        ],
-        next: asked(options, number, state),
-    }
+    two(
+        step,
+        ask_step(options, number, &state),
+        asked(options, number, state),
+    )
 }
 
 // The Logout (5) is answered, where it isn't itself the answer.
-fn logged_out<'a>(number: u32, state: MachineState) -> Answer<'a>
-    ensures { Answers result (table.logged_out_answer number state) }
+fn logged_out(number: u32, state: MachineState) -> Answer
+    ensures { (t : Texts) → answered_by t result ≡ table.logged_out_answer number state }
 {
     let why = Why::LoggedOut { number };
     match state.phase {
-        Phase::Up => Answer {
-            steps: [
-                Step::Send(Say::Logout {
-                    text: LogoutText::Empty,
-                }),
-                Step::Close(why),
-                Step::Nothing,
-                Step::Nothing,
-            ],
-            next: closed(sent(state)),
-        },
-        Phase::Down | Phase::AwaitLogon | Phase::LogoutSent => Answer {
-            steps: [
-                Step::Close(why),
-                Step::Nothing,
-                Step::Nothing,
-                Step::Nothing,
-            ],
-            next: closed(state),
-        },
+        Phase::Up => two(
+            Task::Logout {
+                text: LogoutText::Empty,
+            },
+            Task::Close(why),
+            closed(sent(state)),
+        ),
+        Phase::Down | Phase::AwaitLogon | Phase::LogoutSent => one(Task::Close(why), closed(state)),
     }
 }
 
 // ---- MsgSeqNum (34) below the expected one
 
-fn too_low<'a>(number: u32, inbound: &Inbound<'a>, state: MachineState) -> Answer<'a>
-    ensures { Answers result (table.too_low number (inbound_seen inbound.now) state) }
+fn too_low(number: u32, inbound: &Inbound<'_>, state: MachineState) -> Answer
+    ensures { answered_by (texts_of (inbound_seen inbound.now)) result ≡ table.too_low number (inbound_seen inbound.now) state }
 {
     if is_named(inbound.head.dup, b"Y") {
         return silent(state);
@@ -334,118 +245,82 @@ fn too_low<'a>(number: u32, inbound: &Inbound<'a>, state: MachineState) -> Answe
 
 // ---- the expected number
 
-fn in_order_by<'a>(
-    found: Finding,
-    number: SeqNum,
-    inbound: &Inbound<'a>,
-    state: MachineState,
-) -> Answer<'a>
-    ensures { Answers result (table.in_order_by found number (inbound_seen inbound.now) state) }
+fn in_order_by(found: Finding, number: SeqNum, inbound: &Inbound<'_>, state: MachineState) -> Answer
+    ensures { answered_by (texts_of (inbound_seen inbound.now)) result ≡ table.in_order_by (finding_seen found) number (inbound_seen inbound.now) state }
 {
     match found {
-        Finding::Fine => by_type(&inbound.verdict, number, inbound, state),
+        Finding::Fine => by_type(number, inbound, state),
         Finding::Reject(fault) => rejected(fault, number, inbound, state),
         Finding::RejectAndClose { fault, text, cause } => {
-            let number = number.get();
-            Answer {
-                steps: [
-                    reject(number, inbound.head, fault),
-                    Step::Expect(number + 1),
-                    Step::Send(Say::Logout { text }),
-                    Step::Close(Why::Refused { number, cause }),
-                ],
-                next: closed(sent(counted(number, sent(state)))),
-            }
+            rejected_and_closed(fault, text, cause, number, inbound, state)
         }
     }
+}
+
+// A Reject (3), a count, and the end of the connection.
+fn rejected_and_closed(
+    fault: Wrong,
+    text: LogoutText,
+    cause: Refusal,
+    number: SeqNum,
+    inbound: &Inbound<'_>,
+    state: MachineState,
+) -> Answer
+    ensures { answered_by (texts_of (inbound_seen inbound.now)) result ≡ table.rejected_and_closed (wrong_seen fault) text cause number (inbound_seen inbound.now) state }
+{
+    let number = number.get();
+    four(
+        reject(number, fault),
+        Task::Expect(number + 1),
+        Task::Logout { text },
+        Task::Close(Why::Refused { number, cause }),
+        closed(sent(counted(number, sent(state)))),
+    )
 }
 
 // A Reject (3), and a count.
-fn rejected<'a>(
-    fault: Fault,
-    number: SeqNum,
-    inbound: &Inbound<'a>,
-    state: MachineState,
-) -> Answer<'a>
-    ensures { Answers result (table.rejected fault number (inbound_seen inbound.now) state) }
+fn rejected(fault: Wrong, number: SeqNum, inbound: &Inbound<'_>, state: MachineState) -> Answer
+    ensures { answered_by (texts_of (inbound_seen inbound.now)) result ≡ table.rejected (wrong_seen fault) number (inbound_seen inbound.now) state }
 {
     let number = number.get();
-    Answer {
-        steps: [
-            reject(number, inbound.head, fault),
-            Step::Expect(number + 1),
-            Step::Nothing,
-            Step::Nothing,
-        ],
-        next: counted(number, sent(state)),
-    }
+    two(
+        reject(number, fault),
+        Task::Expect(number + 1),
+        counted(number, sent(state)),
+    )
 }
 
 // A count alone.
-fn count<'a>(number: SeqNum, state: MachineState) -> Answer<'a>
-    ensures { Answers result (table.count number state) }
+fn count(number: SeqNum, state: MachineState) -> Answer
+    ensures { (t : Texts) → answered_by t result ≡ table.count number state }
 {
     let number = number.get();
-    Answer {
-        steps: [
-            Step::Expect(number + 1),
-            Step::Nothing,
-            Step::Nothing,
-            Step::Nothing,
-        ],
-        next: counted(number, state),
-    }
+    one(Task::Expect(number + 1), counted(number, state))
 }
 
-fn by_type<'a>(
-    verdict: &Verdict<'a>,
-    number: SeqNum,
-    inbound: &Inbound<'a>,
-    state: MachineState,
-) -> Answer<'a>
-    ensures { Answers result (table.by_type (verdict_seen verdict.now) number (inbound_seen inbound.now) state) }
+fn by_type(number: SeqNum, inbound: &Inbound<'_>, state: MachineState) -> Answer
+    ensures { answered_by (texts_of (inbound_seen inbound.now)) result ≡ table.by_type (inbound_seen inbound.now).verdict number (inbound_seen inbound.now) state }
 {
-    match verdict {
-        Verdict::App => {
-            let number = number.get();
-            Answer {
-                steps: [
-                    Step::Hand,
-                    Step::Expect(number + 1),
-                    Step::Nothing,
-                    Step::Nothing,
-                ],
-                next: counted(number, state),
-            }
-        }
+    match inbound.verdict {
+        Verdict::App => handed(number, state),
         Verdict::Admin(admin) => session_message(admin, number, inbound, state),
-        Verdict::Bad(fault) => rejected(*fault, number, inbound, state),
+        Verdict::Bad(fault) => rejected(wrong_of(fault), number, inbound, state),
     }
 }
 
-fn session_message<'a>(
-    admin: &Admin<'a>,
+fn session_message(
+    admin: &Admin<'_>,
     number: SeqNum,
-    inbound: &Inbound<'a>,
+    inbound: &Inbound<'_>,
     state: MachineState,
-) -> Answer<'a>
-    ensures { Answers result (table.session_message (admin_seen admin.now) number (inbound_seen inbound.now) state) }
+) -> Answer
+    requires { (inbound_seen inbound.now).verdict ≡ seen.Admin (admin_seen admin.now) }
+    ensures { answered_by (texts_of (inbound_seen inbound.now)) result ≡ table.session_message (admin_seen admin.now) number (inbound_seen inbound.now) state }
 {
     match *admin {
         Admin::Heartbeat { .. } => count(number, state),
-        Admin::TestRequest { id } => test_request(id, number, state),
-        Admin::ResendRequest { from, to } => {
-            let (from, number) = (from.get(), number.get());
-            Answer {
-                steps: [
-                    Step::Expect(number + 1),
-                    Step::Serve { from, to },
-                    Step::Nothing,
-                    Step::Nothing,
-                ],
-                next: counted(number, state),
-            }
-        }
+        Admin::TestRequest { .. } => test_request(number, state),
+        Admin::ResendRequest { from, to } => resend_request(from, to, number, state),
         Admin::Reject { .. } => count(number, state),
         Admin::SequenceReset { next, .. } => filled(next, number, inbound, state),
         Admin::Logout => logout(number, state),
@@ -453,79 +328,75 @@ fn session_message<'a>(
     }
 }
 
-// A TestRequest (1) is answered by a Heartbeat (0) with its TestReqID (112).
-fn test_request<'a>(id: &'a [u8], number: SeqNum, state: MachineState) -> Answer<'a>
-    ensures { Answers result (table.test_request id.now number state) }
+// A message of the application is handed over, and counted.
+fn handed(number: SeqNum, state: MachineState) -> Answer
+    ensures { (t : Texts) → answered_by t result ≡ table.handed number state }
 {
     let number = number.get();
-    Answer {
-        steps: [
-            Step::Send(Say::Heartbeat { id: Some(id) }),
-            Step::Expect(number + 1),
-            Step::Nothing,
-            Step::Nothing,
-        ],
-        next: counted(number, sent(state)),
-    }
+    two(Task::Hand, Task::Expect(number + 1), counted(number, state))
+}
+
+// A ResendRequest (2) is counted, and served.
+fn resend_request(from: SeqNum, to: u32, number: SeqNum, state: MachineState) -> Answer
+    ensures { (t : Texts) → answered_by t result ≡ table.resend_request from to number state }
+{
+    let number = number.get();
+    two(
+        Task::Expect(number + 1),
+        serve(from, to),
+        counted(number, state),
+    )
+}
+
+// A TestRequest (1) is answered by a Heartbeat (0) with its TestReqID (112).
+fn test_request(number: SeqNum, state: MachineState) -> Answer
+    ensures { (t : Texts) → answered_by t result ≡ table.test_request t.id number state }
+{
+    let number = number.get();
+    two(
+        Task::HeartbeatBack,
+        Task::Expect(number + 1),
+        counted(number, sent(state)),
+    )
 }
 
 // A SequenceReset (4) with GapFillFlag (123) may not go back.
-fn filled<'a>(
-    next: u32,
-    number: SeqNum,
-    inbound: &Inbound<'a>,
-    state: MachineState,
-) -> Answer<'a>
-    ensures { Answers result (table.filled next number (inbound_seen inbound.now) state) }
+fn filled(next: u32, number: SeqNum, inbound: &Inbound<'_>, state: MachineState) -> Answer
+    ensures { answered_by (texts_of (inbound_seen inbound.now)) result ≡ table.filled next number (inbound_seen inbound.now) state }
 {
     if number.get() < next {
-        return Answer {
-            steps: [
-                Step::Expect(next),
-                Step::Nothing,
-                Step::Nothing,
-                Step::Nothing,
-            ],
-            next: expecting(next, state),
-        };
+        return one(Task::Expect(next), expecting(next, state));
     }
-    rejected(fault(5, 36), number, inbound, state)
+    rejected(wrong_at(5, 36), number, inbound, state)
 }
 
 // A Logout (5) is counted before it is answered.
-fn logout<'a>(number: SeqNum, state: MachineState) -> Answer<'a>
-    ensures { Answers result (table.logout number state) }
+fn logout(number: SeqNum, state: MachineState) -> Answer
+    ensures { (t : Texts) → answered_by t result ≡ table.logout number state }
 {
     let number = number.get();
     let why = Why::LoggedOut { number };
     let state = counted(number, state);
     match state.phase {
-        Phase::Up => Answer {
-            steps: [
-                Step::Expect(number + 1),
-                Step::Send(Say::Logout {
-                    text: LogoutText::Empty,
-                }),
-                Step::Close(why),
-                Step::Nothing,
-            ],
-            next: closed(sent(state)),
-        },
-        Phase::Down | Phase::AwaitLogon | Phase::LogoutSent => Answer {
-            steps: [
-                Step::Expect(number + 1),
-                Step::Close(why),
-                Step::Nothing,
-                Step::Nothing,
-            ],
-            next: closed(state),
-        },
+        Phase::Up => three(
+            Task::Expect(number + 1),
+            Task::Logout {
+                text: LogoutText::Empty,
+            },
+            Task::Close(why),
+            closed(sent(state)),
+        ),
+        Phase::Down | Phase::AwaitLogon | Phase::LogoutSent => two(
+            Task::Expect(number + 1),
+            Task::Close(why),
+            closed(state),
+        ),
     }
 }
 
 // A Logon (A) in the middle of a connection may not reset.
-fn logged_on_again<'a>(reset: bool, number: SeqNum, state: MachineState) -> Answer<'a>
-    ensures { Answers result (table.logged_on_again reset number state) }
+fn logged_on_again(reset: bool, number: SeqNum, state: MachineState) -> Answer
+    ensures { (t : Texts) → answered_by t result ≡ table.logged_on_again reset number state }
 {
     if reset {
         return refused_with(

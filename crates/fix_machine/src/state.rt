@@ -1,8 +1,5 @@
 use fix_base::Identity;
 
-/// The last microsecond of 2099: a reading of the clock past it counts as this one.
-pub const LAST_TIME: u64 = 4_102_444_799_999_999;
-
 /// The phase of a session.
 #[derive(Clone, Copy, Debug, PartialEq, Eq)]
 pub enum Phase {
