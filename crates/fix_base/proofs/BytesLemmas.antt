@@ -1,22 +1,22 @@
 -- What the laws of two ends need of bytes: two facts.
-use Rattle.std.proofs.Common.{◌≡◌, ℕ, List, [], ◌∷◌, ◌++◌, true, None, refl, sym, ap, ◌∙◌, subst}
+use Rattle.std.proofs.Common.{◌≡◌, ℕ, List, [], ◌∷◌, ◌++◌, true, None, map, refl, sym, ap, ◌∙◌, subst}
 use Rattle.fix_base.specs.Fields.{FieldsAfter}
 use Rattle.fix_base.specs.Shape.{Parts, IsFrame}
 use Rattle.fix_base.specs.Stream.{Ahead, Item, Frame, Takes, TakesAll, frames}
 use Rattle.fix_base.specs.Lists.{Among, here, there, IsPrefixOf}
 use Rattle.fix_base.specs.Message.{Message}
 use Rattle.fix_base.specs.Says as says
-use Rattle.fix_base.specs.Says.{message_of, Says, SaysAll, Shows}
+use Rattle.fix_base.specs.Says.{message_of, Says, SaysAll, Shows, joined}
 use Rattle.fix_base.proofs.Told as told
 use Rattle.fix_base.proofs.Told.{SaysEach, Spells}
 use Rattle.fix_base.proofs.ListLemmas.{some_same, Among-prefix, prefix_trans, prefix_of_nothing}
 use Rattle.fix_base.proofs.FieldLists.{fields_same}
 use Rattle.fix_base.proofs.Spans.{shape_free}
 use Rattle.fix_base.proofs.Runs.{with_more, all_more, all_then, frames-append}
-use Rattle.fix_base.proofs.FramingLemmas.{front_frames}
+use Rattle.fix_base.proofs.FramingLemmas.{front_frames, takes_frames, frames_of_frames}
 
 -- a frame says one thing
-says_same : (text : List ℕ) (x y : Message) → Says text x → Says text y → x ≡ y
+pub says_same : (text : List ℕ) (x y : Message) → Says text x → Says text y → x ≡ y
 says_same text x y s t =
     let parts : s.has.parts ≡ t.has.parts = shape_free.value s.has.parts t.has.parts text s.has.shape t.has.shape in
     let fields = fields_same None t.has.parts.body s.fields t.fields (subst (λ (p : Parts). FieldsAfter None p.body s.fields) parts s.has.are) t.has.are in
@@ -89,3 +89,21 @@ shows_next read xs ys h skipped at after text skips none takes so =
 
 pub shows_frame : (read : List ℕ) (xs : List Message) (x : Message) (h : Shows read xs) (skipped : List Item) (at after : Ahead) (text : List ℕ) → TakesAll h.rest skipped at → frames skipped ≡ [] → Takes at (Frame text) after → Says text x → Shows read (xs ++ x ∷ [])
 shows_frame read xs x h skipped at after text skips none takes so = shows_next read xs (x ∷ []) h skipped at after text skips none takes (says.says so says.none)
+
+-- frames one after the other show what they say
+pub each_frame : {texts : List (List ℕ)} {xs : List Message} → SaysEach texts xs → (text : List ℕ) → Among text texts → IsFrame text
+each_frame told.done text m = elim m [ ]
+each_frame (told.one frame s others) text here = frame
+each_frame (told.one frame s others) text (there m) = each_frame others text m
+
+all_say : {texts : List (List ℕ)} {xs : List Message} → SaysEach texts xs → SaysAll texts xs
+all_say told.done = says.none
+all_say (told.one frame s others) = says.says s (all_say others)
+
+pub shows_each : {texts : List (List ℕ)} {xs : List Message} → SaysEach texts xs → Shows (joined texts) xs
+shows_each {texts = texts} {xs = xs} h = record {
+  items = map Frame texts;
+  rest = record { may_mark = true; bytes = [] };
+  takes = takes_frames texts (record { each = each_frame h });
+  says = subst (λ w. SaysAll w xs) (sym (frames_of_frames texts)) (all_say h);
+}

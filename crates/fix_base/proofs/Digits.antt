@@ -7,7 +7,7 @@ use Rattle.std.proofs.lemmas.Int.Digits.{digits_push, digits_more, digits_value_
 use Rattle.std.proofs.lemmas.Str.{digit_value_digit}
 use Rattle.std.proofs.lemmas.Str.Parse.{IsNumeralModel, numerals_by_value, tells_digits, tells_all_ascii_digits, digits_value_short, digit_at}
 use Rattle.std.specs.Str.{all_ascii_digits}
-use Rattle.fix_base.specs.declared.front.Stop.TheVariants.{Wrong}
+use Rattle.fix_base.specs.declared.no_match.NoMatch.TheVariants.{Never}
 use Rattle.fix_base.specs.Fields.{is_data_length}
 use Rattle.fix_base.specs.Front.{Begins, NeverBegins, IsPartOf, SomeOf}
 use Rattle.fix_base.specs.Frame.{HasNoSoh, IsLine, IsLengthOf, IsSumOf}
@@ -42,7 +42,7 @@ IsAnyLength = SomeOf IsLengthOf
 
 -- the value stands inside of the line
 line_any : (bytes : List ℕ) → NeverBegins (IsLine IsAnyLength) bytes → NeverBegins (SomeOf (λ n. IsLine (IsLengthOf n))) bytes
-line_any bytes h = stops_same (IsLine IsAnyLength) (SomeOf (λ n. IsLine (IsLengthOf n))) bytes Wrong
+line_any bytes h = stops_same (IsLine IsAnyLength) (SomeOf (λ n. IsLine (IsLengthOf n))) bytes Never
     (λ t p. (p.is.0, record { value = p.value; no_soh = p.no_soh; is = p.is.1; spelled = p.spelled }))
     (λ t p. record { value = p.1.value; no_soh = p.1.no_soh; is = (p.0, p.1.is); spelled = p.1.spelled }) h
 
@@ -153,7 +153,7 @@ sum_clear i bytes n h k lt =
     rw (← get_or-take i bytes k 0 lt) (digits_no_soh (take i bytes) h.digits k inside)
 
 sum_any : (bytes : List ℕ) → NeverBegins (IsLine (SomeOf IsSumOf)) bytes → NeverBegins (SomeOf (λ n. IsLine (IsSumOf n))) bytes
-sum_any bytes h = stops_same (IsLine (SomeOf IsSumOf)) (SomeOf (λ n. IsLine (IsSumOf n))) bytes Wrong
+sum_any bytes h = stops_same (IsLine (SomeOf IsSumOf)) (SomeOf (λ n. IsLine (IsSumOf n))) bytes Never
     (λ t p. (p.is.0, record { value = p.value; no_soh = p.no_soh; is = p.is.1; spelled = p.spelled }))
     (λ t p. record { value = p.1.value; no_soh = p.1.no_soh; is = (p.0, p.1.is); spelled = p.1.spelled }) h
 

@@ -30,13 +30,13 @@ abbrev at_start : List ℕ → Ahead
 at_start bytes = record { may_mark = true; bytes = bytes }
 
 -- frames one after the other are read as these
-takes_frames : (texts : List (List ℕ)) → AreFrames texts → TakesAll (at_start (joined texts)) (map Frame texts) (at_start [])
+pub takes_frames : (texts : List (List ℕ)) → AreFrames texts → TakesAll (at_start (joined texts)) (map Frame texts) (at_start [])
 takes_frames [] all = refl
 takes_frames (text ∷ texts) all =
     let f = all.each text here in
     (at_start (joined texts), record { is = (refl, f); spelled = refl; mark = sym (frame_ends text f) }, takes_frames texts (record { each = λ t m. all.each t (there m) }))
 
-frames_of_frames : (texts : List (List ℕ)) → frames (map Frame texts) ≡ texts
+pub frames_of_frames : (texts : List (List ℕ)) → frames (map Frame texts) ≡ texts
 frames_of_frames [] = refl
 frames_of_frames (text ∷ texts) = ap (λ w. text ∷ w) (frames_of_frames texts)
 

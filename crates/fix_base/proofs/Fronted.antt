@@ -1,7 +1,7 @@
 -- Where no item stands.
 use Rattle.std.proofs.Common.{◌≡◌, ℕ, Bool, true, List, [], ◌∷◌, ◌++◌, length, refl, sym, ap, ◌∙◌, arith}
 use Rattle.std.proofs.lemmas.List.{length-append, append-nil}
-use Rattle.fix_base.specs.declared.front.Stop.TheVariants.{Partial}
+use Rattle.fix_base.specs.declared.no_match.NoMatch.TheVariants.{NotYet}
 use Rattle.fix_base.specs.Front.{IsPartOf}
 use Rattle.fix_base.specs.Shape.{IsShape}
 use Rattle.fix_base.specs.Stream.{Ahead, Item, Frame, Span, Byte, Takes, HasNoItem}
@@ -23,6 +23,6 @@ pub none_ahead : (bytes : List ℕ) → IsPartOf IsShape bytes → HasNoItem (re
 none_ahead bytes h = record { none = cases bytes h }
   where
     cases : (bytes : List ℕ) → IsPartOf IsShape bytes → (item : Item) (b : Ahead) → Takes (record { may_mark = true; bytes = bytes }) item b → ⊥
-    cases bytes h (Frame text) b t = begins_stops IsShape any_shape_free bytes b.bytes Partial (record { text = text; is = (t.is.1.parts, t.is.1.shape); spelled = t.spelled }) h
-    cases bytes h (Span text) b t = begins_stops IsShape any_shape_free bytes b.bytes Partial (record { text = text; is = t.is.1; spelled = t.spelled }) h
+    cases bytes h (Frame text) b t = begins_stops IsShape any_shape_free bytes b.bytes NotYet (record { text = text; is = (t.is.1.parts, t.is.1.shape); spelled = t.spelled }) h
+    cases bytes h (Span text) b t = begins_stops IsShape any_shape_free bytes b.bytes NotYet (record { text = text; is = t.is.1; spelled = t.spelled }) h
     cases bytes h (Byte byte) b t = (t.is refl).refutes h.missing [] (record { text = bytes ++ h.missing; is = h.is; spelled = sym (append-nil (bytes ++ h.missing)) })

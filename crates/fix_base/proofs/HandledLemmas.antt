@@ -1,17 +1,27 @@
 -- `fresh` and the greatest number, where one more message was handled.
-use Rattle.std.proofs.Common.{◌≡◌, ◌⊎◌, inl, inr, ℕ, ◌≤◌, ◌==◌, max, List, [], ◌∷◌, ◌++◌, Bool, true, false, refl, sym, ap, ◌∙◌, subst, append_assoc, arith}
+use Rattle.std.proofs.Common.{◌≡◌, ◌⊎◌, inl, inr, ℕ, ◌<◌, ◌≤◌, ◌==◌, max, List, [], ◌∷◌, ◌++◌, Bool, true, false, refl, sym, ap, ◌∙◌, subst, append_assoc, arith}
 use Rattle.std.proofs.lemmas.List.{append-nil}
 use Rattle.std.proofs.lemmas.Bool.{eqb-true}
 use Rattle.fix_base.specs.Lists.{Among, here, there}
 use Rattle.fix_base.specs.End.{Sent}
 use Rattle.fix_base.specs.EndStep.{Handling}
 use Rattle.fix_base.specs.Agrees.{has_number, fresh_item, fresh_beyond, fresh, greatest}
-use Rattle.fix_base.proofs.ListLemmas.{Among-append_cases}
+use Rattle.fix_base.proofs.ListLemmas.{Among-append_left, Among-append_right, Among-append_cases}
 
 -- the numbers that came before what follows these
 abbrev pub seen_after : List ℕ → List Handling → List ℕ
 seen_after seen [] = seen
 seen_after seen (h ∷ handled) = seen_after (h.number ∷ seen) handled
+
+pub seen_after-snoc : (seen : List ℕ) (hs : List Handling) (h : Handling) → seen_after seen (hs ++ h ∷ []) ≡ h.number ∷ seen_after seen hs
+seen_after-snoc seen [] h = refl
+seen_after-snoc seen (x ∷ hs) h = seen_after-snoc (x.number ∷ seen) hs h
+
+-- the two parts of a list
+fresh_beyond-parts : (seen : List ℕ) (hs ks : List Handling) → fresh_beyond seen (hs ++ ks) ≡ fresh_beyond seen hs ++ fresh_beyond (seen_after seen hs) ks
+fresh_beyond-parts seen [] ks = refl
+fresh_beyond-parts seen (x ∷ hs) ks =
+    ap (λ w. fresh_item seen x ++ w) (fresh_beyond-parts (x.number ∷ seen) hs ks) ∙ sym (append_assoc (fresh_item seen x) (fresh_beyond (x.number ∷ seen) hs) (fresh_beyond (seen_after (x.number ∷ seen) hs) ks))
 
 fresh_beyond-append : (seen : List ℕ) (hs : List Handling) (h : Handling) → fresh_beyond seen (hs ++ h ∷ []) ≡ fresh_beyond seen hs ++ fresh_item (seen_after seen hs) h
 fresh_beyond-append seen [] h = append-nil (fresh_item seen h)
@@ -44,13 +54,13 @@ pub test : (b : Bool) → (b ≡ true) ⊎ (b ≡ false)
 test true = inl refl
 test false = inr refl
 
-has_number-cons : (n k : ℕ) (ks : List ℕ) → has_number n ks ≡ true → has_number n (k ∷ ks) ≡ true
+pub has_number-cons : (n k : ℕ) (ks : List ℕ) → has_number n ks ≡ true → has_number n (k ∷ ks) ≡ true
 has_number-cons n k ks h = elim (test (n == k)) [ inl t ↦ rw t refl | inr f ↦ rw f h ]
 
-has_number-head : (n k : ℕ) (ks : List ℕ) → has_number n (k ∷ ks) ≡ true → (n ≡ k) ⊎ (has_number n ks ≡ true)
+pub has_number-head : (n k : ℕ) (ks : List ℕ) → has_number n (k ∷ ks) ≡ true → (n ≡ k) ⊎ (has_number n ks ≡ true)
 has_number-head n k ks h = elim (test (n == k)) [ inl t ↦ inl (eqb-true n k t) | inr f ↦ inr (rw f at h) ]
 
-has_number-self : (n : ℕ) (ks : List ℕ) → has_number n (n ∷ ks) ≡ true
+pub has_number-self : (n : ℕ) (ks : List ℕ) → has_number n (n ∷ ks) ≡ true
 has_number-self n ks = let e : (n == n) ≡ true = grind arith in rw e refl
 
 seen_stays : (n : ℕ) (seen : List ℕ) (hs : List Handling) → has_number n seen ≡ true → has_number n (seen_after seen hs) ≡ true
@@ -88,3 +98,31 @@ fresh_was_seen s seen (x ∷ hs) m =
 -- what is in `fresh` was handled
 pub fresh-seen : (s : Sent) (hs : List Handling) → Among s (fresh hs) → has_number s.number (seen_after [] hs) ≡ true
 fresh-seen s hs m = fresh_was_seen s [] hs m
+
+-- a message that comes for its first time stands behind what was handled before it
+pub fresh-middle : (hs ks : List Handling) (h : Handling) → has_number h.number (seen_after [] hs) ≡ false → fresh (hs ++ h ∷ ks) ≡ fresh hs ++ record { number = h.number; body = h.body } ∷ fresh_beyond (h.number ∷ seen_after [] hs) ks
+fresh-middle hs ks h e = fresh_beyond-parts [] hs (h ∷ ks) ∙ ap (λ w. fresh hs ++ (w ++ fresh_beyond (h.number ∷ seen_after [] hs) ks)) (item_unseen (seen_after [] hs) h e)
+
+-- a number that was seen is one of an earlier message
+pub seen_earlier : (n : ℕ) (seen : List ℕ) (hs : List Handling) → has_number n (seen_after seen hs) ≡ true → (has_number n seen ≡ true) ⊎ ((earlier : Handling) × Among earlier hs × (earlier.number ≡ n))
+seen_earlier n seen [] h = inl h
+seen_earlier n seen (x ∷ hs) h =
+    elim (seen_earlier n (x.number ∷ seen) hs h) [
+      | inl a ↦ elim (has_number-head n x.number seen a) [ inl e ↦ inr (x, here, sym e) | inr b ↦ inl b ]
+      | inr found ↦ inr (found.0, there found.1, found.2)
+    ]
+
+-- what bounds the first times bounds all
+greatest_bounded : (m : ℕ) (seen : List ℕ) (hs : List Handling) → 0 < m → ((k : ℕ) → has_number k seen ≡ true → k < m) → ((s : Sent) → Among s (fresh_beyond seen hs) → s.number < m) → greatest hs < m
+greatest_bounded m seen [] some old new = some
+greatest_bounded m seen (x ∷ hs) some old new =
+    let first = first_bounded (has_number x.number seen) refl in
+    let later = greatest_bounded m (x.number ∷ seen) hs some (λ k h. elim (has_number-head k x.number seen h) [ inl e ↦ omega (arith, e, first) | inr h ↦ old k h ]) (λ s among. new s (Among-append_right (fresh_item seen x) among)) in
+    omega (arith, first, later)
+  where
+    first_bounded : (b : Bool) → has_number x.number seen ≡ b → x.number < m
+    first_bounded true e = old x.number e
+    first_bounded false e = new (record { number = x.number; body = x.body }) (Among-append_left (fresh_beyond (x.number ∷ seen) hs) (subst (λ w. Among (record { number = x.number; body = x.body }) w) (sym (item_unseen seen x e)) here))
+
+pub fresh_bounds : (m : ℕ) (hs : List Handling) → 0 < m → ((s : Sent) → Among s (fresh hs) → s.number < m) → greatest hs < m
+fresh_bounds m hs some each = greatest_bounded m [] hs some (λ k h. cc) each

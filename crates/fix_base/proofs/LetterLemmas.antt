@@ -1,5 +1,5 @@
 -- One message that a counterparty keeps and writes: the frame is lawful, and says it.
-use Rattle.std.proofs.Common.{◌≡◌, inl, ℕ, ◌≤◌, nat_le, codes, false, List, [], ◌∷◌, length, refl, sym, ap, lit<, lit≤, arith}
+use Rattle.std.proofs.Common.{◌≡◌, inl, ℕ, ◌<◌, ◌≤◌, ◌^◌, nat_le, codes, false, List, [], ◌∷◌, length, refl, sym, ap, lit<, lit≤, arith}
 use Rattle.std.specs.Prelude.{pos, ◌+ℤ◌, ◌*ℤ◌}
 use Rattle.std.specs.List.{AllByRecursion}
 use Rattle.std.specs.Fmt.{decimal}
@@ -22,16 +22,24 @@ use Rattle.fix_base.specs.End.{Caller, Entry, App, Push, new_end, folded}
 use Rattle.fix_base.specs.Payload.{field, IsBodyOf, IsPersistentEntry}
 use Rattle.fix_base.specs.Wrote as wrote
 use Rattle.fix_base.specs.Wrote.{IsSealed, original_fields, Wrote}
+use Rattle.fix_base.proofs.Told as told
+use Rattle.fix_base.proofs.Told.{SaysEach}
 use Rattle.fix_base.proofs.Digits.{numerals, digits_no_soh}
 use Rattle.fix_base.proofs.PlainFields.{IsPlainField, plain_fields}
 use Rattle.fix_base.proofs.ShortFields.{clear_of, comp_id_clear, comp_id_short, IsShortField, short_fields}
 use Rattle.fix_base.proofs.TimeTexts.{any_time_text_no_soh}
 use Rattle.fix_base.proofs.Seals.{sealed_is_frame}
-use Rattle.fix_base.proofs.ListLemmas.{prefix_of_nothing}
+use Rattle.fix_base.proofs.WholeLemmas.{push_grows}
 use Rattle.fix_base.proofs.WrittenLemmas.{original_is, app_original}
 
+pub clear_number : (n : ℕ) → n < 2 ^ 64 → HasNoSoh (decimal n)
+clear_number n small = digits_no_soh (decimal n) (digits_decimal numerals n small)
+
+pub short_number : (n : ℕ) → n < 10 ^ 2 → length (decimal n) ≤ 64
+short_number n small = let l = length-decimal-le 2 n (lit< tt) small (omega arith) in omega arith
+
 pub number_clear : HasNoSoh (decimal 1)
-number_clear = digits_no_soh (decimal 1) (digits_decimal numerals 1 (lit< tt))
+number_clear = clear_number 1 (lit< tt)
 
 -- ---- the time 0
 
@@ -77,7 +85,7 @@ abbrev pub body : List ℕ
 body = fields_text (field 35 order ∷ [])
 
 pub body_is : IsBodyOf body order []
-body_is = record { spelled = refl; fields = plain_fields (field 35 order ∷ []) (order_field, tt); app = record { no_reset = refl; no_admin = refl }; each = tt }
+body_is = record { spelled = refl; fields = plain_fields (field 35 order ∷ []) (order_field, tt); app = record { no_admin = refl }; each = tt }
 
 some_type : order ≡ [] → ⊥
 some_type e = cc
@@ -119,7 +127,7 @@ plain id valid = (
 )
 
 pub number_short : length (decimal 1) ≤ 64
-number_short = let l = length-decimal-le 1 1 (lit< tt) (lit< tt) (lit< tt) in omega arith
+number_short = short_number 1 (lit< tt)
 
 short : (id : Identity) → IsValidIdentity id → AllByRecursion IsShortField (fields id)
 short id valid = (
@@ -147,10 +155,11 @@ pub record Letter (id : Identity) (body : List ℕ) : Type 0 where
   pub kept : IsPersistentEntry (App 0 Caller body)
   pub lawful : Wrote id new_end (folded new_end (Push (App 0 Caller body))) text
   pub shows : Shows text (message.App 1 false body ∷ [])
+  pub says : SaysEach (text ∷ []) (message.App 1 false body ∷ [])
 
 lawful : (id : Identity) → IsValidIdentity id → Wrote id new_end (folded new_end (Push entry)) (frame id)
 lawful id valid = record {
-  grew = prefix_of_nothing (entry ∷ []);
+  grew = push_grows new_end entry;
   texts = frame id ∷ [];
   last = 1;
   writes = wrote.original 1 entry (lit≤ tt) (lit< tt) (record { before = []; after = []; is = refl; place = refl }) (record { type = order; at = at; rest = []; carries = wrote.app body_is; sent_at = at_epoch; sealed_so = frame_sealed id valid }) wrote.done;
@@ -173,4 +182,5 @@ letter id valid = record {
   kept = entry_keepable;
   lawful = lawful id valid;
   shows = shown (frame id) (sealed_is_frame id (fields id) (frame id) (original_is id (decimal 1) at order [] tt) (frame_sealed id valid)) _ (app_original id 1 (frame id) at order [] (lit≤ tt) (lit≤ tt) body_is.app tt (frame_sealed id valid));
+  says = told.one (sealed_is_frame id (fields id) (frame id) (original_is id (decimal 1) at order [] tt) (frame_sealed id valid)) (app_original id 1 (frame id) at order [] (lit≤ tt) (lit≤ tt) body_is.app tt (frame_sealed id valid)) told.done;
 }

@@ -11,7 +11,7 @@ use Rattle.fix_base.specs.Frame.{HasNoSoh}
 use Rattle.fix_base.specs.Fields.{Field}
 use Rattle.fix_base.specs.Says.{field_text, fields_text}
 
--- both sides of a test
+-- both peers of a test
 and_both : (a b : Bool) → (a && b) ≡ true → (a ≡ true) × (b ≡ true)
 and_both true b e = (refl, e)
 and_both false b e = cc

@@ -1,7 +1,7 @@
 -- A whole shape at the front of bytes.
 use Rattle.std.proofs.Common.{◌≡◌, ℕ, ◌+◌, ◌-◌, ◌<◌, ◌≤◌, List, [], ◌∷◌, ◌++◌, length, take, refl, sym, ap, ◌∙◌, subst, append_assoc, arith}
 use Rattle.std.proofs.lemmas.List.{length-append, take_at}
-use Rattle.fix_base.specs.declared.front.Stop.{Stop}
+use Rattle.fix_base.specs.declared.no_match.NoMatch.{NoMatch}
 use Rattle.fix_base.specs.Front.{IsPartOf, Begins, Stops, SomeOf, ThenOf, ◌▹◌}
 use Rattle.fix_base.specs.Frame.{IsLine, IsVersion, IsLengthOf, IsSumOf, IsHead, IsBody, IsTrailer}
 use Rattle.fix_base.specs.Shape.{Parts, HasShape, IsShape}
@@ -47,16 +47,16 @@ some_tail n =
     let b = some_body n in
     (b.0 ++ some_trailer.0, record { value = tt; first = b.0; second = some_trailer.0; is_first = b.1; is_second = some_trailer.1; spelled = refl })
 
-shape_stops : (bytes : List ℕ) (stop : Stop) → Stops Chain bytes stop → Stops IsShape bytes stop
+shape_stops : (bytes : List ℕ) (stop : NoMatch) → Stops Chain bytes stop → Stops IsShape bytes stop
 shape_stops bytes stop h = stops_same Chain IsShape bytes stop to_shape to_chain h
 
-pub span_stops_1 : (bytes : List ℕ) (stop : Stop) → Stops (SomeOf IsHead) bytes stop → Stops IsShape bytes stop
+pub span_stops_1 : (bytes : List ℕ) (stop : NoMatch) → Stops (SomeOf IsHead) bytes stop → Stops IsShape bytes stop
 span_stops_1 bytes stop h = shape_stops bytes stop (first_stops IsHead Tail bytes stop (λ n a p. some_tail n) h)
 
-pub span_stops_2 : (n : ℕ) (bytes a : List ℕ) (stop : Stop) → Begins (IsHead n) bytes a → Stops (IsBody n) a stop → Stops IsShape bytes stop
+pub span_stops_2 : (n : ℕ) (bytes a : List ℕ) (stop : NoMatch) → Begins (IsHead n) bytes a → Stops (IsBody n) a stop → Stops IsShape bytes stop
 span_stops_2 n bytes a stop p h = shape_stops bytes stop (second_stops IsHead Tail head_free n bytes a stop p (stops_first (IsBody n) (SomeOf IsTrailer) a stop some_trailer h))
 
-pub span_stops_3 : (n : ℕ) (bytes a b : List ℕ) (stop : Stop) → Begins (IsHead n) bytes a → Begins (IsBody n) a b → Stops (SomeOf IsTrailer) b stop → Stops IsShape bytes stop
+pub span_stops_3 : (n : ℕ) (bytes a b : List ℕ) (stop : NoMatch) → Begins (IsHead n) bytes a → Begins (IsBody n) a b → Stops (SomeOf IsTrailer) b stop → Stops IsShape bytes stop
 span_stops_3 n bytes a b stop p q h = shape_stops bytes stop (second_stops IsHead Tail head_free n bytes a stop p (stops_second (IsBody n) (SomeOf IsTrailer) (body_free n) a b stop q h))
 
 -- what is in front of the rest

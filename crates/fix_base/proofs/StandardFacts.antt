@@ -8,7 +8,7 @@ use Rattle.std.proofs.lemmas.Fmt.{decimal-digits_value}
 use Rattle.jiff_core.specs.Calendar.{day_count, days_from_civil, days_of_months, days_of_years}
 use Rattle.fix_base.specs.Session.{is_comp_id}
 use Rattle.fix_base.specs.Front.{NeverBegins, Begins}
-use Rattle.fix_base.specs.declared.front.Stop.TheVariants.{Wrong}
+use Rattle.fix_base.specs.declared.no_match.NoMatch.TheVariants.{Never}
 use Rattle.fix_base.specs.Frame.{HasNoSoh, IsLine, IsLengthOf, IsSumOf, IsHead, IsBody, IsTrailer, IsText, IsLong}
 use Rattle.fix_base.specs.Fields.{FieldsAfter}
 use Rattle.fix_base.specs.Shape.{Parts, HasShape, IsShape, IsFrame}
@@ -184,7 +184,7 @@ a_wrong_length_is_no_shape =
     let type : Begins (IsText (codes "35=")) behind_head behind_type = record { text = codes "35="; is = refl; spelled = refl } in
     let value : Begins (IsLong 2) behind_type behind_value = record { text = wire (codes "0|"); is = refl; spelled = refl } in
     let no_soh : NeverBegins (IsText (1 ∷ [])) behind_value = text_wrong behind_value (1 ∷ []) 0 (lit< tt) (lit< tt) (λ e. omega (arith, e)) in
-    span_stops_2 6 all behind_head Wrong head (body_reads (λ (w : List ℕ). w) 6 behind_head behind_type behind_value (Err Wrong) type value no_soh)
+    span_stops_2 6 all behind_head Never head (body_reads (λ (w : List ℕ). w) 6 behind_head behind_type behind_value (Err Never) type value no_soh)
 
 -- so its first byte is skipped
 pub its_first_byte_is_skipped : IsItem (at_start (wire (codes "8=FIX.4.2|9=6|35=0|10=161|"))) (Byte 56)

@@ -1,6 +1,6 @@
 -- The frames that an end may write are frames, and say what they are meant to.
-use Rattle.std.proofs.Common.{◌≡◌, inl, inr, ℕ, ◌+◌, ◌^◌, ◌<◌, ◌≤◌, ◌==◌, if◌then◌else◌, nat_lt, nat_le, codes, bytes_eq, List, [], ◌∷◌, ◌++◌, length, length-append, true, false, Some, None, refl, sym, ap, ◌∙◌, subst, lt-ltb, lit<, le_refl, arith}
-use Rattle.std.specs.List.{AllByRecursion}
+use Rattle.std.proofs.Common.{◌≡◌, inl, inr, ℕ, ◌+◌, ◌^◌, ◌<◌, ◌≤◌, ◌==◌, if◌then◌else◌, nat_lt, nat_le, codes, bytes_eq, List, [], ◌∷◌, ◌++◌, length, length-append, true, false, Option, Some, None, option_map, refl, sym, ap, ◌∙◌, subst, lt-ltb, lit<, le_refl, arith}
+use Rattle.std.specs.List.{AllByRecursion, list_any}
 use Rattle.std.specs.Fmt.{decimal}
 use Rattle.std.specs.Str.{all_ascii_digits}
 use Rattle.std.specs.Str.Parse.{digits_value}
@@ -18,7 +18,8 @@ use Rattle.fix_base.specs.Says.{value_of, times_of, field_text, fields_text, bod
 use Rattle.fix_base.specs.End.{Entry, End, IsEntry}
 use Rattle.fix_base.specs.Payload.{field, IsEntryField, IsAppType}
 use Rattle.fix_base.specs.Wrote as wrote
-use Rattle.fix_base.specs.Wrote.{IsSealed, original_fields, repeat_fields, gap_fields, Carries, IsOriginal, AdminsBetween, Writes, Wrote}
+use Rattle.fix_base.specs.Wrote.{IsSealed, original_fields, repeat_fields, gap_fields, optional, AdminFields, Carries, IsOriginal, IsRepeat, SkipsBetween, Gap, Writes, Wrote}
+use Rattle.fix_base.proofs.WroteLemmas.{IsSkipped-some}
 use Rattle.fix_base.proofs.HandledLemmas.{test}
 use Rattle.fix_base.proofs.Seals.{AreOfMessage, sealed_is_frame, sealed_has_fields}
 use Rattle.fix_base.proofs.Told as told
@@ -45,7 +46,7 @@ short_number : (d : List ℕ) (n : ℕ) → length d ≤ 9 → number_in 1 99999
 short_number d n short e = let s : nat_le (length d) 9 ≡ true = le-leb (length d) 9 short in rw s e
 
 -- a MsgSeqNum (34) as it is written is readable
-seq_num_decimal : (n : ℕ) → 1 ≤ n → n ≤ 999999999 → seq_num_in (Some (decimal n)) ≡ Some n
+pub seq_num_decimal : (n : ℕ) → 1 ≤ n → n ≤ 999999999 → seq_num_in (Some (decimal n)) ≡ Some n
 seq_num_decimal n above below =
     let small : n < 2 ^ 64 = omega arith in
     short_number (decimal n) n (length-decimal-le 9 n (lit< tt) (omega arith) small) (number_decimal 1 999999999 n above below (lit< tt))
@@ -125,7 +126,7 @@ repeat_is id number at was type rest each =
       each = (body_field 35 type (lit< tt), (body_field 34 number (lit< tt), (body_field 43 _ (lit< tt), (body_field 49 id.sender (lit< tt), (body_field 52 at (lit< tt), (body_field 56 id.target (lit< tt), (body_field 122 was (lit< tt), body_fields rest each)))))));
     }
 
-gap_is : (id : Identity) (number next at : List ℕ) → AreOfMessage (gap_fields id number next at)
+pub gap_is : (id : Identity) (number next at : List ℕ) → AreOfMessage (gap_fields id number next at)
 gap_is id number next at =
     let fields = gap_fields id number next at in
     record {
@@ -139,17 +140,24 @@ gap_is id number next at =
 
 -- ---- what the fields say
 
+-- an application message is no SequenceReset
+no_reset : (type : List ℕ) → is_admin_type type ≡ false → bytes_eq type (codes "4") ≡ false
+no_reset type app = elim (test (bytes_eq type (codes "4"))) as (λ t. bytes_eq type (codes "4") ≡ false) [
+  | inl t ↦ (let wrong : is_admin_type (codes "4") ≡ false = subst (λ w. is_admin_type w ≡ false) ((bytes_eq-Decides type (codes "4")).0 t) app in cc)
+  | inr t ↦ t
+]
+
 app_from : (type : List ℕ) (n : ℕ) (fs : List Field) → IsAppType type → message_with type n fs ≡ message.App n (is_yes (value_of 43 fs)) (body_of fs)
-app_from type n fs app = rw (app.no_reset, app.no_admin) refl
+app_from type n fs app = rw (no_reset type app.no_admin, app.no_admin) refl
 
 admin_from : (type : List ℕ) (n : ℕ) (fs : List Field) → bytes_eq type (codes "4") ≡ false → is_admin_type type ≡ true → message_with type n fs ≡ message.Admin n
-admin_from type n fs no_reset admin = rw (no_reset, admin) refl
+admin_from type n fs reset admin = rw (reset, admin) refl
 
 -- the one MsgSeqNum (34) among fields that have none behind it
 one_number : (number : List ℕ) (n times : ℕ) → times ≡ 0 → seq_num_in (Some number) ≡ Some n → (if 1 + times == 1 then seq_num_in (Some number) else None) ≡ Some n
 one_number number n times none is = rw none is
 
-original_number : (id : Identity) (number : List ℕ) (n : ℕ) (at type : List ℕ) (rest : List Field) → seq_num_in (Some number) ≡ Some n → AllByRecursion IsEntryField rest → seq_num_of (original_fields id number at type rest) ≡ Some n
+pub original_number : (id : Identity) (number : List ℕ) (n : ℕ) (at type : List ℕ) (rest : List Field) → seq_num_in (Some number) ≡ Some n → AllByRecursion IsEntryField rest → seq_num_of (original_fields id number at type rest) ≡ Some n
 original_number id number n at type rest is each = one_number number n (times_of 34 rest) (none_of_these 34 refl rest each) is
 
 repeat_number : (id : Identity) (number : List ℕ) (n : ℕ) (at was type : List ℕ) (rest : List Field) → seq_num_in (Some number) ≡ Some n → AllByRecursion IsEntryField rest → seq_num_of (repeat_fields id number at was type rest) ≡ Some n
@@ -162,8 +170,8 @@ original_app id number n at type rest is app each =
     ap (λ w. Some (message.App n false (field_text (field 35 type) ++ w))) (body_is rest each)
 
 original_admin : (id : Identity) (number : List ℕ) (n : ℕ) (at type : List ℕ) (rest : List Field) → seq_num_in (Some number) ≡ Some n → bytes_eq type (codes "4") ≡ false → is_admin_type type ≡ true → AllByRecursion IsEntryField rest → message_of (original_fields id number at type rest) ≡ Some (message.Admin n)
-original_admin id number n at type rest is no_reset admin each =
-    ap (λ o. message_from (Some type) o (original_fields id number at type rest)) (original_number id number n at type rest is each) ∙ ap Some (admin_from type n (original_fields id number at type rest) no_reset admin)
+original_admin id number n at type rest is reset admin each =
+    ap (λ o. message_from (Some type) o (original_fields id number at type rest)) (original_number id number n at type rest is each) ∙ ap Some (admin_from type n (original_fields id number at type rest) reset admin)
 
 repeat_app : (id : Identity) (number : List ℕ) (n : ℕ) (at was type : List ℕ) (rest : List Field) → seq_num_in (Some number) ≡ Some n → IsAppType type → AllByRecursion IsEntryField rest → message_of (repeat_fields id number at was type rest) ≡ Some (message.App n true (fields_text (field 35 type ∷ rest)))
 repeat_app id number n at was type rest is app each =
@@ -177,21 +185,14 @@ gap_says id number next n m at is next_is =
 -- ---- the frames
 
 -- an original, and what it says
-record Original (n : ℕ) (e : Entry) (text : List ℕ) : Type 0 where
-  message : Message
-  is : OriginalSays n e message
-  frame : IsFrame text
-  says : Says text message
+pub record Original (n : ℕ) (e : Entry) (text : List ℕ) : Type 0 where
+  pub message : Message
+  pub is : OriginalSays n e message
+  pub frame : IsFrame text
+  pub says : Says text message
 
 says_of : (id : Identity) (fields : List Field) (text : List ℕ) (x : Message) → AreOfMessage fields → IsSealed id fields text → message_of fields ≡ Some x → Says text x
 says_of id fields text x are s e = record { fields = fields; has = sealed_has_fields id fields text are s; says = e }
-
--- no SequenceReset is among the other administrative types
-no_reset_type : (type : List ℕ) → is_admin_type type ≡ true → bytes_eq type (codes "4") ≡ false
-no_reset_type type admin = elim (test (bytes_eq type (codes "4"))) as (λ t. bytes_eq type (codes "4") ≡ false) [
-  | inl t ↦ (let wrong : is_admin_type (codes "4") ≡ true = subst (λ w. is_admin_type w ≡ true) ((bytes_eq-Decides type (codes "4")).0 t) admin in cc)
-  | inr t ↦ t
-]
 
 pub app_original : (id : Identity) (n : ℕ) (text at : List ℕ) (type : List ℕ) (rest : List Field) → 1 ≤ n → n ≤ 999999999 → IsAppType type → AllByRecursion IsEntryField rest → IsSealed id (original_fields id (decimal n) at type rest) text → Says text (message.App n false (fields_text (field 35 type ∷ rest)))
 app_original id n text at type rest some le app each sealed_so =
@@ -201,7 +202,63 @@ pub app_repeat : (id : Identity) (n : ℕ) (text at was type : List ℕ) (rest :
 app_repeat id n text at was type rest some le app each sealed_so =
     says_of id (repeat_fields id (decimal n) at was type rest) text _ (repeat_is id (decimal n) at was type rest each) sealed_so (repeat_app id (decimal n) n at was type rest (seq_num_decimal n some le) app each)
 
-original_of : (id : Identity) (n : ℕ) (e : Entry) (text at type : List ℕ) (rest : List Field) → 1 ≤ n → n ≤ 999999999 → Carries e type rest → IsSealed id (original_fields id (decimal n) at type rest) text → Original n e text
+pub gap_fill_says : (id : Identity) (n m : ℕ) (text at : List ℕ) → 1 ≤ n → n ≤ 999999999 → 1 ≤ m → m ≤ 1000000000 → IsSealed id (gap_fields id (decimal n) (decimal m) at) text → Says text (message.GapFill n m)
+gap_fill_says id n m text at some le more fits sealed_so =
+    says_of id (gap_fields id (decimal n) (decimal m) at) text _ (gap_is id (decimal n) (decimal m) at) sealed_so (gap_says id (decimal n) (decimal m) n m at (seq_num_decimal n some le) (new_seq_no_decimal m more fits))
+
+-- ---- the fields of administrative messages
+
+-- a field whose tag is one of a header or trailer that the engine writes is told by its number
+entry_field : (tag : ℕ) (value : List ℕ) → list_any (λ t. t == tag) (8 ∷ 9 ∷ 10 ∷ 35 ∷ []) ≡ false → is_session_tag tag ≡ false → IsEntryField (field tag value)
+entry_field tag value other header =
+    let among : (n : ℕ) → tag ≡ n → list_any (λ t. t == n) (8 ∷ 9 ∷ 10 ∷ 35 ∷ []) ≡ false = λ n e. subst (λ m. list_any (λ t. t == m) (8 ∷ 9 ∷ 10 ∷ 35 ∷ []) ≡ false) e other in
+    record {
+      no_begin = λ e. (let w = among 8 e in cc);
+      no_length = λ e. (let w = among 9 e in cc);
+      no_sum = λ e. (let w = among 10 e in cc);
+      no_type = λ e. (let w = among 35 e in cc);
+      no_header = header;
+    }
+
+optional_fields : (tag : ℕ) (value : Option (List ℕ)) (others : List Field) → ((v : List ℕ) → IsEntryField (field tag v)) → AllByRecursion IsEntryField others → AllByRecursion IsEntryField (optional tag value ++ others)
+optional_fields tag None others is each = each
+optional_fields tag (Some v) others is each = (is v, each)
+
+optional_field : (tag : ℕ) (value : Option (List ℕ)) → ((v : List ℕ) → IsEntryField (field tag v)) → AllByRecursion IsEntryField (optional tag value)
+optional_field tag None is = tt
+optional_field tag (Some v) is = (is v, tt)
+
+-- none of them is one of the header
+pub admin_fields : {about kind : ℕ} {rest : List Field} → AdminFields about kind rest → AllByRecursion IsEntryField rest
+admin_fields (wrote.heartbeat id) = optional_field 112 id (λ v. entry_field 112 v refl refl)
+admin_fields (wrote.test_request id) = (entry_field 112 id refl refl, tt)
+admin_fields (wrote.resend_request from to range) = (entry_field 7 (decimal from) refl refl, (entry_field 16 (decimal to) refl refl, tt))
+admin_fields {about = about} (wrote.reject tag reason type text) = (
+  entry_field 45 (decimal about) refl refl,
+  optional_fields 371 (option_map decimal tag) _ (λ v. entry_field 371 v refl refl)
+      (entry_field 372 type refl refl, optional_fields 373 (option_map decimal reason) _ (λ v. entry_field 373 v refl refl) (optional_field 58 text (λ v. entry_field 58 v refl refl))),
+)
+admin_fields (wrote.logout text) = optional_field 58 text (λ v. entry_field 58 v refl refl)
+admin_fields (wrote.logon heart reset) = (
+  entry_field 98 (codes "0") refl refl,
+  (entry_field 108 (decimal heart) refl refl, optional_field 141 (if reset then Some (codes "Y") else None) (λ v. entry_field 141 v refl refl)),
+)
+
+-- their MsgType is administrative, and not that of a SequenceReset
+pub admin_typed : {about kind : ℕ} {rest : List Field} → AdminFields about kind rest → (bytes_eq (kind ∷ []) (codes "4") ≡ false) × (is_admin_type (kind ∷ []) ≡ true)
+admin_typed (wrote.heartbeat id) = (refl, refl)
+admin_typed (wrote.test_request id) = (refl, refl)
+admin_typed (wrote.resend_request from to range) = (refl, refl)
+admin_typed (wrote.reject tag reason type text) = (refl, refl)
+admin_typed (wrote.logout text) = (refl, refl)
+admin_typed (wrote.logon heart reset) = (refl, refl)
+
+pub admin_original : (id : Identity) (n : ℕ) (text at : List ℕ) {about kind : ℕ} {rest : List Field} → 1 ≤ n → n ≤ 999999999 → AdminFields about kind rest → IsSealed id (original_fields id (decimal n) at (kind ∷ []) rest) text → Says text (message.Admin n)
+admin_original id n text at {kind = kind} {rest = rest} some le fields sealed_so =
+    let typed = admin_typed fields in
+    says_of id (original_fields id (decimal n) at (kind ∷ []) rest) text _ (original_is id (decimal n) at (kind ∷ []) rest (admin_fields fields)) sealed_so (original_admin id (decimal n) n at (kind ∷ []) rest (seq_num_decimal n some le) typed.0 typed.1 (admin_fields fields))
+
+pub original_of : (id : Identity) (n : ℕ) (e : Entry) (text at type : List ℕ) (rest : List Field) → 1 ≤ n → n ≤ 999999999 → Carries e type rest → IsSealed id (original_fields id (decimal n) at type rest) text → Original n e text
 original_of id n e text at type rest some le (wrote.app {time = time} {by = by} {body = body} is) sealed_so =
     record {
       message = message.App n false body;
@@ -209,55 +266,56 @@ original_of id n e text at type rest some le (wrote.app {time = time} {by = by} 
       frame = sealed_is_frame id (original_fields id (decimal n) at type rest) text (original_is id (decimal n) at type rest is.each) sealed_so;
       says = subst (λ w. Says text (message.App n false w)) (sym is.spelled) (app_original id n text at type rest some le is.app is.each sealed_so);
     }
-original_of id n e text at type rest some le (wrote.admin {time = time} {kind = kind} {about = about} admin each) sealed_so =
-    let are = original_is id (decimal n) at (kind ∷ []) rest each in
+original_of id n e text at type rest some le (wrote.admin {time = time} {kind = kind} {about = about} fields) sealed_so =
     record {
       message = message.Admin n;
       is = told.admin time kind about;
-      frame = sealed_is_frame id (original_fields id (decimal n) at (kind ∷ []) rest) text are sealed_so;
-      says = says_of id (original_fields id (decimal n) at (kind ∷ []) rest) text _ are sealed_so (original_admin id (decimal n) n at (kind ∷ []) rest (seq_num_decimal n some le) (no_reset_type (kind ∷ []) admin) admin each);
+      frame = sealed_is_frame id (original_fields id (decimal n) at (kind ∷ []) rest) text (original_is id (decimal n) at (kind ∷ []) rest (admin_fields fields)) sealed_so;
+      says = admin_original id n text at some le fields sealed_so;
     }
-original_of id n e text at type rest some le (wrote.withheld {time = time} {kind = kind} {about = about} is app each) sealed_so =
+original_of id n e text at type rest some le (wrote.once {time = time} {kind = kind} {about = about} is app each) sealed_so =
     record {
       message = message.App n false (fields_text (field 35 type ∷ rest));
-      is = told.withheld time kind about (fields_text (field 35 type ∷ rest)) is;
+      is = told.once time kind about (fields_text (field 35 type ∷ rest)) is;
       frame = sealed_is_frame id (original_fields id (decimal n) at type rest) text (original_is id (decimal n) at type rest each) sealed_so;
       says = app_original id n text at type rest some le app each sealed_so;
     }
 
 -- an entry's number is 1 or more
-entry_some : {out : List Entry} {n : ℕ} {e : Entry} → IsEntry out n e → 1 ≤ n
+pub entry_some : {out : List Entry} {n : ℕ} {e : Entry} → IsEntry out n e → 1 ≤ n
 entry_some h = let at = h.place in omega arith
 
-gap_some : {out : List Entry} {n m : ℕ} → n < m → AdminsBetween out n m → 1 ≤ n
-gap_some {n = n} lt h = entry_some (h.each n (le_refl n) lt).entry
+gap_some : {e : End} {n m : ℕ} → n < m → SkipsBetween e n m → 1 ≤ n
+gap_some {n = n} lt h = IsSkipped-some (h.each n (le_refl n) lt)
+
+pub repeat_says : (id : Identity) (n time : ℕ) (body : List ℕ) (t : ℕ) (text : List ℕ) → 1 ≤ n → n ≤ 999999999 → IsRepeat id n time body t text → Says text (message.App n true body)
+repeat_says id n time body t text some le is = subst (λ w. Says text (message.App n true w)) (sym is.carries.spelled) (app_repeat id n text is.at is.was is.type is.rest some le is.carries.app is.carries.each is.sealed_so)
 
 -- what the frames say, and that it may be written
-record Tells (out : List Entry) (last : ℕ) (texts : List (List ℕ)) (to : ℕ) : Type 0 where
+record Tells (old new : End) (last : ℕ) (texts : List (List ℕ)) (to : ℕ) : Type 0 where
   messages : List Message
   says : SaysEach texts messages
-  writes : WritesMessages out last messages to
+  writes : WritesMessages old new last messages to
 
-tells : {id : Identity} {out : List Entry} {last to : ℕ} {texts : List (List ℕ)} → Writes id out last texts to → Tells out last texts to
+tells : {id : Identity} {old new : End} {last to : ℕ} {gaps : List Gap} {texts : List (List ℕ)} → Writes id old new last gaps texts to → Tells old new last texts to
 tells wrote.done = record { messages = []; says = told.done; writes = told.done }
 tells {id = id} (wrote.original {text = text} n e le above entry is others) =
     let o = original_of id n e text is.at is.type is.rest (entry_some entry) le is.carries is.sealed_so in
     let t = tells others in
     record { messages = o.message ∷ t.messages; says = told.one o.frame o.says t.says; writes = told.original n e above entry o.is t.writes }
-tells {id = id} (wrote.again {text = text} n time by body t le entry is others) =
+tells {id = id} (wrote.again {text = text} n time by body t le entry free uncovered is others) =
     let fields = repeat_fields id (decimal n) is.at is.was is.type is.rest in
     let are = repeat_is id (decimal n) is.at is.was is.type is.rest is.carries.each in
-    let whole = app_repeat id n text is.at is.was is.type is.rest (entry_some entry) le is.carries.app is.carries.each is.sealed_so in
-    let s = subst (λ w. Says text (message.App n true w)) (sym is.carries.spelled) whole in
+    let s = repeat_says id n time body t text (entry_some entry) le is in
     let o = tells others in
-    record { messages = message.App n true body ∷ o.messages; says = told.one (sealed_is_frame id fields text are is.sealed_so) s o.says; writes = told.again n body (record { time = time; by = by; entry = entry }) o.writes }
-tells {id = id} (wrote.gap_fill {text = text} n m t le some inside admins is others) =
+    record { messages = message.App n true body ∷ o.messages; says = told.one (sealed_is_frame id fields text are is.sealed_so) s o.says; writes = told.again n body (record { time = time; by = by; entry = entry }) free o.writes }
+tells {id = id} (wrote.gap_fill {text = text} n m t le some inside skips is others) =
     let fields = gap_fields id (decimal n) (decimal m) is.at in
     let are = gap_is id (decimal n) (decimal m) is.at in
-    let above = gap_some some admins in
+    let above = gap_some some skips in
     let s = says_of id fields text _ are is.sealed_so (gap_says id (decimal n) (decimal m) n m is.at (seq_num_decimal n above (omega arith)) (new_seq_no_decimal m (omega arith) le)) in
     let o = tells others in
-    record { messages = message.GapFill n m ∷ o.messages; says = told.one (sealed_is_frame id fields text are is.sealed_so) s o.says; writes = told.gap_fill n m some inside admins o.writes }
+    record { messages = message.GapFill n m ∷ o.messages; says = told.one (sealed_is_frame id fields text are is.sealed_so) s o.says; writes = told.gap_fill n m some inside skips o.writes }
 
 -- what may have been written, as messages
 pub wrote_of : (id : Identity) (old new : End) (w : List ℕ) → Wrote id old new w → WroteMessages old new w

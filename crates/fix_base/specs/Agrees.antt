@@ -1,5 +1,6 @@
 -- What one end handled is what the other stored.
-use Rattle.std.specs.Prelude.{◌≡◌, ℕ, suc, ◌≤◌, ◌==◌, ◌||◌, max, nat_lt, if◌then◌else◌, List, [], ◌∷◌, ◌++◌, length, Bool, false, Option, Some, None}
+use Rattle.std.specs.Prelude.{◌≡◌, ◌⊎◌, ℕ, suc, ◌<◌, ◌≤◌, ◌==◌, ◌||◌, max, if◌then◌else◌, List, [], ◌∷◌, ◌++◌, length, Bool, false, Option, Some, None}
+use Rattle.fix_base.specs.Lists.{Among, IsPrefixOf}
 use Rattle.fix_base.specs.End.{Entry, Record, End, folded, Sent, app_entries}
 use Rattle.fix_base.specs.EndStep.{Handling, handled_with}
 
@@ -31,30 +32,50 @@ greatest (h ∷ handled) = max h.number (greatest handled)
 abbrev pub top : ℕ → List Handling → ℕ
 top expected handled = max expected (suc (greatest handled))
 
--- an end that expects this number, and handled these, agrees with a counterparty of these entries: its
--- first entries, as many as are below the top, hold just the messages that were handled
-pub record Agrees (expected : ℕ) (handled : List Handling) (out : List Entry) : Type 0 where
+-- these messages, in their order, less only ones with these numbers
+pub data Less (withheld : List ℕ) : List Sent → List Sent → Type 0 where
+  none : Less withheld [] []
+  keeps : {all left : List Sent} (x : Sent) → Less withheld all left → Less withheld (x ∷ all) (x ∷ left)
+  drops : {all left : List Sent} (x : Sent) → Among x.number withheld → Less withheld all left → Less withheld (x ∷ all) left
+
+-- an end that expects this number, and handled these, agrees with its counterparty: of the
+-- counterparty's first entries, as many as are below the top, the messages are just those that were
+-- handled, less only ones that the counterparty withholds
+pub record Agrees (expected : ℕ) (handled : List Handling) (f : End) : Type 0 where
   pub below : List Entry
   pub rest : List Entry
-  pub is : out ≡ below ++ rest
+  pub is : f.out ≡ below ++ rest
   pub many : suc (length below) ≡ top expected handled
-  pub same : fresh handled ≡ app_entries below
+  pub same : Less f.withheld (app_entries below) (fresh handled)
 
--- the messages with numbers below this
-abbrev pub sent_below : ℕ → List Sent → List Sent
-sent_below n [] = []
-sent_below n (x ∷ xs) = if nat_lt x.number n then x ∷ sent_below n xs else sent_below n xs
+-- the numbers rise strictly, from above this one
+abbrev pub RiseFrom : ℕ → List Sent → Type 0
+RiseFrom n [] = Unit {0}
+RiseFrom n (x ∷ xs) = (n < x.number) × RiseFrom x.number xs
 
--- the same in plain words: the top is at most one above the last entry, and what was handled, each
--- number once, is the list of the stored messages with numbers below the top: none is missing, none
--- was made up, and all bodies are equal
-pub record AgreesInPlainWords (expected : ℕ) (handled : List Handling) (out : List Entry) : Type 0 where
-  pub inside : top expected handled ≤ suc (length out)
-  pub same : fresh handled ≡ sent_below (top expected handled) (app_entries out)
+-- the same in plain words: the top is at most one above the last entry. What was handled, each number
+-- once, has rising numbers, and each is one of the counterparty's messages below the top, with its
+-- body. Each of those messages that was not handled is withheld
+pub record AgreesInPlainWords (expected : ℕ) (handled : List Handling) (f : End) : Type 0 where
+  pub inside : top expected handled ≤ suc (length f.out)
+  pub rises : RiseFrom 0 (fresh handled)
+  pub stored : (x : Sent) → Among x (fresh handled) → Among x (app_entries f.out) × (x.number < top expected handled)
+  pub missing : (x : Sent) → Among x (app_entries f.out) → x.number < top expected handled → (Among x (fresh handled) → ⊥) → Among x.number f.withheld
 
--- a reader with these parts keeps up with a counterparty of these entries: it agrees with the number
--- that is kept, with the running one, and whichever way its own doubt settles
-pub record KeepsUp (end : End) (expected : ℕ) (handled : List Handling) (doubt : Option Record) (out : List Entry) : Type 0 where
-  pub now : Agrees end.stored handled out
-  pub running : doubt ≡ None → Agrees expected handled out
-  pub settled : (r : Record) → doubt ≡ Some r → Agrees (folded end r).stored (handled_with handled r) out
+-- a front of these messages, less only ones with these numbers
+pub record IsPrefixLess (withheld : List ℕ) (xs all : List Sent) : Type 0 where
+  pub front : List Sent
+  pub is : IsPrefixOf front all
+  pub less : Less withheld front xs
+
+-- a message that comes for its first time comes with a number above all that came before it: one that
+-- was passed over never comes behind a later one
+pub record ComesInOrder (handled : List Handling) : Type 0 where
+  pub each : (before after : List Handling) (h : Handling) → handled ≡ before ++ h ∷ after → ((earlier : Handling) × Among earlier before × (earlier.number ≡ h.number)) ⊎ (greatest before < h.number)
+
+-- a reader with these parts keeps up with a counterparty: it agrees with the number that is kept, with
+-- the running one, and whichever way its own doubt settles
+pub record KeepsUp (end : End) (expected : ℕ) (handled : List Handling) (doubt : Option Record) (beside : List Handling) (f : End) : Type 0 where
+  pub now : Agrees end.stored handled f
+  pub running : doubt ≡ None → Agrees expected handled f
+  pub settled : (r : Record) → doubt ≡ Some r → Agrees (folded end r).stored (handled_with handled beside r) f

@@ -1,7 +1,7 @@
 -- What stands at the front of bytes, of which more may come.
 use Rattle.std.specs.Prelude.{◌≡◌, ℕ, ◌<◌, List, ◌++◌, length, Result, Ok, Err}
-use Rattle.fix_base.specs.declared.front.Stop.{Stop}
-use Rattle.fix_base.specs.declared.front.Stop.TheVariants.{Wrong, Partial}
+use Rattle.fix_base.specs.declared.no_match.NoMatch.{NoMatch}
+use Rattle.fix_base.specs.declared.no_match.NoMatch.TheVariants.{Never, NotYet}
 
 -- a text of P stands at the front, and the rest follows it
 pub record Begins (P : List ℕ → Type 0) (bytes rest : List ℕ) : Type 0 where
@@ -20,23 +20,23 @@ pub record IsPartOf (P : List ℕ → Type 0) (bytes : List ℕ) : Type 0 where
   pub is : P (bytes ++ missing)
 
 -- why no text of P stands at the front
-abbrev pub Stops : (List ℕ → Type 0) → List ℕ → Stop → Type 0
-Stops P bytes Wrong = NeverBegins P bytes
-Stops P bytes Partial = IsPartOf P bytes
+abbrev pub Stops : (List ℕ → Type 0) → List ℕ → NoMatch → Type 0
+Stops P bytes Never = NeverBegins P bytes
+Stops P bytes NotYet = IsPartOf P bytes
 
 -- the bytes after the text of P at the front, or why there is none
-abbrev pub Scans : {X : Type 0} → (X → List ℕ) → (List ℕ → Type 0) → List ℕ → Result X Stop → Type 0
+abbrev pub Scans : {X : Type 0} → (X → List ℕ) → (List ℕ → Type 0) → List ℕ → Result X NoMatch → Type 0
 Scans view P bytes (Ok x) = Begins P bytes (view x)
-Scans view P bytes (Err stop) = Stops P bytes stop
+Scans view P bytes (Err why) = Stops P bytes why
 
 -- a text of P for some value
 abbrev pub SomeOf : {Y : Type 0} → (Y → List ℕ → Type 0) → List ℕ → Type 0
 SomeOf {Y} P text = (y : Y) × P y text
 
 -- the value of the text at the front and the bytes after it, or why there is none
-abbrev pub ScansOf : {X Y : Type 0} → (X → Y) → (X → List ℕ) → (Y → List ℕ → Type 0) → List ℕ → Result X Stop → Type 0
+abbrev pub ScansOf : {X Y : Type 0} → (X → Y) → (X → List ℕ) → (Y → List ℕ → Type 0) → List ℕ → Result X NoMatch → Type 0
 ScansOf value view P bytes (Ok x) = Begins (P (value x)) bytes (view x)
-ScansOf value view P bytes (Err stop) = Stops (SomeOf P) bytes stop
+ScansOf value view P bytes (Err why) = Stops (SomeOf P) bytes why
 
 -- a text of P for some value, then one of Q for that value
 pub record ThenOf {Y : Type 0} (P Q : Y → List ℕ → Type 0) (text : List ℕ) : Type 0 where

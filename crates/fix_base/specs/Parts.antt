@@ -1,10 +1,10 @@
 -- What the parts that an engine calls have yet to give, and what they were given, each where it is told.
-use Rattle.std.specs.Prelude.{◌≡◌, ℕ, ◌-◌, ◌<◌, ◌≤◌, List, [], ◌∷◌, ◌++◌, length, Bool, false, Option, Some, None, ⊤}
+use Rattle.std.specs.Prelude.{◌≡◌, ℕ, ◌-◌, ◌<◌, ◌≤◌, List, [], ◌∷◌, ◌++◌, length, Option, Some, None, ⊤}
 use Rattle.fix_base.specs.Lists.{IsPrefixOf}
 use Rattle.fix_base.specs.Line.{line_text}
 use Rattle.fix_base.specs.declared.entry.Record.{Record}
 use Rattle.fix_base.specs.Payload.{record_size}
-use Rattle.fix_base.specs.Act.{Act, Opened, Now, Read, Idle, Ended, Wrote, Kept, KeepLost, Handed, HandLost, Cut, Stop}
+use Rattle.fix_base.specs.Act.{Act, Opened, Now, Read, Idle, Ended, Wrote, Kept, KeepLost, Handed, HandLost, Withheld, Allowed, Cut, Stop}
 
 pub record PartsSeen : Type 0 where
   pub to_come : Option (List (List ℕ))  -- the pieces that reads give yet; an empty one is Idle
@@ -130,5 +130,7 @@ ActMoves (HandLost number marked body) old new = HasNoRoom (length (line_text nu
 ActMoves (Kept r) old new = TakesRoom r old.store_room new.store_room × (new ≡ with_store_room old new.store_room)
 ActMoves (KeepLost r) old new = HasNoRoom (record_size r) old.store_room × (new ≡ old)
 ActMoves Opened old new = new ≡ old
+ActMoves (Withheld n) old new = new ≡ old
+ActMoves (Allowed n) old new = new ≡ old
 ActMoves Cut old new = new ≡ old
 ActMoves Stop old new = KeepsRoom old.store_room new.store_room × (new ≡ with_store_room old new.store_room)

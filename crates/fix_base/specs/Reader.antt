@@ -21,6 +21,8 @@ bytes_read (act.Kept r ∷ acts) = bytes_read acts
 bytes_read (act.KeepLost r ∷ acts) = bytes_read acts
 bytes_read (act.Handed n marked body ∷ acts) = bytes_read acts
 bytes_read (act.HandLost n marked body ∷ acts) = bytes_read acts
+bytes_read (act.Withheld n ∷ acts) = bytes_read acts
+bytes_read (act.Allowed n ∷ acts) = bytes_read acts
 bytes_read (act.Cut ∷ acts) = bytes_read acts
 bytes_read (act.Stop ∷ acts) = bytes_read acts
 
@@ -35,9 +37,9 @@ pub data Gives (n : ℕ) (marked : Bool) : Act → Type 0 where
   handed : (body : List ℕ) → Gives n marked (act.Handed n marked body)
   hand_lost : (body : List ℕ) → Gives n marked (act.HandLost n marked body)
 
--- the end keeps up with the entries of the other, whichever way its own doubt settles
+-- the end keeps up with the other, whichever way its own doubt settles
 abbrev pub Follows : EndState → End → Type 0
-Follows s f = KeepsUp s.end s.expected s.handled s.doubt f.out
+Follows s f = KeepsUp s.end s.expected s.handled s.doubt s.beside f
 
 -- after these acts, which led to this state, the end keeps up with its counterparty, and each message
 -- that the counterparty had before its connection came marked: `f0` is the counterparty at its

@@ -1,5 +1,6 @@
 -- What the frames in the bytes of a connection say.
-use Rattle.std.specs.Prelude.{◌≡◌, ℕ, ◌+◌, ◌==◌, ◌&&◌, ◌||◌, if◌then◌else◌, nat_lt, nat_le, bytes_eq, codes, List, [], ◌∷◌, ◌++◌, length, Bool, true, false, Option, Some, None}
+use Rattle.std.specs.Prelude.{◌≡◌, ℕ, ◌+◌, ◌==◌, ◌&&◌, if◌then◌else◌, nat_lt, nat_le, bytes_eq, codes, List, [], ◌∷◌, ◌++◌, length, Bool, true, false, Option, Some, None}
+use Rattle.std.specs.List.{list_any}
 use Rattle.std.specs.Fmt.{decimal}
 use Rattle.std.specs.Str.{all_ascii_digits}
 use Rattle.std.specs.Str.Parse.{digits_value}
@@ -58,9 +59,12 @@ abbrev pub is_yes : Option (List ℕ) → Bool
 is_yes None = false
 is_yes (Some v) = bytes_eq v (codes "Y")
 
--- a MsgType (35) of an administrative message that is no SequenceReset
+-- the MsgType (35) of one of the seven administrative messages: Heartbeat, TestRequest, ResendRequest,
+-- Reject, SequenceReset, Logout, Logon
 abbrev pub is_admin_type : List ℕ → Bool
-is_admin_type t = bytes_eq t (codes "0") || (bytes_eq t (codes "1") || (bytes_eq t (codes "2") || (bytes_eq t (codes "3") || (bytes_eq t (codes "5") || bytes_eq t (codes "A")))))
+is_admin_type [] = false
+is_admin_type (kind ∷ []) = list_any (λ k. k == kind) (codes "012345A")
+is_admin_type (a ∷ b ∷ more) = false
 
 -- what a SequenceReset says: GapFillFlag (123) = Y fills a gap. Without a readable NewSeqNo it says
 -- no more than its number

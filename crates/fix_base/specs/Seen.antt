@@ -1,9 +1,9 @@
 -- What is seen from outside of the parts that an engine calls: the tape of its acts, the stored end, how
 -- often each part failed, and what the parts have yet to give and were given.
-use Rattle.std.specs.Prelude.{◌≡◌, ◌⊎◌, ◌↔◌, ℕ, suc, ◌+◌, ◌≤◌, min, false, List, [], ◌∷◌, ◌++◌, Option, Some, None}
+use Rattle.std.specs.Prelude.{◌≡◌, ◌⊎◌, ◌↔◌, ℕ, suc, ◌+◌, ◌≤◌, min, List, [], ◌∷◌, ◌++◌, Option, Some, None}
 use Rattle.fix_base.specs.End.{Record, End, folded}
 use Rattle.fix_base.specs.Parts.{PartsSeen, ActMoves, AskMoves, HasNoRoom, with_store_room}
-use Rattle.fix_base.specs.Act.{Act, Opened, Now, Read, Idle, Ended, Wrote, Kept, KeepLost, Handed, HandLost, Cut, Stop}
+use Rattle.fix_base.specs.Act.{Act, Opened, Now, Read, Idle, Ended, Wrote, Kept, KeepLost, Handed, HandLost, Withheld, Allowed, Cut, Stop}
 
 abbrev pub option_folded : Option End → Record → Option End
 option_folded None r = None
@@ -21,6 +21,8 @@ ActStores Ended old new = new ≡ old
 ActStores (Wrote b) old new = new ≡ old
 ActStores (Handed number marked body) old new = new ≡ old
 ActStores (HandLost number marked body) old new = new ≡ old
+ActStores (Withheld n) old new = new ≡ old
+ActStores (Allowed n) old new = new ≡ old
 ActStores Cut old new = new ≡ old
 ActStores Stop old new = new ≡ old
 

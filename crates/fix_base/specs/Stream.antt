@@ -1,5 +1,5 @@
 -- The items of a stream, from a place on.
-use Rattle.std.specs.Prelude.{◌≡◌, ℕ, Bool, ◌==◌, ◌||◌, IsTrue, List, [], ◌∷◌, ◌++◌, length, drop, slice_index, ◌-◌}
+use Rattle.std.specs.Prelude.{◌≡◌, ℕ, Bool, true, ◌==◌, ◌||◌, IsTrue, List, [], ◌∷◌, ◌++◌, length, drop, slice_index, ◌-◌}
 use Rattle.fix_base.specs.Front.{NeverBegins}
 use Rattle.fix_base.specs.Shape.{IsShape, IsFrame}
 
@@ -57,3 +57,10 @@ frames (Byte byte ∷ items) = frames items
 pub record Reads (a : Ahead) (items : List Item) (rest : Ahead) : Type 0 where
   pub all : TakesAll a items rest
   pub end : HasNoItem rest
+
+-- these are the frames of the stream's reading
+pub record AreFramesOf (stream : List ℕ) (given : List (List ℕ)) : Type 0 where
+  pub items : List Item
+  pub rest : Ahead
+  pub reads : Reads (record { may_mark = true; bytes = stream }) items rest
+  pub frames_are : given ≡ frames items

@@ -1,13 +1,15 @@
 -- The world of two ends of a session: what each does, in which order, over connections that may break
 -- at any byte; and what is promised of the two.
 use Rattle.std.specs.Prelude.{◌≡◌, ℕ, ◌<◌, ◌==◌, if◌then◌else◌, List, [], ◌∷◌, ◌++◌, length, Bool, true, false, Some}
+use Rattle.std.specs.List.{AllByRecursion}
 use Rattle.fix_base.specs.Lists.{Among, IsPrefixOf}
 use Rattle.fix_base.specs.Session.{Identity, mirrored}
-use Rattle.fix_base.specs.End.{Record, Push, Expect, Reset, End, folded}
+use Rattle.fix_base.specs.End.{Record, Push, Expect, Many, Withhold, Reset, ResetAsk, Confirm, End, folded, app_entries}
 use Rattle.fix_base.specs.Payload.{IsPersistentEntry}
 use Rattle.fix_base.specs.Act as act
 use Rattle.fix_base.specs.Act.{Act}
-use Rattle.fix_base.specs.EndStep.{Handling, Connection, EndState, new_state, EndStep, Move}
+use Rattle.fix_base.specs.EndStep.{Role, Initiator, Acceptor, Handling, Connection, EndState, new_state, EndStep, Move}
+use Rattle.fix_base.specs.Agrees.{ComesInOrder}
 use Rattle.fix_base.specs.Reader.{Follows, Gives}
 
 -- what an end did on one connection. A connection has a number that both ends know it by
@@ -22,23 +24,23 @@ pub record Given : Type 0 where
   pub connection : ℕ
 
 -- an end in the world
-pub record Side : Type 0 where
+pub record Peer : Type 0 where
   pub state : EndState
   pub number : ℕ  -- that of its last connection, 0 before any
   pub log : List Logged  -- all its connections, the last one first
   pub given : List Given
 
 pub record World : Type 0 where
-  pub first : Side
-  pub second : Side
+  pub first : Peer
+  pub second : Peer
 
--- a side that never did anything
-abbrev pub new_side : Side
-new_side = record { state = new_state; number = 0; log = []; given = [] }
+-- a peer that never did anything
+abbrev pub new_peer : Role → Peer
+new_peer role = record { state = new_state role; number = 0; log = []; given = [] }
 
 -- both ends are new
 abbrev pub new_world : World
-new_world = record { first = new_side; second = new_side }
+new_world = record { first = new_peer Initiator; second = new_peer Acceptor }
 
 -- what was written on the connection of this number
 abbrev pub wrote_at : ℕ → List Logged → List ℕ
@@ -50,19 +52,19 @@ abbrev pub grown_log : List Logged → List ℕ → List Logged
 grown_log [] b = []
 grown_log (l ∷ log) b = record { number = l.number; opened = l.opened; wrote = l.wrote ++ b } ∷ log
 
--- the side after a step: with this state alone, on a new connection, with more written, and with a
+-- the peer after a step: with this state alone, on a new connection, with more written, and with a
 -- message given to its application
-abbrev pub rested : Side → EndState → Side
+abbrev pub rested : Peer → EndState → Peer
 rested a s' = record { state = s'; number = a.number; log = a.log; given = a.given }
 
-abbrev pub opened_side : Side → EndState → ℕ → Side
-opened_side a s' c = record { state = s'; number = c; log = record { number = c; opened = a.state.end; wrote = [] } ∷ a.log; given = a.given }
+abbrev pub opened_peer : Peer → EndState → ℕ → Peer
+opened_peer a s' c = record { state = s'; number = c; log = record { number = c; opened = a.state.end; wrote = [] } ∷ a.log; given = a.given }
 
-abbrev pub wrote_side : Side → EndState → List ℕ → Side
-wrote_side a s' b = record { state = s'; number = a.number; log = grown_log a.log b; given = a.given }
+abbrev pub wrote_peer : Peer → EndState → List ℕ → Peer
+wrote_peer a s' b = record { state = s'; number = a.number; log = grown_log a.log b; given = a.given }
 
-abbrev pub gave_side : Side → EndState → ℕ → Side
-gave_side a s' n = record { state = s'; number = a.number; log = a.log; given = record { number = n; connection = a.number } ∷ a.given }
+abbrev pub gave_peer : Peer → EndState → ℕ → Peer
+gave_peer a s' n = record { state = s'; number = a.number; log = a.log; given = record { number = n; connection = a.number } ∷ a.given }
 
 -- an act that changes an end's state alone
 abbrev pub IsQuiet : Act → Type 0
@@ -76,35 +78,37 @@ IsQuiet (act.Kept r) = Unit {0}
 IsQuiet (act.KeepLost r) = Unit {0}
 IsQuiet (act.Handed n marked body) = ⊥
 IsQuiet (act.HandLost n marked body) = ⊥
+IsQuiet (act.Withheld n) = Unit {0}
+IsQuiet (act.Allowed n) = Unit {0}
 IsQuiet act.Cut = Unit {0}
 IsQuiet act.Stop = Unit {0}
 
--- one act of a side, beside the other side as it is
-pub data SideStep (id : Identity) (a o : Side) : Act → Side → Type 0 where
+-- one act of a peer, beside the other peer as it is
+pub data PeerStep (id : Identity) (a o : Peer) : Act → Peer → Type 0 where
   -- a connection has a number above those of all before
-  opens : {s' : EndState} (c : ℕ) → a.number < c → EndStep id a.state act.Opened s' → SideStep id a o act.Opened (opened_side a s' c)
+  opens : {s' : EndState} (c : ℕ) → a.number < c → EndStep id a.state act.Opened s' → PeerStep id a o act.Opened (opened_peer a s' c)
   -- all that was read on a connection is a prefix of what the other has written there
-  reads : {s' : EndState} (b : List ℕ) (c : Connection) → a.state.connection ≡ Some c → IsPrefixOf (c.read ++ b) (wrote_at a.number o.log) → EndStep id a.state (act.Read b) s' → SideStep id a o (act.Read b) (rested a s')
-  writes : {s' : EndState} (b : List ℕ) → EndStep id a.state (act.Wrote b) s' → SideStep id a o (act.Wrote b) (wrote_side a s' b)
-  hands : {s' : EndState} (n : ℕ) (marked : Bool) (body : List ℕ) → EndStep id a.state (act.Handed n marked body) s' → SideStep id a o (act.Handed n marked body) (gave_side a s' n)
-  loses : {s' : EndState} (n : ℕ) (marked : Bool) (body : List ℕ) → EndStep id a.state (act.HandLost n marked body) s' → SideStep id a o (act.HandLost n marked body) (gave_side a s' n)
-  rests : {s' : EndState} (x : Act) → IsQuiet x → EndStep id a.state x s' → SideStep id a o x (rested a s')
+  reads : {s' : EndState} (b : List ℕ) (c : Connection) → a.state.connection ≡ Some c → IsPrefixOf (c.read ++ b) (wrote_at a.number o.log) → EndStep id a.state (act.Read b) s' → PeerStep id a o (act.Read b) (rested a s')
+  writes : {s' : EndState} (b : List ℕ) → EndStep id a.state (act.Wrote b) s' → PeerStep id a o (act.Wrote b) (wrote_peer a s' b)
+  hands : {s' : EndState} (n : ℕ) (marked : Bool) (body : List ℕ) → EndStep id a.state (act.Handed n marked body) s' → PeerStep id a o (act.Handed n marked body) (gave_peer a s' n)
+  loses : {s' : EndState} (n : ℕ) (marked : Bool) (body : List ℕ) → EndStep id a.state (act.HandLost n marked body) s' → PeerStep id a o (act.HandLost n marked body) (gave_peer a s' n)
+  rests : {s' : EndState} (x : Act) → IsQuiet x → EndStep id a.state x s' → PeerStep id a o x (rested a s')
 
 pub data Who : Type 0 where
   First : Who
   Second : Who
 
-abbrev pub side_of : Who → World → Side
-side_of First w = w.first
-side_of Second w = w.second
+abbrev pub peer_of : Who → World → Peer
+peer_of First w = w.first
+peer_of Second w = w.second
 
-abbrev pub other_of : Who → World → Side
+abbrev pub other_of : Who → World → Peer
 other_of First w = w.second
 other_of Second w = w.first
 
-abbrev pub with_side : Who → World → Side → World
-with_side First w a = record w { first = a }
-with_side Second w a = record w { second = a }
+abbrev pub with_peer : Who → World → Peer → World
+with_peer First w a = record w { first = a }
+with_peer Second w a = record w { second = a }
 
 -- the second end has the counterparty's identity
 abbrev pub identity_of : Who → Identity → Identity
@@ -118,14 +122,18 @@ pub data Event : Type 0 where
 -- these events in this order, with moves between
 pub data WorldRun (id : Identity) : World → List Event → World → Type 0 where
   stop : {w : World} → WorldRun id w [] w
-  step : {w w' : World} {events : List Event} {a' : Side} (who : Who) (x : Act) → SideStep (identity_of who id) (side_of who w) (other_of who w) x a' → WorldRun id (with_side who w a') events w' → WorldRun id w (Does who x ∷ events) w'
-  move : {w w' : World} {events : List Event} {s' : EndState} (who : Who) → Move (side_of who w).state s' → WorldRun id (with_side who w (rested (side_of who w) s')) events w' → WorldRun id w events w'
+  step : {w w' : World} {events : List Event} {a' : Peer} (who : Who) (x : Act) → PeerStep (identity_of who id) (peer_of who w) (other_of who w) x a' → WorldRun id (with_peer who w a') events w' → WorldRun id w (Does who x ∷ events) w'
+  move : {w w' : World} {events : List Event} {s' : EndState} (who : Who) → Move (peer_of who w).state s' → WorldRun id (with_peer who w (rested (peer_of who w) s')) events w' → WorldRun id w events w'
 
--- the record is no reset, and its entry may be sent again
+-- the record is no reset, and its entries may be sent again
 abbrev pub IsPlainRecord : Record → Type 0
 IsPlainRecord (Push e) = IsPersistentEntry e
 IsPlainRecord (Expect k) = Unit {0}
+IsPlainRecord (Many pushes k) = AllByRecursion IsPersistentEntry pushes
+IsPlainRecord (Withhold n) = Unit {0}
 IsPlainRecord (Reset t) = ⊥
+IsPlainRecord (ResetAsk t) = ⊥
+IsPlainRecord Confirm = ⊥
 
 abbrev pub IsPlain : Act → Type 0
 IsPlain (act.Kept r) = IsPlainRecord r
@@ -138,6 +146,8 @@ IsPlain act.Ended = Unit {0}
 IsPlain (act.Wrote b) = Unit {0}
 IsPlain (act.Handed n marked body) = Unit {0}
 IsPlain (act.HandLost n marked body) = Unit {0}
+IsPlain (act.Withheld n) = Unit {0}
+IsPlain (act.Allowed n) = Unit {0}
 IsPlain act.Cut = Unit {0}
 IsPlain act.Stop = Unit {0}
 
@@ -190,3 +200,21 @@ pub record ComesAgain (id : Identity) : Type 0 where
   pub body : List ℕ
   pub handled : world.first.state.handled ≡ handed_over false body ∷ handed_over true body ∷ []
   pub expected : world.first.state.end.stored ≡ 2
+
+-- a message that one end withholds is passed over by the other, which hands over the one behind it and
+-- expects the next number
+pub record PassesWithheld (id : Identity) : Type 0 where
+  pub events : List Event
+  pub world : World
+  pub run : WorldRun id new_world events world
+  pub plain : EachPlain events
+  pub stored : length (app_entries world.second.state.end.out) ≡ 2
+  pub withheld : world.second.state.end.withheld ≡ 1 ∷ []
+  pub body : List ℕ
+  pub handled : world.first.state.handled ≡ record { number = 2; body = body; marked = false; rejected = false } ∷ []
+  pub expected : world.first.state.end.stored ≡ 3
+
+-- at each end a message that comes for its first time comes with a number above all before
+pub record ComeInOrder (w : World) : Type 0 where
+  pub first : ComesInOrder w.first.state.handled
+  pub second : ComesInOrder w.second.state.handled

@@ -1,3 +1,4 @@
+//! What an end of a session does to what is outside it.
 use crate::{Bytes, Record};
 
 /// What an end of a session does to what is outside it, in the order in which it is done. A list
@@ -12,7 +13,7 @@ pub enum Act {
     Read(Bytes),
     /// Nothing came over the connection yet.
     Idle,
-    /// The other side ended the connection.
+    /// The counterparty ended the connection.
     Ended,
     /// These bytes went out: all of a write, or what went out before it failed.
     Wrote(Bytes),
@@ -32,6 +33,10 @@ pub enum Act {
         marked: bool,
         body: Bytes,
     },
+    /// The application doesn't want the message of this MsgSeqNum (34) sent again.
+    Withheld(u32),
+    /// The application lets the message of this MsgSeqNum (34) be sent again.
+    Allowed(u32),
     /// The connection was given up.
     Cut,
     /// The process starts again from what is stored.

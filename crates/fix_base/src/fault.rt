@@ -1,3 +1,4 @@
+//! What is wrong with a message.
 use crate::Tag;
 
 /// What is wrong with a message that is rejected: SessionRejectReason (373) and RefTagID (371).

@@ -1,5 +1,8 @@
-ghost use Rattle.std.specs.Prelude.{◌≡◌, IfSome, Some, codes};
+//! Who a session is between.
+ghost use Rattle.std.specs.Prelude.{◌≡◌, ◌&&◌, nat_le, IfSome, Some, codes};
+ghost use Rattle.std.specs.List.{list_all};
 ghost use Rattle.fix_base.specs.Session.{begin_string_of};
+ghost use Rattle.fix_base.specs.Session;
 
 use crate::Bytes;
 
@@ -43,4 +46,21 @@ pub struct Identity {
     pub begin: Begin,
     pub sender: Bytes,
     pub target: Bytes,
+}
+
+/// The longest CompID, in bytes.
+const LONGEST_COMP_ID: usize = 64;
+
+/// Whether the bytes are a CompID, as in SenderCompID (49): 1 to 64 bytes from 0x20 to 0x7E.
+pub fn is_comp_id(text: &[u8]) -> bool
+    ensures { result ≡ Session.is_comp_id text.now }
+{
+    !text.is_empty() && text.len() <= LONGEST_COMP_ID && is_printable(text)
+}
+
+/// Whether each byte is from 0x20 to 0x7E.
+fn is_printable(text: &[u8]) -> bool
+    ensures { result ≡ list_all (λ b. nat_le 32 b && nat_le b 126) text.now }
+{
+    text.iter().all(|byte| 32 <= *byte && *byte <= 126)
 }

@@ -5,35 +5,35 @@
 
 mod act;
 mod bytes;
+mod constants;
 mod end_laws;
 mod entry;
 mod fault;
-mod front;
 mod identity;
+pub mod msg_types;
+mod no_match;
 mod number;
-mod plain;
-mod plain_fields;
-mod plain_places;
 mod precision;
 mod status;
 mod stream_laws;
-mod tags;
+pub mod tags;
 #[cfg(test)]
 mod tests;
 mod world_laws;
 
 pub use act::Act;
 pub use bytes::{Bytes, OutOfMemory};
+pub use constants::{LAST_EXPECTED, LAST_SEQ_NUM, LAST_TAG, LAST_TIME, SOH};
 pub use end_laws::{
-    a_front_of_a_run_is_a_run, agreement_in_plain_words, no_message_is_passed_over,
-    records_fold_in_order, what_was_handled_is_a_prefix,
+    a_front_of_a_run_is_a_run, agreement_in_plain_words, no_message_comes_late,
+    no_message_is_passed_over, records_fold_in_order, what_was_handled_is_a_prefix,
 };
-pub use entry::{By, Entry, Record, Stored};
+pub use entry::{By, Entries, Entry, Record, Stored};
 pub use fault::Fault;
-pub use front::Stop;
-pub use identity::{Begin, Identity};
+pub use identity::{Begin, Identity, is_comp_id};
+pub use msg_types::is_admin_type;
+pub use no_match::NoMatch;
 pub use number::{SeqNum, Tag};
-pub use plain::plain_reading;
 pub use precision::Precision;
 pub use status::Status;
 pub use stream_laws::{
@@ -42,6 +42,7 @@ pub use stream_laws::{
 };
 pub use tags::{DATA_PAIRS, ENGINE_TAGS, HEADER_TAGS, SESSION_TAGS, TRAILER_TAGS};
 pub use world_laws::{
-    a_message_arrives, a_message_comes_again, a_reader_keeps_up, what_a_writer_keeps_true,
-    world_agrees,
+    a_message_arrives, a_message_comes_again, a_message_is_withheld, a_reader_keeps_up,
+    a_reader_keeps_up_after_a_reset, a_reset_is_shared, no_withheld_message_comes_late,
+    resets_are_shared, what_a_writer_keeps_true, world_agrees,
 };

@@ -1,13 +1,9 @@
+//! Numbers of messages and of fields.
 ghost use Rattle.std.specs.Prelude.{◌≡◌, ◌+◌, ◌≤◌, ◌<◌};
 ghost use Rattle.std.specs.Option.{SomeIff};
 
+use crate::{LAST_SEQ_NUM, LAST_TAG};
 use std::marker::Model;
-
-/// The greatest MsgSeqNum (34).
-pub const LAST_SEQ_NUM: u32 = 999_999_999;
-
-/// The greatest tag of a field.
-pub const LAST_TAG: u32 = 999_999_999;
 
 /// A MsgSeqNum (34): 1 to 999,999,999. Contracts see it as the number.
 #[derive(Clone, Copy, Debug, PartialEq, Eq)]

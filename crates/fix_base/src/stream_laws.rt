@@ -13,7 +13,7 @@ pub fn a_stream_has_one_reading()
 {}
 
 /// What was read of the bytes that have come stands at the front of every reading of the stream
-/// with more bytes behind it: nothing that comes later takes a frame back.
+/// with more bytes after it: nothing that comes later takes a frame back.
 pub fn a_longer_stream_reads_on()
     ensures { (may_mark : Bool) (bytes more : List ℕ) (xs ys : List Item) (b c : Ahead) →
         TakesAll (record { may_mark = may_mark; bytes = bytes }) xs b →

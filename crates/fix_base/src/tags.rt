@@ -1,3 +1,56 @@
+//! The tags of fields that a session speaks of, by their FIX names, and the lists of tags that have a
+//! fixed role.
+
+pub const BEGIN_SEQ_NO: u32 = 7;
+
+pub const BEGIN_STRING: u32 = 8;
+
+pub const BODY_LENGTH: u32 = 9;
+
+pub const CHECK_SUM: u32 = 10;
+
+pub const END_SEQ_NO: u32 = 16;
+
+pub const MSG_SEQ_NUM: u32 = 34;
+
+pub const MSG_TYPE: u32 = 35;
+
+pub const NEW_SEQ_NO: u32 = 36;
+
+pub const POSS_DUP_FLAG: u32 = 43;
+
+pub const REF_SEQ_NUM: u32 = 45;
+
+pub const SENDER_COMP_ID: u32 = 49;
+
+pub const SENDING_TIME: u32 = 52;
+
+pub const TARGET_COMP_ID: u32 = 56;
+
+pub const TEXT: u32 = 58;
+
+pub const ENCRYPT_METHOD: u32 = 98;
+
+pub const HEART_BT_INT: u32 = 108;
+
+pub const TEST_REQ_ID: u32 = 112;
+
+pub const ORIG_SENDING_TIME: u32 = 122;
+
+pub const GAP_FILL_FLAG: u32 = 123;
+
+pub const RESET_SEQ_NUM_FLAG: u32 = 141;
+
+pub const REF_TAG_ID: u32 = 371;
+
+pub const REF_MSG_TYPE: u32 = 372;
+
+pub const SESSION_REJECT_REASON: u32 = 373;
+
+pub const BUSINESS_REJECT_REF_ID: u32 = 379;
+
+pub const BUSINESS_REJECT_REASON: u32 = 380;
+
 /// Pairs of a length tag and the tag of the data field that it counts the bytes of (FIX 4.4,
 /// "Data Types", `Length` and `data`).
 pub const DATA_PAIRS: [(u32, u32); 16] = [

@@ -1,3 +1,4 @@
+//! That memory can be had.
 use crate::{Bytes, OutOfMemory};
 
 #[test]

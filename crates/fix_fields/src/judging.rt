@@ -8,9 +8,9 @@ ghost use Rattle.fix_fields.specs.Drafts.{AreAccepted, IsRefused, IsDraftKind, r
 ghost use Rattle.fix_fields.specs.Drafted.{given};
 
 use crate::draft_fields::GivenField;
-use crate::scanning::{SOH, soh_at};
+use crate::scanning::soh_at;
 use crate::{FieldRef, due_after, is_data_tag, is_engine_tag, is_header_tag};
-use fix_base::Tag;
+use fix_base::{SOH, Tag, is_admin_type};
 
 /// The most bytes of a MsgType (35).
 const MOST_KIND_BYTES: usize = 8;
@@ -58,16 +58,7 @@ pub fn is_draft_kind(kind: &[u8]) -> bool
 pub(crate) fn is_app_type(kind: &[u8]) -> bool
     ensures { IsTrue result ↔ IsAppType kind.now }
 {
-    match kind {
-        b"0" => false,
-        b"1" => false,
-        b"2" => false,
-        b"3" => false,
-        b"4" => false,
-        b"5" => false,
-        b"A" => false,
-        _ => true,
-    }
+    !is_admin_type(kind)
 }
 
 /// The first field that is refused.

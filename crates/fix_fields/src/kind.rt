@@ -4,8 +4,8 @@ ghost use Rattle.fix_fields.specs.Kinds.{IsValueOf};
 
 use crate::dates::{is_date, is_day_of_month, is_time_of_day};
 use crate::number::digits_of;
-use crate::scanning::SOH;
 use crate::{boolean, int, month_year, price_text, utc_time};
+use fix_base::SOH;
 
 /// The most digits of a count.
 const MOST_COUNT_DIGITS: usize = 9;

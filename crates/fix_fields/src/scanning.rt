@@ -2,21 +2,18 @@ ghost use Rattle.std.specs.Prelude.{◌≡◌, ◌<◌, ◌≤◌, ℕ, length, 
 ghost use Rattle.fix_base.specs.Front.{Scans};
 ghost use Rattle.fix_base.specs.Frame.{HasNoSoh, IsText};
 
-use fix_base::Stop;
-
-/// The delimiter of fields.
-pub const SOH: u8 = 1;
+use fix_base::{NoMatch, SOH};
 
 /// The bytes behind the text, or why it does not stand at the front.
-pub fn after_text<'a>(bytes: &'a [u8], text: &[u8]) -> Result<&'a [u8], Stop>
+pub fn after_text<'a>(bytes: &'a [u8], text: &[u8]) -> Result<&'a [u8], NoMatch>
     ensures { Scans (λ rest. rest.now) (IsText text.now) bytes.now result }
 {
     for (i, wanted) in text.iter().enumerate() {
         match bytes.get(i) {
-            None => return Err(Stop::Partial),
+            None => return Err(NoMatch::NotYet),
             Some(found) => {
                 if *found != *wanted {
-                    return Err(Stop::Wrong);
+                    return Err(NoMatch::Never);
                 }
             }
         }

@@ -3,7 +3,8 @@ ghost use Rattle.std.specs.Str.Parse.{digits_value};
 ghost use Rattle.fix_base.specs.Frame.{HasNoSoh};
 ghost use Rattle.fix_base.specs.Fields.{IsValue, is_data_length};
 
-use crate::scanning::{SOH, soh_at};
+use crate::scanning::soh_at;
+use fix_base::SOH;
 
 /// The most digits of the length of a data field.
 const MOST_LENGTH_DIGITS: usize = 7;

@@ -2,7 +2,7 @@ ghost use Rattle.std.specs.Prelude.{◌≡◌, ◌++◌, OnOk};
 ghost use Rattle.fix_base.specs.Payload.{field};
 ghost use Rattle.fix_base.specs.Says.{field_text};
 
-use crate::scanning::SOH;
+use fix_base::SOH;
 use itoa::Buffer;
 use std::alloc::AllocError;
 

@@ -1,11 +1,10 @@
 -- Frames given one after the other.
 use Rattle.std.proofs.Common.{◌≡◌, ℕ, ◌+◌, ◌<◌, ◌≤◌, true, List, [], ◌∷◌, ◌++◌, length, get_or, take, refl, sym, ap, subst, ◌∙◌, append_assoc, arith}
 use Rattle.std.proofs.lemmas.List.{length-append, append-nil, take_more}
-use Rattle.fix_base.specs.Stream.{Ahead, Item, Frame, text_of, HasNoItem, TakesAll, frames, Reads}
+use Rattle.fix_base.specs.Stream.{AreFramesOf, Ahead, Item, Frame, text_of, HasNoItem, TakesAll, frames, Reads}
 use Rattle.fix_frame.specs.Given.{GivesFrame, GivesNone}
 use Rattle.fix_base.specs.Says.{joined}
 use Rattle.fix_base.proofs.Fronted as fronted
-use Rattle.fix_base.specs.Plain.{AreFramesOf}
 use Rattle.fix_frame.specs.Whole.{GivesAll}
 use Rattle.fix_base.proofs.Spans.{shape_long}
 use Rattle.fix_base.proofs.Runs.{with_more, all_more, all_then, frames-append, reads_same}

@@ -1,8 +1,8 @@
 -- How long bytes wait.
 use Rattle.std.proofs.Common.{◌≡◌, ℕ, ◌+◌, ◌-◌, ◌<◌, ◌≤◌, Bool, true, List, [], ◌++◌, length, drop, codes, refl, sym, ap, ◌∙◌, subst, append_assoc, arith}
 use Rattle.std.proofs.lemmas.List.{length-append, length-drop, append-nil}
-use Rattle.fix_base.specs.declared.front.Stop.TheVariants.{Partial}
-use Rattle.fix_base.specs.declared.front.Stop.{Stop}
+use Rattle.fix_base.specs.declared.no_match.NoMatch.TheVariants.{NotYet}
+use Rattle.fix_base.specs.declared.no_match.NoMatch.{NoMatch}
 use Rattle.fix_base.specs.Front.{Begins, IsPartOf, SomeOf, Stops}
 use Rattle.fix_base.specs.Frame.{IsText, IsHead}
 use Rattle.fix_base.specs.Shape.{IsShape}
@@ -28,8 +28,8 @@ still_part n bytes behind rest more head kind few =
     let a = begins_long (IsHead n) bytes behind head in
     let b = begins_long (IsText (codes "35=")) behind rest kind in
     let short : length (rest ++ more) < n - 4 = omega (arith, a, b, few, length-append rest more, length-append bytes more) in
-    span_stops_2 n (bytes ++ more) (behind ++ more) Partial (begins_more (IsHead n) bytes behind more head)
-    (body_stops_2 n (behind ++ more) (rest ++ more) Partial (begins_more (IsText (codes "35=")) behind rest more kind) (long_partial (rest ++ more) (n - 4) short))
+    span_stops_2 n (bytes ++ more) (behind ++ more) NotYet (begins_more (IsHead n) bytes behind more head)
+    (body_stops_2 n (behind ++ more) (rest ++ more) NotYet (begins_more (IsText (codes "35=")) behind rest more kind) (long_partial (rest ++ more) (n - 4) short))
 
 -- one head stands at the front
 one_head : (n m : ℕ) (bytes behind rest : List ℕ) → Begins (IsHead n) bytes behind → Begins (IsHead m) bytes rest → (n ≡ m) × (behind ≡ rest)
@@ -41,10 +41,10 @@ one_head n m bytes behind rest a b =
 some_head_free : IsPrefixFree (λ (_ : Unit {0}). SomeOf IsHead)
 some_head_free = record { same = λ _ _ a b u v s t e. head_free.same s.0 t.0 a b u v s.1 t.1 e; value = λ _ _ a s t. refl }
 
-pub no_head : (n : ℕ) (bytes behind : List ℕ) (stop : Stop) → Begins (IsHead n) bytes behind → Stops (SomeOf IsHead) bytes stop → ⊥
+pub no_head : (n : ℕ) (bytes behind : List ℕ) (stop : NoMatch) → Begins (IsHead n) bytes behind → Stops (SomeOf IsHead) bytes stop → ⊥
 no_head n bytes behind stop head stops = begins_stops (SomeOf IsHead) some_head_free bytes behind stop (record { text = head.text; is = (n, head.is); spelled = head.spelled }) stops
 
-pub no_kind : (n m : ℕ) (bytes behind found rest : List ℕ) (stop : Stop) → Begins (IsHead n) bytes behind → Begins (IsText (codes "35=")) behind rest → Begins (IsHead m) bytes found → Stops (IsText (codes "35=")) found stop → ⊥
+pub no_kind : (n m : ℕ) (bytes behind found rest : List ℕ) (stop : NoMatch) → Begins (IsHead n) bytes behind → Begins (IsText (codes "35=")) behind rest → Begins (IsHead m) bytes found → Stops (IsText (codes "35=")) found stop → ⊥
 no_kind n m bytes behind found rest stop head kind head2 stops =
     let same = one_head n m bytes behind found head head2 in
     begins_stops (IsText (codes "35=")) (text_free (codes "35=")) found rest stop (subst (λ (x : List ℕ). Begins (IsText (codes "35=")) x rest) same.1 kind) stops

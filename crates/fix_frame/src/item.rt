@@ -2,10 +2,9 @@ ghost use Rattle.std.specs.Prelude.{◌≡◌, ◌≤◌, ◌-◌, ◌==◌, ◌
 ghost use Rattle.fix_base.specs.Stream.{ahead_of};
 ghost use Rattle.fix_frame.specs.Answer.{Answers};
 
-use crate::places::SOH;
 use crate::shape::span_of;
 use crate::summing::is_right;
-use fix_base::Stop;
+use fix_base::{NoMatch, SOH};
 
 /// What stands at a place of a stream.
 #[derive(Clone, Copy, Debug, PartialEq, Eq)]
@@ -38,8 +37,8 @@ pub fn item_ahead(bytes: &[u8], may_mark: bool) -> Framed<'_>
                 Framed::Skip(length)
             }
         }
-        Err(Stop::Wrong) => Framed::Skip(1),
-        Err(Stop::Partial) => Framed::More,
+        Err(NoMatch::Never) => Framed::Skip(1),
+        Err(NoMatch::NotYet) => Framed::More,
     }
 }
 

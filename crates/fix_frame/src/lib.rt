@@ -2,8 +2,6 @@
 //! to the bytes of its frame.
 #![tactic(auto)]
 
-#[cfg(test)]
-mod agreement;
 mod item;
 mod places;
 mod reader;

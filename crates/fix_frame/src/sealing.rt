@@ -5,9 +5,9 @@ ghost use Rattle.fix_base.specs.Sealed.{sealed, three_digits_of};
 ghost use Rattle.fix_frame.specs.Answer.{Stands};
 ghost use Rattle.fix_frame.specs.Sealable.{IsSealable, message_text, TooLarge};
 
-use crate::places::{GREATEST_LENGTH, SOH};
+use crate::places::GREATEST_LENGTH;
 use crate::summing::checksum;
-use fix_base::{Begin, Bytes};
+use fix_base::{Begin, Bytes, SOH};
 use std::alloc::{AllocError, Global};
 
 /// Why there is no frame.

@@ -1,7 +1,7 @@
 ghost use Rattle.fix_frame.specs.Seeks.{Seeks};
 
 use crate::item::{Framed, item_ahead};
-use crate::places::SOH;
+use fix_base::SOH;
 
 /// What the search for the next frame found.
 #[derive(Clone, Copy)]

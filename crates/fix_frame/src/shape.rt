@@ -4,12 +4,12 @@ ghost use Rattle.fix_base.specs.Frame.{IsBody, IsHead, IsText, IsTrailer};
 ghost use Rattle.fix_base.specs.Shape.{HasShape, IsShape};
 ghost use Rattle.fix_frame.specs.Span.{parts_of};
 
-use crate::places::{SOH, after_any, after_length, after_sum, after_version};
-use fix_base::Stop;
+use crate::places::{after_any, after_length, after_sum, after_version};
+use fix_base::{NoMatch, SOH};
 use fix_fields::after_text;
 
 /// The number of the BodyLength (9), and the bytes behind the head.
-fn after_head(bytes: &[u8]) -> Result<(usize, &[u8]), Stop>
+fn after_head(bytes: &[u8]) -> Result<(usize, &[u8]), NoMatch>
     ensures { ScansOf (λ x. x.0) (λ x. x.1.now) IsHead bytes.now result }
 {
     let rest = after_text(bytes, b"8=FIX")?;
@@ -19,7 +19,7 @@ fn after_head(bytes: &[u8]) -> Result<(usize, &[u8]), Stop>
 }
 
 /// The bytes behind a body of this length. Only its fixed places are looked at.
-fn after_body(bytes: &[u8], length: usize) -> Result<&[u8], Stop>
+fn after_body(bytes: &[u8], length: usize) -> Result<&[u8], NoMatch>
     requires { 5 ≤ length }
     ensures { Scans (λ rest. rest.now) (IsBody length) bytes.now result }
 {
@@ -29,7 +29,7 @@ fn after_body(bytes: &[u8], length: usize) -> Result<&[u8], Stop>
 }
 
 /// The number of the CheckSum (10), and the bytes behind the trailer.
-fn after_trailer(bytes: &[u8]) -> Result<(u32, &[u8]), Stop>
+fn after_trailer(bytes: &[u8]) -> Result<(u32, &[u8]), NoMatch>
     ensures { ScansOf (λ x. x.0) (λ x. x.1.now) IsTrailer bytes.now result }
 {
     let rest = after_text(bytes, b"10=")?;
@@ -50,7 +50,7 @@ pub struct Span<'a> {
 }
 
 /// The head, the body and the trailer at the front.
-pub fn span_of(bytes: &[u8]) -> Result<Span<'_>, Stop>
+pub fn span_of(bytes: &[u8]) -> Result<Span<'_>, NoMatch>
     ensures { ScansOf parts_of (λ x. x.rest.now) HasShape bytes.now result }
 {
     let (length, behind_head) = after_head(bytes)?;

@@ -1,7 +1,6 @@
 ghost use Rattle.std.specs.Prelude.{◌≡◌, ◌++◌, [], true, List, OnOk, IfOk};
 ghost use Rattle.fix_base.specs.Says.{joined};
-ghost use Rattle.fix_base.specs.Stream.{Ahead, Item, frames, Reads};
-ghost use Rattle.fix_base.specs.Plain.{AreFramesOf};
+ghost use Rattle.fix_base.specs.Stream.{Ahead, AreFramesOf, Item, frames, Reads};
 ghost use Rattle.fix_frame.specs.Whole.{GivesAll};
 
 use crate::Reader;

@@ -2,13 +2,12 @@
 ghost use Rattle.std.specs.Prelude.{◌≡◌, ◌+◌, ◌≤◌, ◌<◌, ◌==◌, ◌&&◌, not, nat_le, length, option_map, if◌then◌else◌, Some, None};
 ghost use Rattle.std.specs.List.{list_all, slice_split};
 ghost use Rattle.fix_base.specs.Says.{number_in as the_number};
-ghost use Rattle.fix_base.specs.Session.{is_comp_id as the_comp_id};
 ghost use Rattle.fix_settings.specs.Forms.{version_in as the_version, is_two_at, two_at as the_two, clock_in as the_clock, day_name as the_day_name, is_day as the_is_day, day_in as the_day, flag_in as the_flag, precision_in as the_precision, is_type as the_is_type, text_if as the_text_if, value_in as the_value};
 ghost use Rattle.fix_settings.specs.Lines.{is_blank as the_blank};
 ghost use Rattle.fix_settings.specs.Lent.{value_read};
 
 use crate::line::{cut_at, is_blank};
-use fix_base::{Begin, Precision};
+use fix_base::{Begin, Precision, is_comp_id};
 
 /// A form of values.
 #[derive(Clone, Copy, Debug, PartialEq, Eq)]
@@ -69,28 +68,6 @@ fn version_in(text: &[u8]) -> Option<Begin>
         return Some(Begin::Fix44);
     }
     None
-}
-
-// Whether each byte is one of a CompID.
-fn are_printed(text: &[u8]) -> bool
-    ensures { result ≡ list_all (λ b. nat_le 32 b && nat_le b 126) text.now }
-{
-    for b in text {
-        if *b < 32 {
-            return false;
-        }
-        if *b > 126 {
-            return false;
-        }
-    }
-    true
-}
-
-// A CompID.
-fn is_comp_id(text: &[u8]) -> bool
-    ensures { result ≡ the_comp_id text.now }
-{
-    !text.is_empty() && (text.len() <= 64 && are_printed(text))
 }
 
 // The number of digits, where it lies from `low` to `high`.

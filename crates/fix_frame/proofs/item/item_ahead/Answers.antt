@@ -10,8 +10,8 @@ returns-then-not-may_mark c = byte_ahead c.args.may_mark c.args.bytes.now (grind
 pub returns-else-is_right : goal.returns-else-is_right
 returns-else-is_right c = rw c.if-not-may_mark.false (span_ahead c.args.bytes.now (parts_of c.in-Ok.span) c.in-Ok.span.rest.now c.in-Ok.ensures (λ right. let x = c.if-is_right.ensures.1 right in cc))
 
-pub returns-in-Err-Wrong : goal.returns-in-Err-Wrong
-returns-in-Err-Wrong c = byte_ahead c.args.may_mark c.args.bytes.now (grind arith) (λ mark. rw c.in-Err-Wrong.field-0-is at c.in-Err-Wrong.ensures)
+pub returns-in-Err-Never : goal.returns-in-Err-Never
+returns-in-Err-Never c = byte_ahead c.args.may_mark c.args.bytes.now (grind arith) (λ mark. rw c.in-Err-Never.field-0-is at c.in-Err-Never.ensures)
 
-pub returns-in-Err-Partial : goal.returns-in-Err-Partial
-returns-in-Err-Partial c = rw c.if-not-may_mark.false (none_ahead c.args.bytes.now (rw c.in-Err-Partial.field-0-is at c.in-Err-Partial.ensures))
+pub returns-in-Err-NotYet : goal.returns-in-Err-NotYet
+returns-in-Err-NotYet c = rw c.if-not-may_mark.false (none_ahead c.args.bytes.now (rw c.in-Err-NotYet.field-0-is at c.in-Err-NotYet.ensures))
