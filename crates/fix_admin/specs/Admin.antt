@@ -1,6 +1,6 @@
 -- The session messages that are read, and the first fault of one: the tags of each type in their
 -- order, with their bounds.
-use Rattle.std.specs.Prelude.{◌≡◌, ℕ, ◌&&◌, ◌||◌, nat_lt, if◌then◌else◌, Bool, true, List, bytes_eq, codes, Option, Some, option_map, Result, Ok, Err}
+use Rattle.std.specs.Prelude.{◌≡◌, ℕ, ◌&&◌, nat_lt, if◌then◌else◌, Bool, true, List, bytes_eq, codes, Option, Some, option_map, Result, Ok, Err}
 use Rattle.fix_base.specs.Fields.{Field}
 use Rattle.fix_base.specs.Says.{value_of, HasFields, is_admin_type}
 use Rattle.fix_admin.specs.declared.admin.Admin.{Admin}
@@ -80,4 +80,4 @@ pub record IsAdminFrame (frame : List ℕ) : Type 0 where
   pub fields : List Field
   pub has : HasFields frame fields
   pub is : value_of 35 fields ≡ Some type
-  pub admin : (bytes_eq type (codes "4") || is_admin_type type) ≡ true
+  pub admin : is_admin_type type ≡ true

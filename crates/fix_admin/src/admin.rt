@@ -5,12 +5,12 @@ ghost use Rattle.fix_base.specs.Says.{HasFields, value_of};
 ghost use Rattle.fix_admin.specs.Admin.{IsAdminFrame, answer_seen, admin_of, heartbeat_of, test_request_of, resend_request_of, reject_of, sequence_reset_of, logon_of, with_heart_of};
 
 use crate::reading::{allow, fault, flag_at, need, number_at, version_in};
-use crate::tags::{
-    BEGIN_SEQ_NO, DEFAULT_APPL_VER_ID, ENCRYPT_METHOD, END_SEQ_NO, GAP_FILL_FLAG, HEART_BT_INT,
-    LAST_SEQ_NUM, MSG_TYPE, NEW_SEQ_NO, OUT_OF_RANGE, REF_SEQ_NUM, REQUIRED_TAG_MISSING,
-    RESET_SEQ_NUM_FLAG, TEST_REQ_ID,
+use crate::tags::{DEFAULT_APPL_VER_ID, OUT_OF_RANGE, REQUIRED_TAG_MISSING};
+use fix_base::tags::{
+    BEGIN_SEQ_NO, ENCRYPT_METHOD, END_SEQ_NO, GAP_FILL_FLAG, HEART_BT_INT, MSG_TYPE, NEW_SEQ_NO,
+    REF_SEQ_NUM, RESET_SEQ_NUM_FLAG, TEST_REQ_ID,
 };
-use fix_base::{Fault, SeqNum};
+use fix_base::{Fault, LAST_EXPECTED, LAST_SEQ_NUM, SeqNum};
 use fix_fields::first_value;
 
 /// The greatest HeartBtInt (108), in seconds: a day.
@@ -133,7 +133,7 @@ fn sequence_reset<'a>(frame: &'a [u8]) -> Result<Admin<'a>, Fault>
     requires { IsFrame frame.now }
     ensures { (fs : List Field) → HasFields frame.now fs → answer_seen result ≡ sequence_reset_of fs }
 {
-    match number_at(frame, NEW_SEQ_NO, 1, LAST_SEQ_NUM + 1) {
+    match number_at(frame, NEW_SEQ_NO, 1, LAST_EXPECTED) {
         Ok(next) => match flag_at(frame, GAP_FILL_FLAG) {
             Ok(gap) => Ok(Admin::SequenceReset { next, gap }),
             Err(fault) => Err(fault),

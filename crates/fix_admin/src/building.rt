@@ -5,13 +5,14 @@ ghost use Rattle.fix_base.specs.Says.{field_text, fields_text};
 ghost use Rattle.fix_admin.specs.Say.{say_seen, fields_of, business_fields, id_fields, tag_fields, reason_fields, text_fields, reset_fields, version_fields, ref_type};
 ghost use Rattle.fix_admin.specs.Say as says;
 
-use crate::tags::{
-    BEGIN_SEQ_NO, BUSINESS_REJECT_REASON, DEFAULT_APPL_VER_ID, ENCRYPT_METHOD, END_SEQ_NO,
-    GAP_FILL_FLAG, HEART_BT_INT, NEW_SEQ_NO, REF_MSG_TYPE, REF_SEQ_NUM, REF_TAG_ID,
-    RESET_SEQ_NUM_FLAG, SESSION_REJECT_REASON, TEST_REQ_ID, TEXT,
-};
+use crate::tags::DEFAULT_APPL_VER_ID;
 use crate::texts::{logout_text, reason_text};
 use crate::{LogoutText, Say};
+use fix_base::tags::{
+    BEGIN_SEQ_NO, BUSINESS_REJECT_REASON, ENCRYPT_METHOD, END_SEQ_NO, GAP_FILL_FLAG, HEART_BT_INT,
+    NEW_SEQ_NO, REF_MSG_TYPE, REF_SEQ_NUM, REF_TAG_ID, RESET_SEQ_NUM_FLAG, SESSION_REJECT_REASON,
+    TEST_REQ_ID, TEXT,
+};
 use fix_base::{Begin, Bytes, Fault, OutOfMemory, Tag};
 use fix_fields::push_field;
 use itoa::Buffer;

@@ -70,8 +70,8 @@ taken_timed Acceptor o reset n heart s h =
     (ends (await.plain_answer o n heart s) (count_or_ask_timed o n (await.answered heart s) (sent_timed s h))))
 taken_timed Initiator o reset n heart s h =
     either s.reset_asked _ _
-      (either reset _ _ (ends (answer (Confirm ∷ Expect (n + 1) ∷ []) (counted n (await.confirmed s))) h) (ends (refuse n refusal.ResetUnanswered s) h))
-      (either reset _ _ (ends (refuse n refusal.ResetAsked s) h) (ends (answer (await.count_or_ask o n (up s) ∷ []) (await.counted_or_asked o n (up s))) (count_or_ask_timed o n (up s) h)))
+    (either reset _ _ (ends (answer (Confirm ∷ Expect (n + 1) ∷ []) (counted n (await.confirmed s))) h) (ends (refuse n refusal.ResetUnanswered s) h))
+    (either reset _ _ (ends (refuse n refusal.ResetAsked s) h) (ends (answer (await.count_or_ask o n (up s) ∷ []) (await.counted_or_asked o n (up s))) (count_or_ask_timed o n (up s) h)))
 
 logon_timed : (heart : Option ℕ) (o : Options) (reset : Bool) (n : ℕ) (s : MachineState) → IsTimed s → IsTimedBehind (await.logon_answer heart o reset n s)
 logon_timed None o reset n s h = ends _ h

@@ -57,3 +57,15 @@ answer_to o s (Clock now inside) = clock o (read_clock now s) inside
 answer_to o s (Leave now) = leave s.phase (read_clock now s)
 answer_to o s Ended = silent (closed s)
 answer_to o s (Wrote now) = silent (sent (read_clock now s))
+
+-- the state that the steps of an answer begin with: a draft, or a BusinessMessageReject, that was sent
+-- by the application's turn has no step
+abbrev pub started : MachineState → EventSeen → MachineState
+started s (Begin role now) = s
+started s First = s
+started s (Frame i) = s
+started s (Moved waiting) = s
+started s (Clock now inside) = s
+started s (Leave now) = s
+started s Ended = s
+started s (Wrote now) = sent s

@@ -9,3 +9,4 @@ pub mod Clock
 pub mod Decide
 pub mod Deadline
 pub mod Numbers
+pub mod Rows

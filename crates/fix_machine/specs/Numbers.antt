@@ -1,10 +1,13 @@
 -- What the steps of an answer do to the numbers, one step after the other. Where an answer ends at one
 -- of its steps, since no number is left, a write or a hand-over failed, or memory was refused, the
 -- steps before it stand, a count among them, and no later one is done.
-use Rattle.std.specs.Prelude.{ℕ, ◌+◌, List, [], ◌∷◌, take, Bool, true, false}
-use Rattle.std.specs.List.{list_any}
-use Rattle.fix_machine.specs.Event.{StepSeen, Send, Serve, Hand, Stash, Expect, Reset, Confirm, Close, Nothing}
-use Rattle.fix_machine.specs.State.{number_after}
+use Rattle.std.specs.Prelude.{◌≡◌, ℕ, ◌+◌, List, [], ◌∷◌, take, Bool, true, false}
+use Rattle.std.specs.List.{list_any, AllByRecursion}
+use Rattle.fix_admin.specs.Say.{SaySeen, Heartbeat, TestRequest, ResendRequest, Reject, GapFill, Logout, Logon}
+use Rattle.fix_machine.specs.Event.{StepSeen, Send, Serve, Hand, Stash, Expect, Confirm, Close, Nothing}
+use Rattle.fix_machine.specs.Event as event
+use Rattle.fix_machine.specs.State.{MachineState, number_after}
+use Rattle.fix_machine.specs.Answer.{Answered}
 
 -- the inbound number that is expected after a step
 abbrev pub expected_by : StepSeen → ℕ → ℕ
@@ -13,7 +16,7 @@ expected_by (Serve from to) expected = expected
 expected_by Hand expected = expected
 expected_by Stash expected = expected
 expected_by (Expect number) expected = number
-expected_by Reset expected = 1
+expected_by event.Reset expected = 1
 expected_by Confirm expected = expected
 expected_by (Close why) expected = expected
 expected_by Nothing expected = expected
@@ -25,7 +28,7 @@ last_by (Serve from to) last = last
 last_by Hand last = last
 last_by Stash last = last
 last_by (Expect number) last = last
-last_by Reset last = 0
+last_by event.Reset last = 0
 last_by Confirm last = last
 last_by (Close why) last = last
 last_by Nothing last = last
@@ -54,10 +57,41 @@ is_after_a_flush (Serve from to) = true
 is_after_a_flush Hand = true
 is_after_a_flush Stash = false
 is_after_a_flush (Expect number) = false
-is_after_a_flush Reset = true
+is_after_a_flush event.Reset = true
 is_after_a_flush Confirm = true
 is_after_a_flush (Close why) = false
 is_after_a_flush Nothing = false
 
 abbrev pub begins_with_a_flush : List StepSeen → Bool
 begins_with_a_flush steps = list_any is_after_a_flush steps
+
+-- the state behind an answer has the numbers that its steps say
+pub record Adds (s : MachineState) (x : Answered) : Type 0 where
+  pub expected : x.next.expected ≡ expected_after x.steps s.expected
+  pub last : x.next.last ≡ last_after x.steps s.last
+
+-- no Reject (3) is sent
+abbrev pub IsNoRejectSaid : SaySeen → Type 0
+IsNoRejectSaid (Heartbeat id) = Unit {0}
+IsNoRejectSaid TestRequest = Unit {0}
+IsNoRejectSaid (ResendRequest from to) = Unit {0}
+IsNoRejectSaid (Reject about type fault) = ⊥
+IsNoRejectSaid (GapFill next) = Unit {0}
+IsNoRejectSaid (Logout text) = Unit {0}
+IsNoRejectSaid (Logon heart reset version) = Unit {0}
+
+abbrev pub IsNoReject : StepSeen → Type 0
+IsNoReject (Send say) = IsNoRejectSaid say
+IsNoReject (Serve from to) = Unit {0}
+IsNoReject Hand = Unit {0}
+IsNoReject Stash = Unit {0}
+IsNoReject (Expect number) = Unit {0}
+IsNoReject event.Reset = Unit {0}
+IsNoReject Confirm = Unit {0}
+IsNoReject (Close why) = Unit {0}
+IsNoReject Nothing = Unit {0}
+
+-- the expected number stays, and nothing is rejected
+pub record IsPassive (s : MachineState) (x : Answered) : Type 0 where
+  pub expected : x.next.expected ≡ s.expected
+  pub quiet : AllByRecursion IsNoReject x.steps

@@ -53,7 +53,7 @@ stopped_at o stored = record {
   last = stored.last;
   heart = o.heart;
   resend_requested = None;
-  reset_asked = false;
+  reset_asked = stored.asked;
   reading = 0;
   begun = 0;
   sent_at = 0;
@@ -64,7 +64,7 @@ stopped_at o stored = record {
 
 -- the numbers are those of what is stored
 abbrev pub resumed_at : Stored → MachineState → MachineState
-resumed_at stored s = record s { expected = stored.expected; last = stored.last; reset_asked = false }
+resumed_at stored s = record s { expected = stored.expected; last = stored.last; reset_asked = stored.asked }
 
 -- the clock was read; a reading beyond the end of 2099 counts as that
 abbrev pub read_clock : ℕ → MachineState → MachineState

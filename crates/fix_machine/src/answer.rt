@@ -7,10 +7,9 @@ ghost use Rattle.fix_machine.specs.Answer as answers;
 ghost use Rattle.fix_machine.specs.State as states;
 ghost use Rattle.fix_machine.specs.State.{number_after};
 
-use crate::limits::{LAST_SEQ_NUM, LAST_TIME};
 use crate::{MachineState, Options, Phase, Refusal, Requested, Why};
 use fix_admin::LogoutText;
-use fix_base::{Identity, SeqNum};
+use fix_base::{Identity, LAST_SEQ_NUM, LAST_TIME, SeqNum};
 use fix_fields::Envelope;
 
 /// One thing to do, as a step without the texts that it gives back: the MsgType (35) and the

@@ -4,8 +4,8 @@ ghost use Rattle.fix_machine.specs.State.{IsTimed};
 ghost use Rattle.fix_machine.specs.Deadline as deadlines;
 ghost use Rattle.fix_machine.specs.Deadline.{IsFirst, IsDeadline, has_passed, earlier};
 
-use crate::limits::LAST_TIME;
 use crate::{MachineState, Options, Phase};
+use fix_base::LAST_TIME;
 
 /// The least reading after the last one, up to the end of 2099, that brings something.
 pub fn deadline(options: &Options, state: &MachineState) -> Option<u64>

@@ -16,7 +16,6 @@ mod deadline;
 mod event;
 mod inbound;
 mod laws;
-mod limits;
 mod logged_on;
 mod machine;
 mod state;

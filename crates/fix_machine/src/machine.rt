@@ -59,7 +59,7 @@ impl Machine {
                 last: stored.last,
                 heart,
                 resend_requested: None,
-                reset_asked: false,
+                reset_asked: stored.asked,
                 reading: 0,
                 begun: 0,
                 sent_at: 0,
@@ -81,7 +81,7 @@ impl Machine {
         self.state = MachineState {
             expected: stored.expected,
             last: stored.last,
-            reset_asked: false,
+            reset_asked: stored.asked,
             ..self.state
         };
     }
