@@ -7,6 +7,8 @@ mod building;
 mod reading;
 mod say;
 mod tags;
+#[cfg(test)]
+mod tests;
 mod texts;
 
 pub use admin::{Admin, read_admin};

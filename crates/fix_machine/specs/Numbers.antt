@@ -4,7 +4,9 @@
 use Rattle.std.specs.Prelude.{◌≡◌, ℕ, ◌+◌, List, [], ◌∷◌, take, Bool, true, false}
 use Rattle.std.specs.List.{list_any, AllByRecursion}
 use Rattle.fix_admin.specs.Say.{SaySeen, Heartbeat, TestRequest, ResendRequest, Reject, GapFill, Logout, Logon}
-use Rattle.fix_machine.specs.Event.{StepSeen, Send, Serve, Hand, Stash, Expect, Confirm, Close, Nothing}
+use Rattle.fix_machine.specs.declared.state.Phase.{Phase}
+use Rattle.fix_machine.specs.declared.state.Phase.TheVariants as phase
+use Rattle.fix_machine.specs.Event.{EventSeen, StepSeen, Send, Serve, Hand, Stash, Expect, Confirm, Close, Nothing}
 use Rattle.fix_machine.specs.Event as event
 use Rattle.fix_machine.specs.State.{MachineState, number_after}
 use Rattle.fix_machine.specs.Answer.{Answered}
@@ -95,3 +97,21 @@ IsNoReject Nothing = Unit {0}
 pub record IsPassive (s : MachineState) (x : Answered) : Type 0 where
   pub expected : x.next.expected ≡ s.expected
   pub quiet : AllByRecursion IsNoReject x.steps
+
+-- the phases behind the Logon
+abbrev pub IsLoggedOn : Phase → Type 0
+IsLoggedOn phase.Down = ⊥
+IsLoggedOn phase.AwaitLogon = ⊥
+IsLoggedOn phase.Up = Unit {0}
+IsLoggedOn phase.LogoutSent = Unit {0}
+
+-- an event other than a message
+abbrev pub IsNoMessage : EventSeen → Type 0
+IsNoMessage (event.Begin role now) = Unit {0}
+IsNoMessage event.First = Unit {0}
+IsNoMessage (event.Frame message) = ⊥
+IsNoMessage (event.Moved waiting) = Unit {0}
+IsNoMessage (event.Clock now inside) = Unit {0}
+IsNoMessage (event.Leave now) = Unit {0}
+IsNoMessage event.Ended = Unit {0}
+IsNoMessage (event.Wrote now) = Unit {0}

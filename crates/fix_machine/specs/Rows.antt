@@ -3,7 +3,7 @@
 -- and its clock stands at 2024-01-02 10:00:00.
 use Rattle.std.specs.Prelude.{◌≡◌, ℕ, ◌+◌, ◌-◌, List, [], ◌∷◌, codes, Bool, true, false, Option, Some, None, ℤ, pos}
 use Rattle.std.specs.List.{AllByRecursion}
-use Rattle.fix_base.specs.Session.{Fix42}
+use Rattle.fix_base.specs.declared.identity.Begin.TheVariants.{Fix42}
 use Rattle.fix_fields.specs.Header.{Header}
 use Rattle.fix_admin.specs.Values.{fault_of}
 use Rattle.fix_admin.specs.Admin as admin
