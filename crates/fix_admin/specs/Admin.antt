@@ -58,7 +58,9 @@ sequence_reset_of fs = and_then (number_at 36 1 1000000000 fs) (λ next. and_the
 -- Logon (A): EncryptMethod (98), which is 0, HeartBtInt (108) of at most a day, and ResetSeqNumFlag
 -- (141), which may be absent. DefaultApplVerID (1137) is never a fault
 abbrev pub with_heart_of : List Field → Result AdminSeen Fault
-with_heart_of fs = and_then (number_at 108 0 86400 fs) (λ heart. and_then (flag_at 141 fs) (λ reset. Ok (Logon heart reset (version_in (value_of 1137 fs)))))
+with_heart_of fs =
+    and_then (number_at 108 0 86400 fs) (λ heart.
+    and_then (flag_at 141 fs) (λ reset. Ok (Logon heart reset (version_in (value_of 1137 fs)))))
 
 abbrev pub logon_of : List Field → Result AdminSeen Fault
 logon_of fs = and_then (number_at 98 0 0 fs) (λ method. with_heart_of fs)

@@ -63,7 +63,8 @@ reason_text reason =
 -- the text of a Logout
 abbrev pub logout_text : LogoutText → List ℕ
 logout_text Empty = []
-logout_text (TooLow expected received) = codes "MsgSeqNum too low, expecting " ++ decimal expected ++ codes " but received " ++ decimal received
+logout_text (TooLow expected received) =
+    codes "MsgSeqNum too low, expecting " ++ decimal expected ++ codes " but received " ++ decimal received
 logout_text BeginString = codes "Incorrect BeginString"
 logout_text NoNumber = codes "MsgSeqNum missing"
 logout_text CompId = codes "CompID problem"
@@ -113,15 +114,20 @@ version_fields (Some version) = field 1137 (decimal version) ∷ []
 abbrev pub ref_type : List ℕ → Field
 ref_type type = field 372 (take 8 type)
 
+abbrev pub logon_fields : ℕ → Bool → Option ℕ → List Field
+logon_fields heart reset version = field 98 (codes "0") ∷ field 108 (decimal heart) ∷ reset_fields reset ++ version_fields version
+
 abbrev pub fields_of : Begin → SaySeen → List Field
 fields_of begin (Heartbeat id) = id_fields id
 fields_of begin TestRequest = field 112 (codes "TEST") ∷ []
 fields_of begin (ResendRequest from to) = field 7 (decimal from) ∷ field 16 (decimal to) ∷ []
 fields_of begin (Reject about type fault) =
-    field 45 (decimal about) ∷ tag_fields fault.tag ++ ref_type type ∷ reason_fields begin fault.reason ++ text_fields (reason_text fault.reason)
+    field 45 (decimal about) ∷ tag_fields fault.tag
+    ++ ref_type type ∷ reason_fields begin fault.reason
+    ++ text_fields (reason_text fault.reason)
 fields_of begin (GapFill next) = field 36 (decimal next) ∷ field 123 (codes "Y") ∷ []
 fields_of begin (Logout text) = text_fields (logout_text text)
-fields_of begin (Logon heart reset version) = field 98 (codes "0") ∷ field 108 (decimal heart) ∷ reset_fields reset ++ version_fields version
+fields_of begin (Logon heart reset version) = logon_fields heart reset version
 
 -- BusinessMessageReject (j)
 abbrev pub business_fields : ℕ → List ℕ → ℕ → List ℕ → List Field

@@ -20,15 +20,27 @@ const LONGEST_HEART: u32 = 86_400;
 #[derive(Clone, Copy, Debug, PartialEq, Eq)]
 pub enum Admin<'a> {
     /// Heartbeat (0), with TestReqID (112) where it answers a TestRequest.
-    Heartbeat { id: Option<&'a [u8]> },
+    Heartbeat {
+        id: Option<&'a [u8]>,
+    },
     /// TestRequest (1), with TestReqID (112).
-    TestRequest { id: &'a [u8] },
+    TestRequest {
+        id: &'a [u8],
+    },
     /// ResendRequest (2) from BeginSeqNo (7) to EndSeqNo (16), which is 0 for all that follow.
-    ResendRequest { from: SeqNum, to: u32 },
+    ResendRequest {
+        from: SeqNum,
+        to: u32,
+    },
     /// Reject (3) of the message with this number, RefSeqNum (45): 0 to 999,999,999.
-    Reject { about: u32 },
+    Reject {
+        about: u32,
+    },
     /// SequenceReset (4) to NewSeqNo (36), 1 to 1,000,000,000, and whether GapFillFlag (123) is Y.
-    SequenceReset { next: u32, gap: bool },
+    SequenceReset {
+        next: u32,
+        gap: bool,
+    },
     /// Logout (5).
     Logout,
     /// Logon (A) with HeartBtInt (108) in seconds, 0 to 86,400, whether ResetSeqNumFlag (141) is Y,
@@ -47,7 +59,8 @@ pub enum Admin<'a> {
 pub fn read_admin<'a>(frame: &'a [u8]) -> Result<Admin<'a>, Fault>
     requires frame { IsFrame frame.now }
     requires admin { IsAdminFrame frame.now }
-    ensures { (type : List ℕ) (fs : List Field) → HasFields frame.now fs → value_of 35 fs ≡ Some type → answer_seen result ≡ admin_of type fs }
+    ensures { (type : List ℕ) (fs : List Field) → HasFields frame.now fs → value_of 35 fs ≡ Some type → answer_seen result
+        ≡ admin_of type fs }
 {
     let Some(kind) = first_value(frame, MSG_TYPE) else {
         return Err(fault(REQUIRED_TAG_MISSING, MSG_TYPE));

@@ -2,7 +2,7 @@ ghost use Rattle.std.specs.Prelude.{◌≡◌, ◌++◌, ◌∷◌, take, codes,
 ghost use Rattle.std.specs.Fmt.{decimal};
 ghost use Rattle.fix_base.specs.Payload.{field};
 ghost use Rattle.fix_base.specs.Says.{field_text, fields_text};
-ghost use Rattle.fix_admin.specs.Say.{say_seen, fields_of, business_fields, id_fields, tag_fields, reason_fields, text_fields, reset_fields, version_fields, ref_type};
+ghost use Rattle.fix_admin.specs.Say.{say_seen, fields_of, business_fields, logon_fields, id_fields, tag_fields, reason_fields, text_fields, reset_fields, version_fields, ref_type};
 ghost use Rattle.fix_admin.specs.Say as says;
 
 use crate::tags::DEFAULT_APPL_VER_ID;
@@ -82,7 +82,8 @@ fn push_reject(
     kind: &[u8],
     fault: Fault,
 ) -> Result<(), AllocError>
-    ensures { OnOk result (out.new.items ≡ out.old.items ++ fields_text (fields_of begin (says.Reject about kind.now fault))) }
+    ensures { OnOk result (out.new.items
+        ≡ out.old.items ++ fields_text (fields_of begin (says.Reject about kind.now fault))) }
 {
     push_number(out, REF_SEQ_NUM, about)?;
     push_tag(out, fault.tag)?;
@@ -108,7 +109,8 @@ fn push_logon(
     reset: bool,
     version: Option<u8>,
 ) -> Result<(), AllocError>
-    ensures { OnOk result (out.new.items ≡ out.old.items ++ fields_text (field 98 (codes "0") ∷ field 108 (decimal heart) ∷ reset_fields reset ++ version_fields version)) }
+    ensures { OnOk result (out.new.items
+        ≡ out.old.items ++ fields_text (logon_fields heart reset version)) }
 {
     push_field(out, ENCRYPT_METHOD, b"0")?;
     push_number(out, HEART_BT_INT, heart)?;
@@ -127,7 +129,8 @@ fn push_number(out: &mut Vec<u8>, tag: u32, number: u32) -> Result<(), AllocErro
 
 // TestReqID (112).
 fn push_id(out: &mut Vec<u8>, id: Option<&[u8]>) -> Result<(), AllocError>
-    ensures { OnOk result (out.new.items ≡ out.old.items ++ fields_text (id_fields (option_map (λ v. v.now) id.entry))) }
+    ensures { OnOk result (out.new.items
+        ≡ out.old.items ++ fields_text (id_fields (option_map (λ v. v.now) id.entry))) }
 {
     match id {
         None => Ok(()),

@@ -4,11 +4,16 @@ use fix_base::Fault;
 #[derive(Clone, Copy, Debug, PartialEq, Eq)]
 pub enum Say<'a> {
     /// Heartbeat (0), with the TestReqID (112) of the TestRequest that it answers.
-    Heartbeat { id: Option<&'a [u8]> },
+    Heartbeat {
+        id: Option<&'a [u8]>,
+    },
     /// TestRequest (1) with TestReqID (112) `TEST`.
     TestRequest,
     /// ResendRequest (2) from BeginSeqNo (7) to EndSeqNo (16), which is 0 for all that follow.
-    ResendRequest { from: u32, to: u32 },
+    ResendRequest {
+        from: u32,
+        to: u32,
+    },
     /// Reject (3) of the message with this number and this MsgType (35).
     Reject {
         about: u32,
@@ -16,9 +21,13 @@ pub enum Say<'a> {
         fault: Fault,
     },
     /// SequenceReset (4) with GapFillFlag (123), to NewSeqNo (36). Its header has PossDupFlag (43).
-    GapFill { next: u32 },
+    GapFill {
+        next: u32,
+    },
     /// Logout (5).
-    Logout { text: LogoutText },
+    Logout {
+        text: LogoutText,
+    },
     /// Logon (A) with HeartBtInt (108) in seconds, with ResetSeqNumFlag (141) where it asks for a
     /// reset or answers that, and with DefaultApplVerID (1137) in a session of FIXT.1.1.
     Logon {

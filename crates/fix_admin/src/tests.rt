@@ -31,7 +31,14 @@ fn what_is_said_has_the_fields_of_its_table(rt: HostRuntime) -> Result<(), OutOf
         reset: true,
         version: Some(9),
     };
-    assert!(rt; is_built(alloc, Begin::Fix42, &logon, b"98=0\x01108=30\x01141=Y\x011137=9\x01")?);
+    assert!(rt;
+        is_built(
+            alloc,
+            Begin::Fix42,
+            &logon,
+            b"98=0\x01108=30\x01141=Y\x011137=9\x01"
+        )?
+    );
     Ok(())
 }
 

@@ -1,7 +1,9 @@
 -- The worked rows hold.
 use Rattle.std.proofs.Common.{refl}
 use Rattle.std.specs.List.{AllByRecursion}
-use Rattle.fix_machine.specs.Rows.{IsAnswered, FIRST_MESSAGES, NUMBERS, CHECKS, TYPES, MOVES, CLOCKS, OTHERS}
+use Rattle.fix_machine.specs.Worked.{IsAnswered}
+use Rattle.fix_machine.specs.RowsOfLogon.{FIRST_MESSAGES}
+use Rattle.fix_machine.specs.Rows.{NUMBERS, CHECKS, TYPES, MOVES, CLOCKS, OTHERS}
 
 pub first_messages : AllByRecursion IsAnswered FIRST_MESSAGES
 first_messages = (refl, (refl, (refl, (refl, (refl, (refl, (refl, (refl, (refl, (refl, (refl, (refl, (refl, (refl, (refl, (refl, (refl, (refl, (refl, (refl, (refl, (refl, (refl, (refl, (refl, (refl, (refl, (refl, (refl, (refl, (refl, (refl, (refl, (refl, (refl, (refl, (refl, tt)))))))))))))))))))))))))))))))))))))

@@ -104,7 +104,9 @@ confirmed s = up (record s { reset_asked = false })
 
 abbrev pub initiator_answer : Options → Bool → ℕ → MachineState → Answered
 initiator_answer o reset n s =
-    if s.reset_asked then (if reset then answer (Confirm ∷ Expect (n + 1) ∷ []) (counted n (confirmed s)) else refuse n refusal.ResetUnanswered s)
+    if s.reset_asked then
+    (if reset then answer (Confirm ∷ Expect (n + 1) ∷ []) (counted n (confirmed s))
+    else refuse n refusal.ResetUnanswered s)
     else (if reset then refuse n refusal.ResetAsked s else answer (count_or_ask o n (up s) ∷ []) (counted_or_asked o n (up s)))
 
 abbrev pub taken : Role → Options → Bool → ℕ → ℕ → MachineState → Answered
@@ -116,7 +118,8 @@ taken Initiator o reset n heart s = initiator_answer o reset n s
 -- ResetSeqNumFlag (141) stands in a Logon of number 1 alone
 abbrev pub logon_answer : Option ℕ → Options → Bool → ℕ → MachineState → Answered
 logon_answer None o reset n s = refuse n refusal.BadLogon s
-logon_answer (Some heart) o reset n s = if reset && not (n == 1) then refuse n refusal.BadLogon s else taken s.role o reset n heart s
+logon_answer (Some heart) o reset n s =
+    if reset && not (n == 1) then refuse n refusal.BadLogon s else taken s.role o reset n heart s
 
 -- the number is below the expected one, and nothing is reset
 abbrev pub is_too_low : Options → ℕ → MachineState → Bool → Bool

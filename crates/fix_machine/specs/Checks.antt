@@ -47,7 +47,8 @@ comp_ids id h =
 -- SendingTime (52) is at most so many seconds from the last reading of the clock
 abbrev pub is_timely : Option ℕ → ℕ → ℤ → Bool
 is_timely None reading time = true
-is_timely (Some seconds) reading time = int_le time (pos (reading + 1000000 * seconds)) && int_le (pos reading) (time +ℤ pos (1000000 * seconds))
+is_timely (Some seconds) reading time =
+    int_le time (pos (reading + 1000000 * seconds)) && int_le (pos reading) (time +ℤ pos (1000000 * seconds))
 
 -- SendingTime (52): absent is reason 1, no UTCTimestamp reason 6, too far off reason 10 and the end of
 -- the connection

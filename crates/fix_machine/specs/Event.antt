@@ -65,7 +65,15 @@ pub data IsEvent : Event → EventSeen → Type 0 where
   is_first : IsEvent event.First First
   reads : (head : Bor Envelope) (v : Verdict) (full gap reset : Bool) (sent first_sent : Option ℤ)
       → IsSaid (header_of head.now).sending_time sent → IsSaid (header_of head.now).orig_sending_time first_sent
-      → IsEvent (event.Frame head v full gap reset) (Frame (record { header = header_of head.now; sent = sent; first_sent = first_sent; verdict = verdict_seen v; full = full; gap = gap; reset = reset }))
+      → IsEvent (event.Frame head v full gap reset) (Frame (record {
+        header = header_of head.now;
+        sent = sent;
+        first_sent = first_sent;
+        verdict = verdict_seen v;
+        full = full;
+        gap = gap;
+        reset = reset;
+      }))
   moves : (waiting : Bool) → IsEvent (event.Moved waiting) (Moved waiting)
   looks : (now : ℕ) (inside : Bool) → IsEvent (event.Clock now inside) (Clock now inside)
   leaves : (now : ℕ) → IsEvent (event.Leave now) (Leave now)

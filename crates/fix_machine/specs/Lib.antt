@@ -9,4 +9,6 @@ pub mod Clock
 pub mod Decide
 pub mod Deadline
 pub mod Numbers
+pub mod Worked
+pub mod RowsOfLogon
 pub mod Rows

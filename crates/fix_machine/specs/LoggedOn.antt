@@ -120,7 +120,8 @@ rejected fault n i s = answer (reject n (type_in i.header) fault ∷ Expect (n +
 
 abbrev pub rejected_and_closed : Fault → LogoutText → Refusal → ℕ → Inbound → MachineState → Answered
 rejected_and_closed fault text cause n i s =
-    answer (reject n (type_in i.header) fault ∷ Expect (n + 1) ∷ Send (Logout text) ∷ Close (Refused n cause) ∷ []) (closed (sent (counted n (sent s))))
+    answer (reject n (type_in i.header) fault ∷ Expect (n + 1) ∷ Send (Logout text) ∷ Close (Refused n cause) ∷ [])
+    (closed (sent (counted n (sent s))))
 
 -- ---- 10. by type
 

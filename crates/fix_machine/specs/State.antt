@@ -24,7 +24,14 @@ pub record Times : Type 0 where
   pub test_request : Option ℕ
 
 abbrev pub times_of : MachineState → Times
-times_of s = record { reading = s.reading; begun = s.begun; sent_at = s.sent_at; read_at = s.read_at; left_at = s.left_at; test_request = s.test_request_sent_at }
+times_of s = record {
+  reading = s.reading;
+  begun = s.begun;
+  sent_at = s.sent_at;
+  read_at = s.read_at;
+  left_at = s.left_at;
+  test_request = s.test_request_sent_at;
+}
 
 -- readings of the clock, up to the end of 2099
 pub record AreReadings (t : Times) : Type 0 where

@@ -22,7 +22,8 @@ use fix_fields::Envelope;
 // The first message on a connection.
 pub fn await_logon(options: &Options, state: MachineState, inbound: &Inbound<'_>) -> Answer
     requires reading { state.reading ≤ LAST_TIME }
-    ensures { answered_by (texts_of (inbound_seen inbound.now)) result ≡ table.await_logon options.now state (inbound_seen inbound.now) }
+    ensures { answered_by (texts_of (inbound_seen inbound.now)) result
+        ≡ table.await_logon options.now state (inbound_seen inbound.now) }
 {
     let number = readable(inbound.head.number);
     if inbound.head.kind != b"A".as_slice() {
@@ -45,7 +46,8 @@ fn numbered_answer(
     inbound: &Inbound<'_>,
 ) -> Answer
     requires reading { state.reading ≤ LAST_TIME }
-    ensures { answered_by (texts_of (inbound_seen inbound.now)) result ≡ table.numbered_answer options.now number state (inbound_seen inbound.now) }
+    ensures { answered_by (texts_of (inbound_seen inbound.now)) result
+        ≡ table.numbered_answer options.now number state (inbound_seen inbound.now) }
 {
     let n = number.get();
     if is_too_low(options, n, &state, inbound.reset) {

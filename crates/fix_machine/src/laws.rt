@@ -18,7 +18,9 @@ pub fn the_steps_say_the_numbers()
 /// An application message of the expected number that passes every check is handed over, and then
 /// counted; nothing else is done.
 pub fn a_message_in_order_is_handed_over()
-    ensures { (o : Options) (s : MachineState) (i : Inbound) → IsLoggedOn s.phase → is_of_session o.identity i.header ≡ true → i.header.number ≡ Some s.expected
+    ensures { (o : Options) (s : MachineState) (i : Inbound) → IsLoggedOn s.phase
+        → is_of_session o.identity i.header ≡ true → i.header.number
+        ≡ Some s.expected
         → is_reset i ≡ false → checked o (heard s) i ≡ Fine → i.verdict ≡ App
         → answer_to o s (Frame i) ≡ answer (Hand ∷ Expect (s.expected + 1) ∷ []) (counted s.expected (heard s)) }
 {}
@@ -26,20 +28,25 @@ pub fn a_message_in_order_is_handed_over()
 /// A message above the expected number is never rejected and never counted, whatever is wrong with
 /// it, but for a SequenceReset (4) without GapFillFlag (123), which is looked at whatever its number.
 pub fn a_message_too_high_is_neither_rejected_nor_counted()
-    ensures { (o : Options) (s : MachineState) (i : Inbound) (n : ℕ) → IsLoggedOn s.phase → is_of_session o.identity i.header ≡ true → i.header.number ≡ Some n
+    ensures { (o : Options) (s : MachineState) (i : Inbound) (n : ℕ) → IsLoggedOn s.phase
+        → is_of_session o.identity i.header ≡ true → i.header.number
+        ≡ Some n
         → is_reset i ≡ false → s.expected < n → IsPassive s (answer_to o s (Frame i)) }
 {}
 
 /// After the Logon, a message of another number than the expected one doesn't move the expected
 /// number, but for a SequenceReset (4) without GapFillFlag (123).
 pub fn only_the_expected_number_moves_it()
-    ensures { (o : Options) (s : MachineState) (i : Inbound) (n : ℕ) → IsLoggedOn s.phase → is_of_session o.identity i.header ≡ true → i.header.number ≡ Some n
+    ensures { (o : Options) (s : MachineState) (i : Inbound) (n : ℕ) → IsLoggedOn s.phase
+        → is_of_session o.identity i.header ≡ true → i.header.number
+        ≡ Some n
         → is_reset i ≡ false → (n ≡ s.expected → ⊥) → (answer_to o s (Frame i)).next.expected ≡ s.expected }
 {}
 
 /// No event but a message moves the expected number.
 pub fn only_a_message_moves_it()
-    ensures { (o : Options) (s : MachineState) (e : EventSeen) → IsNoMessage e → (answer_to o s e).next.expected ≡ s.expected }
+    ensures { (o : Options) (s : MachineState) (e : EventSeen) → IsNoMessage e → (answer_to o s e).next.expected
+        ≡ s.expected }
 {}
 
 /// The worked rows of `specs/Rows.antt` hold: in each state an event has the steps that a reader of

@@ -19,6 +19,8 @@ mod laws;
 mod logged_on;
 mod machine;
 mod state;
+#[cfg(test)]
+mod tests;
 
 pub use event::{Decision, Event, Refusal, Step, Verdict, Why};
 pub use machine::Machine;

@@ -22,7 +22,8 @@ use fix_base::SeqNum;
 // A message after the Logon.
 pub fn logged_on(options: &Options, state: MachineState, inbound: &Inbound<'_>) -> Answer
     requires reading { state.reading ≤ LAST_TIME }
-    ensures { answered_by (texts_of (inbound_seen inbound.now)) result ≡ table.logged_on options.now state (inbound_seen inbound.now) }
+    ensures { answered_by (texts_of (inbound_seen inbound.now)) result
+        ≡ table.logged_on options.now state (inbound_seen inbound.now) }
 {
     if !is_of_session(&options.identity, inbound.head) {
         let number = readable(inbound.head.number);
@@ -37,7 +38,8 @@ pub fn logged_on(options: &Options, state: MachineState, inbound: &Inbound<'_>) 
 // With a readable MsgSeqNum (34).
 fn numbered(options: &Options, number: SeqNum, inbound: &Inbound<'_>, state: MachineState) -> Answer
     requires reading { state.reading ≤ LAST_TIME }
-    ensures { answered_by (texts_of (inbound_seen inbound.now)) result ≡ table.numbered options.now number (inbound_seen inbound.now) state }
+    ensures { answered_by (texts_of (inbound_seen inbound.now)) result
+        ≡ table.numbered options.now number (inbound_seen inbound.now) state }
 {
     let n = number.get();
     if is_reset(inbound) {
@@ -63,7 +65,8 @@ fn is_reset(inbound: &Inbound<'_>) -> bool
 }
 
 fn reset_by(found: Finding, number: u32, inbound: &Inbound<'_>, state: MachineState) -> Answer
-    ensures { answered_by (texts_of (inbound_seen inbound.now)) result ≡ table.reset_by (finding_seen found) number (inbound_seen inbound.now) state }
+    ensures { answered_by (texts_of (inbound_seen inbound.now)) result
+        ≡ table.reset_by (finding_seen found) number (inbound_seen inbound.now) state }
 {
     match found {
         Finding::Fine => reset_to(new_seq_no_in(inbound.verdict), number, inbound, state),
@@ -79,7 +82,8 @@ fn reset_by(found: Finding, number: u32, inbound: &Inbound<'_>, state: MachineSt
 
 // It may not go back.
 fn reset_to(next: u32, number: u32, inbound: &Inbound<'_>, state: MachineState) -> Answer
-    ensures { answered_by (texts_of (inbound_seen inbound.now)) result ≡ table.reset_to next number (inbound_seen inbound.now) state }
+    ensures { answered_by (texts_of (inbound_seen inbound.now)) result
+        ≡ table.reset_to next number (inbound_seen inbound.now) state }
 {
     if state.expected <= next {
         return one(Task::Expect(next), expecting(next, state));
@@ -116,7 +120,8 @@ fn new_seq_no_of(admin: &Admin<'_>) -> u32
 
 fn too_high(options: &Options, number: u32, inbound: &Inbound<'_>, state: MachineState) -> Answer
     requires reading { state.reading ≤ LAST_TIME }
-    ensures { answered_by (texts_of (inbound_seen inbound.now)) result ≡ table.too_high options.now number (inbound_seen inbound.now) state }
+    ensures { answered_by (texts_of (inbound_seen inbound.now)) result
+        ≡ table.too_high options.now number (inbound_seen inbound.now) state }
 {
     if is_early(inbound) {
         let found = checked(options, &state, inbound);
@@ -142,7 +147,8 @@ fn early_by(
     inbound: &Inbound<'_>,
     state: MachineState,
 ) -> Answer
-    ensures { answered_by (texts_of (inbound_seen inbound.now)) result ≡ table.early_by (finding_seen found) options.now number (inbound_seen inbound.now) state }
+    ensures { answered_by (texts_of (inbound_seen inbound.now)) result
+        ≡ table.early_by (finding_seen found) options.now number (inbound_seen inbound.now) state }
 {
     match found {
         Finding::Fine => early_of(inbound.verdict, options, number, state),
@@ -231,7 +237,8 @@ fn logged_out(number: u32, state: MachineState) -> Answer
 // ---- MsgSeqNum (34) below the expected one
 
 fn too_low(number: u32, inbound: &Inbound<'_>, state: MachineState) -> Answer
-    ensures { answered_by (texts_of (inbound_seen inbound.now)) result ≡ table.too_low number (inbound_seen inbound.now) state }
+    ensures { answered_by (texts_of (inbound_seen inbound.now)) result
+        ≡ table.too_low number (inbound_seen inbound.now) state }
 {
     if is_named(inbound.head.dup, b"Y") {
         return silent(state);
@@ -246,7 +253,8 @@ fn too_low(number: u32, inbound: &Inbound<'_>, state: MachineState) -> Answer
 // ---- the expected number
 
 fn in_order_by(found: Finding, number: SeqNum, inbound: &Inbound<'_>, state: MachineState) -> Answer
-    ensures { answered_by (texts_of (inbound_seen inbound.now)) result ≡ table.in_order_by (finding_seen found) number (inbound_seen inbound.now) state }
+    ensures { answered_by (texts_of (inbound_seen inbound.now)) result
+        ≡ table.in_order_by (finding_seen found) number (inbound_seen inbound.now) state }
 {
     match found {
         Finding::Fine => by_type(number, inbound, state),
@@ -266,7 +274,8 @@ fn rejected_and_closed(
     inbound: &Inbound<'_>,
     state: MachineState,
 ) -> Answer
-    ensures { answered_by (texts_of (inbound_seen inbound.now)) result ≡ table.rejected_and_closed (wrong_seen fault) text cause number (inbound_seen inbound.now) state }
+    ensures { answered_by (texts_of (inbound_seen inbound.now)) result
+        ≡ table.rejected_and_closed (wrong_seen fault) text cause number (inbound_seen inbound.now) state }
 {
     let number = number.get();
     four(
@@ -280,7 +289,8 @@ fn rejected_and_closed(
 
 // A Reject (3), and a count.
 fn rejected(fault: Wrong, number: SeqNum, inbound: &Inbound<'_>, state: MachineState) -> Answer
-    ensures { answered_by (texts_of (inbound_seen inbound.now)) result ≡ table.rejected (wrong_seen fault) number (inbound_seen inbound.now) state }
+    ensures { answered_by (texts_of (inbound_seen inbound.now)) result
+        ≡ table.rejected (wrong_seen fault) number (inbound_seen inbound.now) state }
 {
     let number = number.get();
     two(
@@ -299,7 +309,8 @@ fn count(number: SeqNum, state: MachineState) -> Answer
 }
 
 fn by_type(number: SeqNum, inbound: &Inbound<'_>, state: MachineState) -> Answer
-    ensures { answered_by (texts_of (inbound_seen inbound.now)) result ≡ table.by_type (inbound_seen inbound.now).verdict number (inbound_seen inbound.now) state }
+    ensures { answered_by (texts_of (inbound_seen inbound.now)) result
+        ≡ table.by_type (inbound_seen inbound.now).verdict number (inbound_seen inbound.now) state }
 {
     match inbound.verdict {
         Verdict::App => handed(number, state),
@@ -315,7 +326,8 @@ fn session_message(
     state: MachineState,
 ) -> Answer
     requires { (inbound_seen inbound.now).verdict ≡ seen.Admin (admin_seen admin.now) }
-    ensures { answered_by (texts_of (inbound_seen inbound.now)) result ≡ table.session_message (admin_seen admin.now) number (inbound_seen inbound.now) state }
+    ensures { answered_by (texts_of (inbound_seen inbound.now)) result
+        ≡ table.session_message (admin_seen admin.now) number (inbound_seen inbound.now) state }
 {
     match *admin {
         Admin::Heartbeat { .. } => count(number, state),
@@ -362,7 +374,8 @@ fn test_request(number: SeqNum, state: MachineState) -> Answer
 
 // A SequenceReset (4) with GapFillFlag (123) may not go back.
 fn filled(next: u32, number: SeqNum, inbound: &Inbound<'_>, state: MachineState) -> Answer
-    ensures { answered_by (texts_of (inbound_seen inbound.now)) result ≡ table.filled next number (inbound_seen inbound.now) state }
+    ensures { answered_by (texts_of (inbound_seen inbound.now)) result
+        ≡ table.filled next number (inbound_seen inbound.now) state }
 {
     if number.get() < next {
         return one(Task::Expect(next), expecting(next, state));

@@ -89,8 +89,10 @@ impl Machine {
     /// The answer to an event: the steps to do in order, of which those that are `Nothing` stand
     /// last. The state is then as if all of them were done.
     pub fn decide<'a>(&mut self, event: &Event<'a>) -> Decision<'a>
-        ensures steps { (e : EventSeen) → IsEvent event.now e → steps_of result ≡ (table.answer_to self.old.options self.old.state e).steps }
-        ensures next { (e : EventSeen) → IsEvent event.now e → self.new ≡ record { options = self.old.options; state = (table.answer_to self.old.options self.old.state e).next } }
+        ensures steps { (e : EventSeen) → IsEvent event.now e → steps_of result
+            ≡ (table.answer_to self.old.options self.old.state e).steps }
+        ensures next { (e : EventSeen) → IsEvent event.now e → self.new
+            ≡ record { options = self.old.options; state = (table.answer_to self.old.options self.old.state e).next } }
     {
         let answer = answer_to(&self.options, self.state, event);
         self.state = answer.next;
@@ -122,7 +124,8 @@ impl Machine {
 // The answer to an event.
 fn answer_to(options: &Options, state: MachineState, event: &Event<'_>) -> Answer
     requires { IsTimed state }
-    ensures answers { (e : EventSeen) → IsEvent event.now e → answered_by (texts_in e) result ≡ table.answer_to options.now state e }
+    ensures answers { (e : EventSeen) → IsEvent event.now e → answered_by (texts_in e) result
+        ≡ table.answer_to options.now state e }
     ensures timed { IsTimed result.next }
 {
     match *event {
@@ -140,7 +143,8 @@ fn answer_to(options: &Options, state: MachineState, event: &Event<'_>) -> Answe
 // A message was read.
 fn framed<'a>(options: &Options, state: MachineState, event: &'a Event<'a>) -> Answer
     requires { IsTimed state }
-    ensures answers { (i : InboundSeen) → IsEvent event.now (Frame i) → answered_by (texts_of i) result ≡ table.message state.phase options.now state i }
+    ensures answers { (i : InboundSeen) → IsEvent event.now (Frame i) → answered_by (texts_of i) result
+        ≡ table.message state.phase options.now state i }
     ensures timed { IsTimed result.next }
 {
     let Event::Frame {
@@ -219,7 +223,8 @@ fn first_logon(options: &Options, state: MachineState) -> Answer
 // A message by the phase.
 fn message(options: &Options, state: MachineState, inbound: &Inbound<'_>) -> Answer
     requires { state.reading ≤ LAST_TIME }
-    ensures { answered_by (texts_of (inbound_seen inbound.now)) result ≡ table.message state.phase options.now state (inbound_seen inbound.now) }
+    ensures { answered_by (texts_of (inbound_seen inbound.now)) result
+        ≡ table.message state.phase options.now state (inbound_seen inbound.now) }
 {
     match state.phase {
         Phase::Down => silent(state),
