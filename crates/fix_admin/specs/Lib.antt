@@ -1,0 +1,4 @@
+pub mod Values
+pub mod Lent
+pub mod Admin
+pub mod Say

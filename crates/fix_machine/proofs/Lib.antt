@@ -1,0 +1,6 @@
+mod DeadlineLemmas
+mod TimedLemmas
+mod EventLemmas
+mod NumberLemmas
+mod RowLemmas
+mod OrderLemmas

@@ -1,0 +1,14 @@
+pub mod Event
+pub mod State
+pub mod Answer
+pub mod Read
+pub mod Checks
+pub mod AwaitLogon
+pub mod LoggedOn
+pub mod Clock
+pub mod Decide
+pub mod Deadline
+pub mod Numbers
+pub mod Worked
+pub mod RowsOfLogon
+pub mod Rows
