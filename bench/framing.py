@@ -3,9 +3,9 @@
 
     bench/framing.py [--reader PROGRAM] [--peer PROGRAM] [--work FOLDER] [--runs N]
 
-fixacceptor is built by examples/first_session.sh. It is given a Logon, N orders and a Logout with
-present times by a file, and its lines go to a file. PROGRAM of --reader is what bench/reader.sh
-builds; it measures the Reader alone. PROGRAM of --peer is another reader's benchmark, called as
+fixacceptor is the proved program in crates/fixacceptor/out (see README.md here). It is given a
+Logon, N orders and a Logout with present times by a file, and its lines go to a file. PROGRAM of
+--reader is what bench/reader.sh builds; it measures the Reader alone. PROGRAM of --peer is another reader's benchmark, called as
 PROGRAM FILE TIMES PIECE and printing a line `both frames=N cpu=Ss ..`; it reads the same stream in
 the same minute. All times are CPU time, user and system, the best of N runs (5)."""
 import argparse

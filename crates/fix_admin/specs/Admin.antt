@@ -1,6 +1,7 @@
 -- The session messages that are read, and the first fault of one: the tags of each type in their
 -- order, with their bounds.
-use Rattle.std.specs.Prelude.{◌≡◌, ℕ, ◌&&◌, nat_lt, if◌then◌else◌, Bool, true, List, bytes_eq, codes, Option, Some, option_map, Result, Ok, Err}
+use Rattle.std.specs.Prelude.{◌≡◌, ℕ, ◌&&◌, nat_lt, if◌then◌else◌, Bool, true, List, bytes_eq, codes, Option, Some}
+use Rattle.std.specs.Prelude.{option_map, Result, Ok, Err}
 use Rattle.fix_base.specs.Fields.{Field}
 use Rattle.fix_base.specs.Says.{value_of, HasFields, is_admin_type}
 use Rattle.fix_admin.specs.declared.admin.Admin.{Admin}
@@ -45,7 +46,8 @@ abbrev pub range_of : ℕ → ℕ → Result AdminSeen Fault
 range_of from to = if nat_lt 0 to && nat_lt to from then Err (fault_of 5 16) else Ok (ResendRequest from to)
 
 abbrev pub resend_request_of : List Field → Result AdminSeen Fault
-resend_request_of fs = and_then (number_at 7 1 999999999 fs) (λ from. and_then (number_at 16 0 999999999 fs) (λ to. range_of from to))
+resend_request_of fs = and_then (number_at 7 1 999999999 fs)
+    (λ from. and_then (number_at 16 0 999999999 fs) (λ to. range_of from to))
 
 -- Reject (3): RefSeqNum (45)
 abbrev pub reject_of : List Field → Result AdminSeen Fault
@@ -53,7 +55,8 @@ reject_of fs = and_then (number_at 45 0 999999999 fs) (λ about. Ok (Reject abou
 
 -- SequenceReset (4): NewSeqNo (36), and GapFillFlag (123), which may be absent
 abbrev pub sequence_reset_of : List Field → Result AdminSeen Fault
-sequence_reset_of fs = and_then (number_at 36 1 1000000000 fs) (λ next. and_then (flag_at 123 fs) (λ gap. Ok (SequenceReset next gap)))
+sequence_reset_of fs = and_then (number_at 36 1 1000000000 fs)
+    (λ next. and_then (flag_at 123 fs) (λ gap. Ok (SequenceReset next gap)))
 
 -- Logon (A): EncryptMethod (98), which is 0, HeartBtInt (108) of at most a day, and ResetSeqNumFlag
 -- (141), which may be absent. DefaultApplVerID (1137) is never a fault

@@ -1,5 +1,6 @@
--- What a session says, and the fields behind the header that say it, in their order.
-use Rattle.std.specs.Prelude.{ℕ, ◌==◌, ◌&&◌, nat_lt, if◌then◌else◌, Bool, true, false, List, [], ◌∷◌, ◌++◌, take, codes, Option, Some, None, option_map}
+-- What a session says, and the fields after the header that say it, in their order.
+use Rattle.std.specs.Prelude.{ℕ, ◌==◌, ◌&&◌, nat_lt, if◌then◌else◌, Bool, true, false, List, [], ◌∷◌, ◌++◌, take}
+use Rattle.std.specs.Prelude.{codes, Option, Some, None, option_map}
 use Rattle.std.specs.Fmt.{decimal}
 use Rattle.fix_base.specs.declared.identity.Begin.{Begin}
 use Rattle.fix_base.specs.declared.identity.Begin.TheVariants.{Fix42, Fix44}
@@ -8,7 +9,8 @@ use Rattle.fix_base.specs.Payload.{field}
 use Rattle.fix_admin.specs.declared.say.Say.{Say}
 use Rattle.fix_admin.specs.declared.say.Say.TheVariants as said
 use Rattle.fix_admin.specs.declared.say.LogoutText.{LogoutText}
-use Rattle.fix_admin.specs.declared.say.LogoutText.TheVariants.{Empty, TooLow, BeginString, NoNumber, CompId, SendingTime, OutOfWindow, ResetFlag}
+use Rattle.fix_admin.specs.declared.say.LogoutText.TheVariants.{Empty, TooLow, BeginString, NoNumber, CompId}
+use Rattle.fix_admin.specs.declared.say.LogoutText.TheVariants.{SendingTime, OutOfWindow, ResetFlag}
 use Rattle.fix_admin.specs.Values.{Fault}
 
 -- what is said
@@ -108,14 +110,15 @@ abbrev pub version_fields : Option ℕ → List Field
 version_fields None = []
 version_fields (Some version) = field 1137 (decimal version) ∷ []
 
--- ---- the table: the fields behind the header
+-- ---- the table: the fields after the header
 
 -- of a MsgType (35) that is named, at most the first eight bytes
 abbrev pub ref_type : List ℕ → Field
 ref_type type = field 372 (take 8 type)
 
 abbrev pub logon_fields : ℕ → Bool → Option ℕ → List Field
-logon_fields heart reset version = field 98 (codes "0") ∷ field 108 (decimal heart) ∷ reset_fields reset ++ version_fields version
+logon_fields heart reset version = field 98 (codes "0") ∷ field 108 (decimal heart) ∷ reset_fields reset
+    ++ version_fields version
 
 abbrev pub fields_of : Begin → SaySeen → List Field
 fields_of begin (Heartbeat id) = id_fields id
@@ -131,4 +134,5 @@ fields_of begin (Logon heart reset version) = logon_fields heart reset version
 
 -- BusinessMessageReject (j)
 abbrev pub business_fields : ℕ → List ℕ → ℕ → List ℕ → List Field
-business_fields about type reason text = field 45 (decimal about) ∷ ref_type type ∷ field 380 (decimal reason) ∷ text_fields text
+business_fields about type reason text = field 45 (decimal about) ∷ ref_type type ∷ field 380
+    (decimal reason) ∷ text_fields text

@@ -1,6 +1,8 @@
 -- What a value of a session message says, or what is wrong with it: 1 where it is absent, 4 where it
 -- is empty, 6 where it isn't of its form, 5 where it lies outside the bounds.
-use Rattle.std.specs.Prelude.{ℕ, ◌-◌, ◌==◌, ◌&&◌, ◌||◌, nat_lt, nat_le, if◌then◌else◌, Bool, true, false, List, [], ◌∷◌, length, bytes_eq, codes, ℤ, pos, negsuc, neg_ℤ, Option, Some, None, option_map, Result, Ok, Err}
+use Rattle.std.specs.Prelude.{ℕ, ◌-◌, ◌==◌, ◌&&◌, ◌||◌, nat_lt, nat_le, if◌then◌else◌, Bool, true, false, List, []}
+use Rattle.std.specs.Prelude.{◌∷◌, length, bytes_eq, codes, ℤ, pos, negsuc, neg_ℤ, Option, Some, None, option_map}
+use Rattle.std.specs.Prelude.{Result, Ok, Err}
 use Rattle.std.specs.Str.{all_ascii_digits}
 use Rattle.std.specs.Str.Parse.{digits_value}
 use Rattle.fix_base.specs.Fields.{Field}
@@ -18,10 +20,11 @@ and_then (Err fault) f = Err fault
 
 -- ---- forms
 
--- digits, at most 15 of them behind leading zeros
+-- digits, at most 15 of them after leading zeros
 abbrev pub size_in : List ℕ → Option ℕ
 size_in v =
-    if all_ascii_digits v && (nat_lt 0 (length v) && nat_lt (digits_value 10 v) 1000000000000000) then Some (digits_value 10 v)
+    if all_ascii_digits v && (nat_lt 0 (length v) && nat_lt (digits_value 10 v) 1000000000000000) then Some
+    (digits_value 10 v)
     else None
 
 -- an `int`: digits, before which a minus may stand
@@ -37,7 +40,8 @@ within tag low high (Some (negsuc n)) = Err (fault_of 5 tag)
 
 -- a `Boolean`
 abbrev pub yes_or_no : ℕ → List ℕ → Result Bool Fault
-yes_or_no tag v = if bytes_eq v (codes "Y") then Ok true else (if bytes_eq v (codes "N") then Ok false else Err (fault_of 6 tag))
+yes_or_no tag v = if bytes_eq v (codes "Y") then Ok true else
+    (if bytes_eq v (codes "N") then Ok false else Err (fault_of 6 tag))
 
 -- a flag is not set where it is absent
 abbrev pub flag_in : ℕ → Option (List ℕ) → Result Bool Fault

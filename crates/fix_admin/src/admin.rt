@@ -1,8 +1,11 @@
+//! Reads what the frame of a session message says, by its MsgType (35). It takes each value by `reading`, and
+//! `fix_machine` decides on what it gives.
 ghost use Rattle.std.specs.Prelude.{◌≡◌, List, ℕ, Some};
 ghost use Rattle.fix_base.specs.Fields.{Field};
 ghost use Rattle.fix_base.specs.Shape.{IsFrame};
 ghost use Rattle.fix_base.specs.Says.{HasFields, value_of};
-ghost use Rattle.fix_admin.specs.Admin.{IsAdminFrame, answer_seen, admin_of, heartbeat_of, test_request_of, resend_request_of, reject_of, sequence_reset_of, logon_of, with_heart_of};
+ghost use Rattle.fix_admin.specs.Admin.{IsAdminFrame, answer_seen, admin_of, heartbeat_of, test_request_of};
+ghost use Rattle.fix_admin.specs.Admin.{resend_request_of, reject_of, sequence_reset_of, logon_of, with_heart_of};
 
 use crate::reading::{allow, fault, flag_at, need, number_at, version_in};
 use crate::tags::{DEFAULT_APPL_VER_ID, OUT_OF_RANGE, REQUIRED_TAG_MISSING};
@@ -59,7 +62,8 @@ pub enum Admin<'a> {
 pub fn read_admin<'a>(frame: &'a [u8]) -> Result<Admin<'a>, Fault>
     requires frame { IsFrame frame.now }
     requires admin { IsAdminFrame frame.now }
-    ensures { (type : List ℕ) (fs : List Field) → HasFields frame.now fs → value_of 35 fs ≡ Some type → answer_seen result
+    ensures { (type : List ℕ) (fs : List Field) → HasFields frame.now fs → value_of 35 fs ≡ Some type
+        → answer_seen result
         ≡ admin_of type fs }
 {
     let Some(kind) = first_value(frame, MSG_TYPE) else {

@@ -1,8 +1,11 @@
+//! Writes the fields of a session message that `fix_machine` decided to send, and those of a
+//! BusinessMessageReject (j). The header isn't written here.
 ghost use Rattle.std.specs.Prelude.{◌≡◌, ◌++◌, ◌∷◌, take, codes, IfOk, OnOk, option_map};
 ghost use Rattle.std.specs.Fmt.{decimal};
 ghost use Rattle.fix_base.specs.Payload.{field};
 ghost use Rattle.fix_base.specs.Says.{field_text, fields_text};
-ghost use Rattle.fix_admin.specs.Say.{say_seen, fields_of, business_fields, logon_fields, id_fields, tag_fields, reason_fields, text_fields, reset_fields, version_fields, ref_type};
+ghost use Rattle.fix_admin.specs.Say.{say_seen, fields_of, business_fields, logon_fields, id_fields, tag_fields};
+ghost use Rattle.fix_admin.specs.Say.{reason_fields, text_fields, reset_fields, version_fields, ref_type};
 ghost use Rattle.fix_admin.specs.Say as says;
 
 use crate::tags::DEFAULT_APPL_VER_ID;
@@ -27,7 +30,7 @@ const MOST_ID_BYTES: usize = 1_048_000;
 /// The greatest SessionRejectReason (373) of FIX 4.2.
 const LAST_REASON_42: u16 = 11;
 
-/// The fields behind the header of what is said, in a session of this version, in the order of
+/// The fields after the header of what is said, in a session of this version, in the order of
 /// `specs/Say.antt`.
 pub fn build(alloc: Global, begin: Begin, say: &Say<'_>) -> Result<Bytes, OutOfMemory>
     ensures { IfOk result (λ out. out ≡ fields_text (fields_of begin (say_seen say.now))) }
@@ -55,7 +58,7 @@ pub fn build(alloc: Global, begin: Begin, say: &Say<'_>) -> Result<Bytes, OutOfM
     Ok(Bytes::from_vec(out))
 }
 
-/// The fields behind the header of a BusinessMessageReject (j) of the message with this number and
+/// The fields after the header of a BusinessMessageReject (j) of the message with this number and
 /// this MsgType (35). An empty text writes no Text (58).
 pub fn business(
     alloc: Global,

@@ -1,3 +1,4 @@
+//! Reads the value of one tag, or finds its fault. `admin` calls these for the tags of each message type.
 ghost use Rattle.std.specs.Prelude.{◌≡◌, ◌≤◌, List, Some, IfOk, IsTrue, option_map};
 ghost use Rattle.fix_base.specs.Fields.{Field};
 ghost use Rattle.fix_base.specs.Shape.{IsFrame};
@@ -77,6 +78,16 @@ pub fn flag_at(frame: &[u8], tag: u32) -> Result<bool, Fault>
     }
 }
 
+// DefaultApplVerID (1137) of a version that is known: 4 and 6 to 9.
+pub fn version_in(value: Option<&[u8]>) -> Option<u8>
+    ensures { result ≡ values.version_in (option_map (λ v. v.now) value.entry) }
+{
+    match value {
+        None => None,
+        Some(value) => version_of(value),
+    }
+}
+
 // The number, where it lies from `low` to `high`.
 fn bounded(tag: u32, low: u32, high: u32, number: Option<i64>) -> Result<u32, Fault>
     requires first { 1 ≤ tag }
@@ -109,16 +120,6 @@ fn yes_or_no(tag: u32, value: &[u8]) -> Result<bool, Fault>
         return Ok(false);
     }
     Err(fault(WRONG_FORMAT, tag))
-}
-
-// DefaultApplVerID (1137) of a version that is known: 4 and 6 to 9.
-pub fn version_in(value: Option<&[u8]>) -> Option<u8>
-    ensures { result ≡ values.version_in (option_map (λ v. v.now) value.entry) }
-{
-    match value {
-        None => None,
-        Some(value) => version_of(value),
-    }
 }
 
 // One of the known digits, alone.

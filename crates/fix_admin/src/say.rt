@@ -1,3 +1,5 @@
+//! The session messages that a session sends, as values. `fix_machine` chooses one, and `building` writes its
+//! fields.
 use fix_base::Fault;
 
 /// A session message that a session sends. What is lent is lent from the message that it answers.

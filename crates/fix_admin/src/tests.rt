@@ -1,3 +1,4 @@
+//! The fields of session messages and of rejects, byte for byte.
 use crate::{LogoutText, Say, build, business};
 use fix_base::{Begin, Fault, OutOfMemory, Tag};
 use std::alloc::Global;

@@ -1,3 +1,4 @@
+//! The texts of a Reject (3) and of a Logout (5). `building` writes them as Text (58).
 ghost use Rattle.std.specs.Prelude.{◌≡◌, IfOk};
 ghost use Rattle.fix_admin.specs.declared.say.LogoutText.TheVariants.{TooLow};
 ghost use Rattle.fix_admin.specs.Say as say;

@@ -2,7 +2,7 @@
 use Rattle.std.proofs.Common.{◌≡◌, ℕ, List, [], ◌∷◌, ◌++◌, true, None, map, refl, sym, ap, ◌∙◌, subst}
 use Rattle.fix_base.specs.Fields.{FieldsAfter}
 use Rattle.fix_base.specs.Shape.{Parts, IsFrame}
-use Rattle.fix_base.specs.Stream.{Ahead, Item, Frame, Takes, TakesAll, frames}
+use Rattle.fix_base.specs.Stream.{UnreadBytes, Item, Frame, Takes, TakesAll, frames}
 use Rattle.fix_base.specs.Lists.{Among, here, there, IsPrefixOf}
 use Rattle.fix_base.specs.Message.{Message}
 use Rattle.fix_base.specs.Says as says
@@ -74,7 +74,7 @@ all-append (says.silent s others) d = says.silent s (all-append others d)
 
 -- behind the frames shown some items are skipped, and a frame stands that says these: one message, or
 -- none that counts
-pub shows_next : (read : List ℕ) (xs ys : List Message) (h : Shows read xs) (skipped : List Item) (at after : Ahead) (text : List ℕ) → TakesAll h.rest skipped at → frames skipped ≡ [] → Takes at (Frame text) after → SaysAll (text ∷ []) ys → Shows read (xs ++ ys)
+pub shows_next : (read : List ℕ) (xs ys : List Message) (h : Shows read xs) (skipped : List Item) (at after : UnreadBytes) (text : List ℕ) → TakesAll h.rest skipped at → frames skipped ≡ [] → Takes at (Frame text) after → SaysAll (text ∷ []) ys → Shows read (xs ++ ys)
 shows_next read xs ys h skipped at after text skips none takes so =
     let others = skipped ++ Frame text ∷ [] in
     let last : TakesAll at (Frame text ∷ []) after = (after, takes, refl) in
@@ -87,7 +87,7 @@ shows_next read xs ys h skipped at after text skips none takes so =
       says = subst (λ w. SaysAll w (xs ++ ys)) (sym texts) (all-append h.says so);
     }
 
-pub shows_frame : (read : List ℕ) (xs : List Message) (x : Message) (h : Shows read xs) (skipped : List Item) (at after : Ahead) (text : List ℕ) → TakesAll h.rest skipped at → frames skipped ≡ [] → Takes at (Frame text) after → Says text x → Shows read (xs ++ x ∷ [])
+pub shows_frame : (read : List ℕ) (xs : List Message) (x : Message) (h : Shows read xs) (skipped : List Item) (at after : UnreadBytes) (text : List ℕ) → TakesAll h.rest skipped at → frames skipped ≡ [] → Takes at (Frame text) after → Says text x → Shows read (xs ++ x ∷ [])
 shows_frame read xs x h skipped at after text skips none takes so = shows_next read xs (x ∷ []) h skipped at after text skips none takes (says.says so says.none)
 
 -- frames one after the other show what they say

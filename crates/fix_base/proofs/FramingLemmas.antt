@@ -2,7 +2,7 @@
 use Rattle.std.proofs.Common.{◌≡◌, ℕ, ◌-◌, List, [], ◌∷◌, ◌++◌, length, get_or, true, map, refl, sym, ap, ◌∙◌, subst, append_assoc, eq-eqb, arith}
 use Rattle.std.proofs.lemmas.List.{length-append, get_or_at}
 use Rattle.fix_base.specs.Shape.{IsFrame}
-use Rattle.fix_base.specs.Stream.{Ahead, Item, Frame, ends_in_soh, TakesAll, frames}
+use Rattle.fix_base.specs.Stream.{UnreadBytes, Item, Frame, ends_in_soh, TakesAll, frames}
 use Rattle.fix_base.proofs.Fronted.{nothing_ahead}
 use Rattle.fix_base.proofs.Runs.{with_more, all_more, front_stays, frames-append}
 use Rattle.fix_base.specs.Lists.{Among, here, there, IsPrefixOf}
@@ -26,7 +26,7 @@ frame_ends text f =
 pub record AreFrames (texts : List (List ℕ)) : Type 0 where
   pub each : (text : List ℕ) → Among text texts → IsFrame text
 
-abbrev at_start : List ℕ → Ahead
+abbrev at_start : List ℕ → UnreadBytes
 at_start bytes = record { may_mark = true; bytes = bytes }
 
 -- frames one after the other are read as these
@@ -41,7 +41,7 @@ frames_of_frames [] = refl
 frames_of_frames (text ∷ texts) = ap (λ w. text ∷ w) (frames_of_frames texts)
 
 -- the frames of a front of these are a front of these
-pub front_frames : (texts : List (List ℕ)) (bytes : List ℕ) (items : List Item) (rest : Ahead) → AreFrames texts → IsPrefixOf bytes (joined texts) → TakesAll (at_start bytes) items rest → IsPrefixOf (frames items) texts
+pub front_frames : (texts : List (List ℕ)) (bytes : List ℕ) (items : List Item) (rest : UnreadBytes) → AreFrames texts → IsPrefixOf bytes (joined texts) → TakesAll (at_start bytes) items rest → IsPrefixOf (frames items) texts
 front_frames texts bytes items rest all front takes =
     let longer : TakesAll (at_start (bytes ++ front.rest)) items (with_more rest front.rest) = all_more (at_start bytes) items rest front.rest takes in
     let whole : TakesAll (at_start (joined texts)) items (with_more rest front.rest) = subst (λ (w : List ℕ). TakesAll (at_start w) items (with_more rest front.rest)) (sym front.is) longer in

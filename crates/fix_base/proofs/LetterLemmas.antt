@@ -10,7 +10,7 @@ use Rattle.jiff_core.specs.Calendar.{day_count, days_from_civil}
 use Rattle.fix_base.specs.Session.{Identity, IsValidIdentity}
 use Rattle.fix_base.specs.Frame.{HasNoSoh}
 use Rattle.fix_base.specs.Fields.{Field}
-use Rattle.fix_base.specs.Stream.{Ahead, Frame, ends_in_soh}
+use Rattle.fix_base.specs.Stream.{UnreadBytes, Frame, ends_in_soh}
 use Rattle.fix_base.specs.Sealed.{sealed}
 use Rattle.fix_base.specs.Times.{Moment, IsTimeText, moment_text}
 use Rattle.fix_base.specs.Shape.{IsFrame}
@@ -168,7 +168,7 @@ lawful id valid = record {
 
 pub shown : (text : List ℕ) → IsFrame text → (x : Message) → Says text x → Shows text (x ∷ [])
 shown text frame x says_so =
-    let behind : Ahead = record { may_mark = ends_in_soh text; bytes = [] } in
+    let behind : UnreadBytes = record { may_mark = ends_in_soh text; bytes = [] } in
     record {
       items = Frame text ∷ [];
       rest = behind;

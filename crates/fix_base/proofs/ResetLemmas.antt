@@ -72,7 +72,7 @@ pub record AcceptorFits (a : EpochPeer) (e : ℕ) (alog : List Logged) (agiven :
 
 pub data Current (i : EpochPeer) (e : ℕ) (vi : Peer) (eras : List Era) : Type 0 where
   together : (ilog : List Logged) (igiven : List Given) → eras ≡ [] → vi ≡ seen_as i ilog igiven → i.epoch ≡ Some e → e ≤ i.number → (IsAsking i.state → FollowsAll i.state × (i.number ≡ e)) → Current i e vi eras
-  ahead : (x : Era) (rest : List Era) → eras ≡ x ∷ rest → x.peer.state ≡ i.state → x.peer.number ≡ i.number → i.epoch ≡ Some x.number → Current i e vi eras
+  unread : (x : Era) (rest : List Era) → eras ≡ x ∷ rest → x.peer.state ≡ i.state → x.peer.number ≡ i.number → i.epoch ≡ Some x.number → Current i e vi eras
   away : i.epoch ≡ None → IsAsking i.state → FollowsAll i.state → i.state.connection ≡ None → DoubtIsPlain i.state → Current i e vi eras
 
 pub record InitiatorFits (i : EpochPeer) (e : ℕ) (vi : Peer) (eras : List Era) : Type 0 where
@@ -386,7 +386,7 @@ first_same p q ps qs e = cc
 current_reset : {i : EpochPeer} {e : ℕ} {vi : Peer} {eras : List Era} (x : Era) (s : Splits eras x) → Lonely x.number x.peer → Current i e vi eras → Current i x.number x.peer s.newer
 current_reset x s one (together ilog igiven none seen at inside asks) = elim (subst (λ w. Among x w) (sym s.is ∙ none) (Among-append_right s.newer here)) [ ]
 current_reset {i = i} x s one (away at asking follows alone plain) = away at asking follows alone plain
-current_reset {i = i} {eras = eras} x s one (ahead y rest is state number at) = of_first s.newer refl
+current_reset {i = i} {eras = eras} x s one (unread y rest is state number at) = of_first s.newer refl
   where
     both : y ∷ rest ≡ s.newer ++ x ∷ s.mid
     both = sym is ∙ s.is
@@ -399,7 +399,7 @@ current_reset {i = i} {eras = eras} x s one (ahead y rest is state number at) = 
         together x.peer.log x.peer.given none (peer_is x.peer i.state i.number st nu) (at ∙ ap (λ (z : Era). Some z.number) same) (let here_at = one.at in omega (arith, here_at, nu)) (λ a. (subst FollowsAll st one.follows, sym nu ∙ one.at))
     of_first (z ∷ newer) some =
         let same : y ≡ z = first_same y z rest (newer ++ x ∷ s.mid) (both ∙ ap (λ w. w ++ x ∷ s.mid) some) in
-        ahead y newer (some ∙ ap (λ w. w ∷ newer) (sym same)) state number at
+        unread y newer (some ∙ ap (λ w. w ∷ newer) (sym same)) state number at
 
 reopened_still : (log : List Logged) (e : End) (l : Logged) → Among l log → StillIn (reopened_log log e) l
 reopened_still [] e l m = elim m [ ]
@@ -954,7 +954,7 @@ i_asks {i = i} {a = a} v t step = let r = ask_row step.row in subst (λ z. Inv (
 
 follows_now : {i a : EpochPeer} (v : Inv i a) → IsAsking i.state → Current i v.e v.vi v.eras → FollowsAll i.state
 follows_now v h (together ilog igiven none seen at inside asks) = (asks h).0
-follows_now v h (ahead x rest is state number at) = subst FollowsAll state (v.lonely x (subst (λ w. Among x w) (sym is) here)).0.follows
+follows_now v h (unread x rest is state number at) = subst FollowsAll state (v.lonely x (subst (λ w. Among x w) (sym is) here)).0.follows
 follows_now v h (away at asking follows alone plain) = follows
 
 record OpenedEmpty (s s' : EndState) : Type 0 where
@@ -1040,7 +1040,7 @@ i_opens_asking {id = id} {i = i} {a = a} {s' = s'} v c asking lt step =
         silent = λ d o m. elim (subst (λ w. Among AskedReset w) (sym (ap (λ (k : Connection). k.kept) (some_same _ d (sym r.connection ∙ o)))) m) [ ];
         asked = g.asked;
         marks = g.marks;
-        current = ahead era v.eras refl refl refl refl;
+        current = unread era v.eras refl refl refl refl;
       };
       reads = λ d o. ways.nothing (sym (ap (λ (k : Connection). k.read) (some_same _ d (sym r.connection ∙ o))));
       reads_back = λ d o. comes_on (λ l m. still_same (there m)) (v.reads_back d o);
@@ -1144,7 +1144,7 @@ ahead_still {i = i} {a = a} v x rest is number at s' one role silent reads =
         silent = silent;
         asked = g.asked;
         marks = g.marks;
-        current = ahead era rest refl refl number at;
+        current = unread era rest refl refl number at;
       };
       reads = reads;
       reads_back = λ c o. comes_on (λ l m. still_same m) (v.reads_back c o);
@@ -1181,7 +1181,7 @@ ahead_writes {id = id} {i = i} {a = a} {s' = s'} v x rest is state number at b s
         silent = λ d q m. g.silent r.was r.is_open (subst (λ (k : Connection). Among AskedReset k.kept) (sym (some_same _ d (sym r.connection ∙ q))) m);
         asked = g.asked;
         marks = g.marks;
-        current = ahead era rest refl refl number at;
+        current = unread era rest refl refl number at;
       };
       reads = λ d q. subst (λ (k : Connection). Comes (whole a) i.number k.read) (some_same _ d (sym r.connection ∙ q)) (v.reads r.was r.is_open);
       reads_back = λ c o. comes_on (grown_still i.log b) (v.reads_back c o);
@@ -1344,17 +1344,17 @@ from_acceptor x v at asking follows alone (resets.rests y quiet p step) sure = a
 -- by where the initiator is
 pub initiates_in : {id : Identity} {i a i' : EpochPeer} (x : Act) (v : Inv i a) → Current i v.e v.vi v.eras → EpochStep id i a x i' → IsSure x → Inv i' a
 initiates_in x v (together ilog igiven none seen at inside asks) step sure = with_acceptor x v (joint_of v ilog igiven none seen at inside asks) step sure
-initiates_in x v (ahead y rest is state number at) step sure = before_acceptor x v y rest is state number at step sure
+initiates_in x v (unread y rest is state number at) step sure = before_acceptor x v y rest is state number at step sure
 initiates_in x v (away at asking follows alone plain) step sure = from_acceptor x v at asking follows alone step sure
 
 pub now_plain : {i a : EpochPeer} (v : Inv i a) → Current i v.e v.vi v.eras → DoubtIsPlain i.state
 now_plain v (together ilog igiven none seen at inside asks) = (joint_of v ilog igiven none seen at inside asks).pair.own.plain
-now_plain v (ahead y rest is state number at) = subst DoubtIsPlain state (v.lonely y (subst (λ w. Among y w) (sym is) here)).0.own.plain
+now_plain v (unread y rest is state number at) = subst DoubtIsPlain state (v.lonely y (subst (λ w. Among y w) (sym is) here)).0.own.plain
 now_plain v (away at asking follows alone plain) = plain
 
 pub initiates_move : {i a i' : EpochPeer} (v : Inv i a) → Current i v.e v.vi v.eras → EpochMove i i' → Inv i' a
 initiates_move v (together ilog igiven none seen at inside asks) (resets.moves m known) = inv_of (j_moves (joint_of v ilog igiven none seen at inside asks) m)
-initiates_move {i = i} v (ahead y rest is state number at) (resets.moves {s' = s'} m known) =
+initiates_move {i = i} v (unread y rest is state number at) (resets.moves {s' = s'} m known) =
     ahead_still v y rest is number at s' (lonely_moves (v.lonely y (subst (λ w. Among y w) (sym is) here)).0 (subst (λ k. Move k s') (sym state) m))
     (move_same m (subst DoubtIsPlain state (v.lonely y (subst (λ w. Among y w) (sym is) here)).0.own.plain)).role (λ c o. v.initiator.silent c (move_connection m c o)) (λ c o. v.reads c (move_connection m c o))
 initiates_move {i = i} v (away at asking follows alone plain) (resets.moves {s' = s'} m known) =
@@ -1388,12 +1388,12 @@ unfolding joint_of
 shared_by {i = i} {a = a} v (together ilog igiven none seen at inside asks) p q same =
     let j = joint_of v ilog igiven none seen at inside asks in
     (since (seen_as i ilog igiven) (seen_as a j.alog j.agiven) j.pair.own_other j.pair.way p, since (seen_as a j.alog j.agiven) (seen_as i ilog igiven) j.pair.own j.pair.back q)
-shared_by v (ahead y rest is state number at) p q same = let lt = (v.lonely y (subst (λ w. Among y w) (sym is) here)).1 in let e = some_same y.number v.e (sym at ∙ same ∙ v.acceptor.epoch) in absurd (omega (arith, lt, e))
+shared_by v (unread y rest is state number at) p q same = let lt = (v.lonely y (subst (λ w. Among y w) (sym is) here)).1 in let e = some_same y.number v.e (sym at ∙ same ∙ v.acceptor.epoch) in absurd (omega (arith, lt, e))
 shared_by v (away at asking follows alone plain) p q same = let e : None ≡ Some v.e = sym at ∙ same ∙ v.acceptor.epoch in cc
 
 pub apart_by : {i a : EpochPeer} (v : Inv i a) → Current i v.e v.vi v.eras → (i.epoch ≡ a.epoch → ⊥) → IsAhead (record { initiator = i; acceptor = a })
 apart_by v (together ilog igiven none seen at inside asks) differ = absurd (differ (at ∙ sym v.acceptor.epoch))
-apart_by {i = i} {a = a} v (ahead y rest is state number at) differ =
+apart_by {i = i} {a = a} v (unread y rest is state number at) differ =
     let one = v.lonely y (subst (λ w. Among y w) (sym is) here) in
     record { later = subst (λ p. IsLater p a.epoch) (sym at) (subst (λ q. IsLater (Some y.number) q) (sym v.acceptor.epoch) (resets.greater v.e y.number one.1)); nothing = nothing_handled i.state (subst FollowsAll state one.0.follows); asked = (ahead_asking v y rest is state).1 }
 apart_by {i = i} {a = a} v (away at asking follows alone plain) differ =

@@ -4,7 +4,7 @@ use Rattle.std.proofs.lemmas.List.{append-nil}
 use Rattle.fix_base.specs.declared.act.Act.{Act}
 use Rattle.fix_base.specs.End.{End}
 use Rattle.fix_base.specs.Parts.{PartsSeen}
-use Rattle.fix_base.specs.Seen.{Stores, grown, StorePart, LinkPart, AppPart, Note, Did, Failed, Asked, acts_of, store_failures, link_failures, app_failures, Follows, Seen, HoldsOn, SameFile, Moves}
+use Rattle.fix_base.specs.Trace.{Stores, grown, StorePart, LinkPart, AppPart, Note, Did, Failed, Asked, acts_of, store_failures, link_failures, app_failures, Follows, OutsideSeen, HoldsOn, SameFile, Trace}
 
 pub grown-append : (t : Option (List Act)) (xs ys : List Act) → grown (grown t xs) ys ≡ grown t (xs ++ ys)
 grown-append None xs ys = refl
@@ -68,17 +68,17 @@ HoldsOn-one acts old new stores = record {
   only = λ e h. (old, refl, subst (λ o. Stores acts (Some old) (Some o)) (sym h) stores);
 }
 
-SameFile-append : (a b c : Seen) → SameFile a b → SameFile b c → SameFile a c
+SameFile-append : (a b c : OutsideSeen) → SameFile a b → SameFile b c → SameFile a c
 SameFile-append a b c x y = record {
   told = (λ t. x.told.0 (y.told.0 t), λ t. y.told.1 (x.told.1 t));
   breaks = λ place. (λ t. (x.breaks place).0 ((y.breaks place).0 t), λ t. (y.breaks place).1 ((x.breaks place).1 t));
 }
 
-pub SameFile-nil : (a : Seen) → SameFile a a
+pub SameFile-nil : (a : OutsideSeen) → SameFile a a
 SameFile-nil a = record { told = (λ t. t, λ t. t); breaks = λ place. (λ t. t, λ t. t) }
 
-pub Moves-append : (a b c : Seen) (xs ys : List Note) → Moves a b xs → Moves b c ys → Moves a c (xs ++ ys)
-Moves-append a b c xs ys x y = record {
+pub Trace-append : (a b c : OutsideSeen) (xs ys : List Note) → Trace a b xs → Trace b c ys → Trace a c (xs ++ ys)
+Trace-append a b c xs ys x y = record {
   tape = y.tape ∙ ap (λ t. grown t (acts_of ys)) x.tape ∙ grown-append a.tape (acts_of xs) (acts_of ys) ∙ ap (grown a.tape) (sym (acts_of-append xs ys));
   stored = subst (HoldsOn a.Holds c.Holds) (sym (acts_of-append xs ys)) (HoldsOn-append (acts_of xs) (acts_of ys) a.Holds b.Holds c.Holds x.stored y.stored);
   file = SameFile-append a b c x.file y.file;
@@ -94,8 +94,8 @@ grown-nil : (t : Option (List Act)) → t ≡ grown t []
 grown-nil None = refl
 grown-nil (Some old) = ap Some (sym (append-nil old))
 
-pub Moves-nil : (a : Seen) → Moves a a []
-Moves-nil a = record {
+pub Trace-nil : (a : OutsideSeen) → Trace a a []
+Trace-nil a = record {
   tape = grown-nil a.tape;
   stored = record { kept = λ e h. (e, h, refl); only = λ e h. (e, h, refl) };
   file = SameFile-nil a;

@@ -7,7 +7,7 @@ use Rattle.fix_base.specs.Lists.{here, IsPrefixOf}
 use Rattle.fix_base.specs.Fields.{Field}
 use Rattle.fix_base.specs.Sealed.{sealed}
 use Rattle.fix_base.specs.Shape.{IsFrame}
-use Rattle.fix_base.specs.Stream.{Ahead, Frame, frames, ends_in_soh}
+use Rattle.fix_base.specs.Stream.{UnreadBytes, Frame, frames, ends_in_soh}
 use Rattle.fix_base.specs.Says.{fields_text}
 use Rattle.fix_base.specs.Logon.{IsFirstLogon, Begun, Completes}
 use Rattle.fix_base.specs.Session.{Identity, IsValidIdentity, mirrored}
@@ -119,7 +119,7 @@ is_original id valid = record { type = codes "A"; at = at; rest = rest; carries 
 
 pub begun : (id : Identity) → IsValidIdentity id → Begun IsFirstLogon (frame id)
 begun id valid =
-    let behind : Ahead = record { may_mark = ends_in_soh (frame id); bytes = [] } in
+    let behind : UnreadBytes = record { may_mark = ends_in_soh (frame id); bytes = [] } in
     record { text = frame id; others = []; items = Frame (frame id) ∷ []; rest = behind; takes = (behind, record { is = (refl, is_frame id valid); spelled = sym (append-nil (frame id)); mark = refl }, refl); first = refl; is = is_first id valid }
 
 -- ---- ends without entries, and with the Logon

@@ -12,7 +12,7 @@ use Rattle.fix_base.specs.declared.no_match.NoMatch.TheVariants.{Never}
 use Rattle.fix_base.specs.Frame.{HasNoSoh, IsLine, IsLengthOf, IsSumOf, IsHead, IsBody, IsTrailer, IsText, IsLong}
 use Rattle.fix_base.specs.Fields.{FieldsAfter}
 use Rattle.fix_base.specs.Shape.{Parts, HasShape, IsShape, IsFrame}
-use Rattle.fix_base.specs.Stream.{Ahead, Frame, Span, Byte, IsItem, Reads}
+use Rattle.fix_base.specs.Stream.{UnreadBytes, Frame, Span, Byte, IsItem, Reads}
 use Rattle.fix_base.specs.Times.{Moment, IsTimeTextOf, IsUtcTimestamp}
 use Rattle.fix_base.specs.Message.{App, Admin, GapFill, ResetTo}
 use Rattle.fix_base.specs.Says.{field_text, fields_text, message_of}
@@ -159,7 +159,7 @@ wrong_sum_is_no_frame f =
 
 -- ---- streams
 
-abbrev at_start : List ℕ → Ahead
+abbrev at_start : List ℕ → UnreadBytes
 at_start bytes = record { may_mark = true; bytes = bytes }
 
 -- the frame with the wrong sum is skipped as one span, and the one behind it is read

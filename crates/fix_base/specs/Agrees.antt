@@ -1,5 +1,6 @@
 -- What one end handled is what the other stored.
-use Rattle.std.specs.Prelude.{◌≡◌, ◌⊎◌, ℕ, suc, ◌<◌, ◌≤◌, ◌==◌, ◌||◌, max, if◌then◌else◌, List, [], ◌∷◌, ◌++◌, length, Bool, false, Option, Some, None}
+use Rattle.std.specs.Prelude.{◌≡◌, ◌⊎◌, ℕ, suc, ◌<◌, ◌≤◌, ◌==◌, ◌||◌, max, if◌then◌else◌, List, [], ◌∷◌, ◌++◌}
+use Rattle.std.specs.Prelude.{length, Bool, false, Option, Some, None}
 use Rattle.fix_base.specs.Lists.{Among, IsPrefixOf}
 use Rattle.fix_base.specs.End.{Entry, Record, End, folded, Sent, app_entries}
 use Rattle.fix_base.specs.EndStep.{Handling, handled_with}
@@ -36,7 +37,8 @@ top expected handled = max expected (suc (greatest handled))
 pub data Less (withheld : List ℕ) : List Sent → List Sent → Type 0 where
   none : Less withheld [] []
   keeps : {all left : List Sent} (x : Sent) → Less withheld all left → Less withheld (x ∷ all) (x ∷ left)
-  drops : {all left : List Sent} (x : Sent) → Among x.number withheld → Less withheld all left → Less withheld (x ∷ all) left
+  drops : {all left : List Sent} (x : Sent) → Among x.number withheld → Less withheld all left
+      → Less withheld (x ∷ all) left
 
 -- an end that expects this number, and handled these, agrees with its counterparty: of the
 -- counterparty's first entries, as many as are below the top, the messages are just those that were
@@ -60,7 +62,8 @@ pub record AgreesInPlainWords (expected : ℕ) (handled : List Handling) (f : En
   pub inside : top expected handled ≤ suc (length f.out)
   pub rises : RiseFrom 0 (fresh handled)
   pub stored : (x : Sent) → Among x (fresh handled) → Among x (app_entries f.out) × (x.number < top expected handled)
-  pub missing : (x : Sent) → Among x (app_entries f.out) → x.number < top expected handled → (Among x (fresh handled) → ⊥) → Among x.number f.withheld
+  pub missing : (x : Sent) → Among x (app_entries f.out) → x.number < top expected handled
+      → (Among x (fresh handled) → ⊥) → Among x.number f.withheld
 
 -- a front of these messages, less only ones with these numbers
 pub record IsPrefixLess (withheld : List ℕ) (xs all : List Sent) : Type 0 where
@@ -69,13 +72,15 @@ pub record IsPrefixLess (withheld : List ℕ) (xs all : List Sent) : Type 0 wher
   pub less : Less withheld front xs
 
 -- a message that comes for its first time comes with a number above all that came before it: one that
--- was passed over never comes behind a later one
+-- was passed over never comes after a later one
 pub record ComesInOrder (handled : List Handling) : Type 0 where
-  pub each : (before after : List Handling) (h : Handling) → handled ≡ before ++ h ∷ after → ((earlier : Handling) × Among earlier before × (earlier.number ≡ h.number)) ⊎ (greatest before < h.number)
+  pub each : (before after : List Handling) (h : Handling) → handled ≡ before ++ h ∷ after
+      → ((earlier : Handling) × Among earlier before × (earlier.number ≡ h.number)) ⊎ (greatest before < h.number)
 
 -- a reader with these parts keeps up with a counterparty: it agrees with the number that is kept, with
 -- the running one, and whichever way its own doubt settles
-pub record KeepsUp (end : End) (expected : ℕ) (handled : List Handling) (doubt : Option Record) (beside : List Handling) (f : End) : Type 0 where
+pub record KeepsUp (end : End) (expected : ℕ) (handled : List Handling) (doubt : Option Record)
+    (beside : List Handling) (f : End) : Type 0 where
   pub now : Agrees end.stored handled f
   pub running : doubt ≡ None → Agrees expected handled f
   pub settled : (r : Record) → doubt ≡ Some r → Agrees (folded end r).stored (handled_with handled beside r) f

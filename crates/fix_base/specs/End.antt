@@ -1,5 +1,6 @@
 -- An end: what one side of a session stores. It is the fold of the records that were kept.
-use Rattle.std.specs.Prelude.{◌≡◌, ℕ, suc, ◌==◌, if◌then◌else◌, List, [], ◌∷◌, ◌++◌, length, Bool, true, false, Option, Some}
+use Rattle.std.specs.Prelude.{◌≡◌, ℕ, suc, ◌==◌, if◌then◌else◌, List, [], ◌∷◌, ◌++◌, length, Bool, true, false}
+use Rattle.std.specs.Prelude.{Option, Some}
 use Rattle.fix_base.specs.Lists.{Among, IsPrefixOf}
 pub use Rattle.fix_base.specs.declared.entry.By.{By}
 pub use Rattle.fix_base.specs.declared.entry.By.TheVariants.{Caller, Engine}

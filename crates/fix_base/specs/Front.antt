@@ -34,7 +34,8 @@ abbrev pub SomeOf : {Y : Type 0} → (Y → List ℕ → Type 0) → List ℕ �
 SomeOf {Y} P text = (y : Y) × P y text
 
 -- the value of the text at the front and the bytes after it, or why there is none
-abbrev pub ScansOf : {X Y : Type 0} → (X → Y) → (X → List ℕ) → (Y → List ℕ → Type 0) → List ℕ → Result X NoMatch → Type 0
+abbrev pub ScansOf : {X Y : Type 0} → (X → Y) → (X → List ℕ) → (Y → List ℕ → Type 0) → List ℕ → Result X NoMatch
+    → Type 0
 ScansOf value view P bytes (Ok x) = Begins (P (value x)) bytes (view x)
 ScansOf value view P bytes (Err why) = Stops (SomeOf P) bytes why
 

@@ -22,4 +22,4 @@ pub mod Agrees
 pub mod Reader
 pub mod World
 pub mod Resets
-pub mod Seen
+pub mod Trace

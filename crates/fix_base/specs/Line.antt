@@ -1,5 +1,6 @@
 -- The line of text that shows a message to an application.
-use Rattle.std.specs.Prelude.{ℕ, ◌+◌, ◌/◌, ◌%◌, ◌==◌, ◌||◌, nat_lt, nat_le, if◌then◌else◌, Bool, List, [], ◌∷◌, ◌++◌, decimal}
+use Rattle.std.specs.Prelude.{ℕ, ◌+◌, ◌/◌, ◌%◌, ◌==◌, ◌||◌, nat_lt, nat_le, if◌then◌else◌, Bool, List, [], ◌∷◌}
+use Rattle.std.specs.Prelude.{◌++◌, decimal}
 
 -- 0 to 9 and a to f
 abbrev pub hex_digit : ℕ → ℕ
@@ -20,6 +21,7 @@ body_text [] = []
 body_text (b ∷ bs) = byte_text b ++ body_text bs
 
 -- MsgSeqNum (34), `Y` where PossDupFlag (43) is Y and else `N`, and the body, with a space between
--- and LF behind
+-- and LF after it
 abbrev pub line_text : ℕ → Bool → List ℕ → List ℕ
-line_text number marked body = decimal number ++ (32 ∷ (if marked then 89 else 78) ∷ 32 ∷ []) ++ body_text body ++ (10 ∷ [])
+line_text number marked body = decimal number ++ (32 ∷ (if marked then 89 else 78) ∷ 32 ∷ []) ++ body_text body
+    ++ (10 ∷ [])

@@ -1,7 +1,7 @@
 -- The first frame of a connection, and Logons (35=A) with ResetSeqNumFlag (141) = Y.
 use Rattle.std.specs.Prelude.{◌≡◌, ℕ, ◌<◌, codes, List, [], ◌∷◌, ◌++◌, length, true, Some}
 use Rattle.fix_base.specs.Fields.{Field}
-use Rattle.fix_base.specs.Stream.{Ahead, Item, Frame, TakesAll, frames}
+use Rattle.fix_base.specs.Stream.{UnreadBytes, Item, Frame, TakesAll, frames}
 use Rattle.fix_base.specs.Says.{value_of, seq_num_of, HasFields}
 
 pub record IsLogon (text : List ℕ) : Type 0 where
@@ -29,7 +29,7 @@ pub record Begun (P : List ℕ → Type 0) (bytes : List ℕ) : Type 0 where
   pub text : List ℕ
   pub others : List (List ℕ)
   pub items : List Item
-  pub rest : Ahead
+  pub rest : UnreadBytes
   pub takes : TakesAll (record { may_mark = true; bytes = bytes }) items rest
   pub first : frames items ≡ text ∷ others
   pub is : P text
@@ -37,6 +37,6 @@ pub record Begun (P : List ℕ → Type 0) (bytes : List ℕ) : Type 0 where
 -- with these bytes more a frame is complete
 pub record Completes (bytes more text : List ℕ) : Type 0 where
   pub before : List Item
-  pub rest : Ahead
+  pub rest : UnreadBytes
   pub takes : TakesAll (record { may_mark = true; bytes = bytes ++ more }) (before ++ Frame text ∷ []) rest
   pub beyond : length rest.bytes < length more

@@ -4,7 +4,8 @@ use Rattle.fix_base.specs.Lists.{IsPrefixOf}
 use Rattle.fix_base.specs.Line.{line_text}
 use Rattle.fix_base.specs.declared.entry.Record.{Record}
 use Rattle.fix_base.specs.Payload.{record_size}
-use Rattle.fix_base.specs.Act.{Act, Opened, Now, Read, Idle, Ended, Wrote, Kept, KeepLost, Handed, HandLost, Withheld, Allowed, Cut, Stop}
+use Rattle.fix_base.specs.Act.{Act, Opened, Now, Read, Idle, Ended, Wrote, Kept, KeepLost, Handed, HandLost}
+use Rattle.fix_base.specs.Act.{Withheld, Allowed, Cut, Stop}
 
 pub record PartsSeen : Type 0 where
   pub to_come : Option (List (List ℕ))  -- the pieces that reads give yet; an empty one is Idle
@@ -17,7 +18,7 @@ pub record PartsSeen : Type 0 where
   pub to_ask : Option (List (Option (List ℕ)))  -- what it answers yet where it is asked for a draft: a body, or none
   pub store_room : Option ℕ  -- a store that tells it fails only at a record that takes more bytes than this
 
--- a list with these behind it, where it is told
+-- a list with these after it, where it is told
 abbrev pub extended : {A : Type 0} → Option (List A) → List A → Option (List A)
 extended None more = None
 extended (Some old) more = Some (old ++ more)
@@ -52,7 +53,8 @@ later_readings first (next ∷ more) = next ∷ more
 -- a reading is the first of those to come, where they are told; there is always one
 abbrev pub ClockReads : ℕ → Option (List ℕ) → Option (List ℕ) → Type 0
 ClockReads time None new = new ≡ None
-ClockReads time (Some readings) new = (later : List ℕ) × (readings ≡ time ∷ later) × (new ≡ Some (later_readings time later))
+ClockReads time (Some readings) new = (later : List ℕ) × (readings ≡ time ∷ later)
+    × (new ≡ Some (later_readings time later))
 
 -- what an act that reads does to the pieces
 abbrev pub GivesBytes : List ℕ → Option (List (List ℕ)) → Option (List (List ℕ)) → Type 0
@@ -73,25 +75,95 @@ LosesLine line old new = (part : List ℕ) × IsPrefixOf part line × (new ≡ e
 
 -- the same parts but for what is named
 abbrev pub with_to_come : PartsSeen → Option (List (List ℕ)) → PartsSeen
-with_to_come p to_come = record { to_come = to_come; readings = p.readings; written = p.written; link_room = p.link_room; lines = p.lines; line_room = p.line_room; asked = p.asked; to_ask = p.to_ask; store_room = p.store_room }
+with_to_come p to_come = record {
+  to_come = to_come;
+  readings = p.readings;
+  written = p.written;
+  link_room = p.link_room;
+  lines = p.lines;
+  line_room = p.line_room;
+  asked = p.asked;
+  to_ask = p.to_ask;
+  store_room = p.store_room;
+}
 
 abbrev pub with_readings : PartsSeen → Option (List ℕ) → PartsSeen
-with_readings p readings = record { to_come = p.to_come; readings = readings; written = p.written; link_room = p.link_room; lines = p.lines; line_room = p.line_room; asked = p.asked; to_ask = p.to_ask; store_room = p.store_room }
+with_readings p readings = record {
+  to_come = p.to_come;
+  readings = readings;
+  written = p.written;
+  link_room = p.link_room;
+  lines = p.lines;
+  line_room = p.line_room;
+  asked = p.asked;
+  to_ask = p.to_ask;
+  store_room = p.store_room;
+}
 
 abbrev pub with_written : PartsSeen → List ℕ → PartsSeen
-with_written p bytes = record { to_come = p.to_come; readings = p.readings; written = extended p.written bytes; link_room = less (length bytes) p.link_room; lines = p.lines; line_room = p.line_room; asked = p.asked; to_ask = p.to_ask; store_room = p.store_room }
+with_written p bytes = record {
+  to_come = p.to_come;
+  readings = p.readings;
+  written = extended p.written bytes;
+  link_room = less (length bytes) p.link_room;
+  lines = p.lines;
+  line_room = p.line_room;
+  asked = p.asked;
+  to_ask = p.to_ask;
+  store_room = p.store_room;
+}
 
 abbrev pub with_line : PartsSeen → List ℕ → PartsSeen
-with_line p line = record { to_come = p.to_come; readings = p.readings; written = p.written; link_room = p.link_room; lines = extended p.lines line; line_room = less (length line) p.line_room; asked = p.asked; to_ask = p.to_ask; store_room = p.store_room }
+with_line p line = record {
+  to_come = p.to_come;
+  readings = p.readings;
+  written = p.written;
+  link_room = p.link_room;
+  lines = extended p.lines line;
+  line_room = less (length line) p.line_room;
+  asked = p.asked;
+  to_ask = p.to_ask;
+  store_room = p.store_room;
+}
 
 abbrev pub with_lines : PartsSeen → Option (List ℕ) → PartsSeen
-with_lines p lines = record { to_come = p.to_come; readings = p.readings; written = p.written; link_room = p.link_room; lines = lines; line_room = p.line_room; asked = p.asked; to_ask = p.to_ask; store_room = p.store_room }
+with_lines p lines = record {
+  to_come = p.to_come;
+  readings = p.readings;
+  written = p.written;
+  link_room = p.link_room;
+  lines = lines;
+  line_room = p.line_room;
+  asked = p.asked;
+  to_ask = p.to_ask;
+  store_room = p.store_room;
+}
 
 abbrev pub with_asked : PartsSeen → Option (List (List ℕ)) → Option (List (Option (List ℕ))) → PartsSeen
-with_asked p asked to_ask = record { to_come = p.to_come; readings = p.readings; written = p.written; link_room = p.link_room; lines = p.lines; line_room = p.line_room; asked = asked; to_ask = to_ask; store_room = p.store_room }
+with_asked p asked to_ask = record {
+  to_come = p.to_come;
+  readings = p.readings;
+  written = p.written;
+  link_room = p.link_room;
+  lines = p.lines;
+  line_room = p.line_room;
+  asked = asked;
+  to_ask = to_ask;
+  store_room = p.store_room;
+}
 
 abbrev pub with_store_room : PartsSeen → Option ℕ → PartsSeen
-with_store_room p room = record { to_come = p.to_come; readings = p.readings; written = p.written; link_room = p.link_room; lines = p.lines; line_room = p.line_room; asked = p.asked; to_ask = p.to_ask; store_room = room }
+with_store_room p room = record {
+  to_come = p.to_come;
+  readings = p.readings;
+  written = p.written;
+  link_room = p.link_room;
+  lines = p.lines;
+  line_room = p.line_room;
+  asked = p.asked;
+  to_ask = p.to_ask;
+  store_room = room;
+}
 
 -- a draft that was given, if any, and its list
 abbrev pub given_draft : Option (List ℕ) → List (List ℕ)
@@ -106,7 +178,8 @@ Answers draft (Some (first ∷ later)) new = (draft ≡ first) × (new ≡ Some 
 
 -- the application was asked, and gave a draft with this body or none
 abbrev pub AskMoves : Option (List ℕ) → PartsSeen → PartsSeen → Type 0
-AskMoves draft old new = Answers draft old.to_ask new.to_ask × (new ≡ with_asked old (extended old.asked (given_draft draft)) new.to_ask)
+AskMoves draft old new = Answers draft old.to_ask new.to_ask
+    × (new ≡ with_asked old (extended old.asked (given_draft draft)) new.to_ask)
 
 -- a room of which this record takes no more than it is long; one that is told stays told
 abbrev pub TakesRoom : Record → Option ℕ → Option ℕ → Type 0
@@ -126,7 +199,8 @@ ActMoves Idle old new = GivesIdle old.to_come new.to_come × (new ≡ with_to_co
 ActMoves Ended old new = GivesEnd old.to_come new.to_come × (new ≡ with_to_come old new.to_come)
 ActMoves (Wrote b) old new = new ≡ with_written old b
 ActMoves (Handed number marked body) old new = new ≡ with_line old (line_text number marked body)
-ActMoves (HandLost number marked body) old new = HasNoRoom (length (line_text number marked body)) old.line_room × LosesLine (line_text number marked body) old.lines new.lines × (new ≡ with_lines old new.lines)
+ActMoves (HandLost number marked body) old new = HasNoRoom (length (line_text number marked body)) old.line_room
+    × LosesLine (line_text number marked body) old.lines new.lines × (new ≡ with_lines old new.lines)
 ActMoves (Kept r) old new = TakesRoom r old.store_room new.store_room × (new ≡ with_store_room old new.store_room)
 ActMoves (KeepLost r) old new = HasNoRoom (record_size r) old.store_room × (new ≡ old)
 ActMoves Opened old new = new ≡ old

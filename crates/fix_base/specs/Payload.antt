@@ -1,11 +1,13 @@
 -- Which entries a message store may keep, and which ends keep their messages.
-use Rattle.std.specs.Prelude.{◌≡◌, ◌≢◌, ℕ, ◌+◌, ◌<◌, ◌≤◌, ◌^◌, ◌==◌, codes, IsTrue, List, [], ◌∷◌, length, Bool, false, None}
+use Rattle.std.specs.Prelude.{◌≡◌, ◌≢◌, ℕ, ◌+◌, ◌<◌, ◌≤◌, ◌^◌, ◌==◌, codes, IsTrue, List, [], ◌∷◌, length, Bool}
+use Rattle.std.specs.Prelude.{false, None}
 use Rattle.std.specs.List.{AllByRecursion, list_any}
 use Rattle.fix_base.specs.Lists.{Among}
 use Rattle.fix_base.specs.Tags.{is_session_tag}
 use Rattle.fix_base.specs.Fields.{Field, FieldsAfter}
 use Rattle.fix_base.specs.Says.{fields_text, is_admin_type}
-use Rattle.fix_base.specs.End.{Entry, App, Admin, Record, Push, Expect, Many, Withhold, Reset, ResetAsk, Confirm, End, IsAppAt, ONCE}
+use Rattle.fix_base.specs.End.{Entry, App, Admin, Record, Push, Expect, Many, Withhold, Reset, ResetAsk, Confirm}
+use Rattle.fix_base.specs.End.{End, IsAppAt, ONCE}
 
 -- the last microsecond of 2099: a clock reading beyond it counts as this one
 abbrev pub LAST_TIME : ℕ
@@ -18,7 +20,7 @@ LONGEST_BODY = 1048064
 abbrev pub field : ℕ → List ℕ → Field
 field tag value = record { tag = tag; value = value }
 
--- a field that may stand in a body behind its MsgType
+-- a field that may stand in a body after its MsgType
 pub record IsEntryField (f : Field) : Type 0 where
   pub no_begin : f.tag ≢ 8
   pub no_length : f.tag ≢ 9

@@ -1,5 +1,6 @@
 -- What the frames in the bytes of a connection say.
-use Rattle.std.specs.Prelude.{◌≡◌, ℕ, ◌+◌, ◌==◌, ◌&&◌, if◌then◌else◌, nat_lt, nat_le, bytes_eq, codes, List, [], ◌∷◌, ◌++◌, length, Bool, true, false, Option, Some, None}
+use Rattle.std.specs.Prelude.{◌≡◌, ℕ, ◌+◌, ◌==◌, ◌&&◌, if◌then◌else◌, nat_lt, nat_le, bytes_eq, codes, List, []}
+use Rattle.std.specs.Prelude.{◌∷◌, ◌++◌, length, Bool, true, false, Option, Some, None}
 use Rattle.std.specs.List.{list_any}
 use Rattle.std.specs.Fmt.{decimal}
 use Rattle.std.specs.Str.{all_ascii_digits}
@@ -7,7 +8,7 @@ use Rattle.std.specs.Str.Parse.{digits_value}
 use Rattle.fix_base.specs.Tags.{is_session_tag}
 use Rattle.fix_base.specs.Fields.{Field, FieldsAfter}
 use Rattle.fix_base.specs.Shape.{Parts, HasShape}
-use Rattle.fix_base.specs.Stream.{Ahead, Item, TakesAll, frames}
+use Rattle.fix_base.specs.Stream.{UnreadBytes, Item, TakesAll, frames}
 use Rattle.fix_base.specs.Message as message
 use Rattle.fix_base.specs.Message.{Message}
 
@@ -37,7 +38,9 @@ body_of (f ∷ fs) = if is_session_tag f.tag then body_of fs else field_text f +
 -- the number of digits, where it lies from `low` to `high`
 abbrev pub number_in : ℕ → ℕ → List ℕ → Option ℕ
 number_in low high v =
-    if all_ascii_digits v && (nat_lt 0 (length v) && (nat_le low (digits_value 10 v) && nat_le (digits_value 10 v) high)) then Some (digits_value 10 v)
+    if all_ascii_digits v &&
+    (nat_lt 0 (length v) && (nat_le low (digits_value 10 v) && nat_le (digits_value 10 v) high)) then Some
+    (digits_value 10 v)
     else None
 
 -- one to nine digits, from 1 on
@@ -102,14 +105,16 @@ pub record Says (text : List ℕ) (x : Message) : Type 0 where
 -- what these frames say, in order; some may say nothing that counts
 pub data SaysAll : List (List ℕ) → List Message → Type 0 where
   none : SaysAll [] []
-  says : {text : List ℕ} {x : Message} {texts : List (List ℕ)} {xs : List Message} → Says text x → SaysAll texts xs → SaysAll (text ∷ texts) (x ∷ xs)
-  silent : {text : List ℕ} {texts : List (List ℕ)} {xs : List Message} → ((x : Message) → Says text x → ⊥) → SaysAll texts xs → SaysAll (text ∷ texts) xs
+  says : {text : List ℕ} {x : Message} {texts : List (List ℕ)} {xs : List Message} → Says text x → SaysAll texts xs
+      → SaysAll (text ∷ texts) (x ∷ xs)
+  silent : {text : List ℕ} {texts : List (List ℕ)} {xs : List Message} → ((x : Message) → Says text x → ⊥)
+      → SaysAll texts xs → SaysAll (text ∷ texts) xs
 
 -- the first frames of the bytes say these, in order (a front of the frames: who acts on a frame has
 -- read the bytes up to it)
 pub record Shows (bytes : List ℕ) (messages : List Message) : Type 0 where
   pub items : List Item
-  pub rest : Ahead
+  pub rest : UnreadBytes
   pub takes : TakesAll (record { may_mark = true; bytes = bytes }) items rest
   pub says : SaysAll (frames items) messages
 

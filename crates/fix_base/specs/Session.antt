@@ -12,7 +12,8 @@ begin_string_of Fix44 = codes "FIX.4.4"
 
 -- a CompID: 1 to 64 bytes from 0x20 to 0x7E
 abbrev pub is_comp_id : List ℕ → Bool
-is_comp_id text = nat_lt 0 (length text) && (nat_le (length text) 64 && list_all (λ b. nat_le 32 b && nat_le b 126) text)
+is_comp_id text = nat_lt 0 (length text) && (nat_le (length text) 64 && list_all
+    (λ b. nat_le 32 b && nat_le b 126) text)
 
 -- both CompIDs are ones
 pub record IsValidIdentity (id : Identity) : Type 0 where

@@ -1,4 +1,5 @@
--- A frame: its shape, its checksum and its fields (FIX, "Standard Header", "Standard Trailer", "Checksum calculation").
+-- A frame: its shape, its checksum and its fields (FIX, "Standard Header", "Standard Trailer", "Checksum
+-- calculation").
 use Rattle.std.specs.Prelude.{◌≡◌, ◌≢◌, ℕ, ◌%◌, List, ◌++◌, Option, None, sum}
 use Rattle.std.specs.List.{AllByRecursion}
 use Rattle.fix_base.specs.Front.{SomeOf}
@@ -31,7 +32,7 @@ pub record IsBodyField (f : Field) : Type 0 where
   pub no_length : f.tag ≢ 9
   pub no_sum : f.tag ≢ 10
 
--- fields behind one that speaks of this data
+-- fields after one that speaks of this data
 pub record HasFieldsAfter (due : Option (ℕ × ℕ)) (bytes : List ℕ) : Type 0 where
   pub list : List Field
   pub are : FieldsAfter due bytes list

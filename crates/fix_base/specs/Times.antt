@@ -1,6 +1,7 @@
 -- The text of a time (FIX, "Data Types", `UTCTimestamp`): `YYYYMMDD-HH:MM:SS`, or the same with a
 -- point and more digits. A time is a count of microseconds since 1970-01-01 00:00:00 UTC.
-use Rattle.std.specs.Prelude.{◌≡◌, ℕ, ◌+◌, ◌-◌, ◌*◌, ◌/◌, ◌%◌, ◌^◌, ◌<◌, ◌≤◌, ◌⊎◌, List, [], ◌∷◌, ◌++◌, length, take, ℤ, pos, ◌+ℤ◌, ◌*ℤ◌}
+use Rattle.std.specs.Prelude.{◌≡◌, ℕ, ◌+◌, ◌-◌, ◌*◌, ◌/◌, ◌%◌, ◌^◌, ◌<◌, ◌≤◌, ◌⊎◌, List, [], ◌∷◌, ◌++◌, length}
+use Rattle.std.specs.Prelude.{take, ℤ, pos, ◌+ℤ◌, ◌*ℤ◌}
 use Rattle.std.specs.Str.Parse.{digits_value, AllDigits}
 use Rattle.jiff_core.specs.Calendar.{IsCivilDate, days_from_civil}
 pub use Rattle.fix_base.specs.declared.precision.Precision.{Precision}
@@ -21,7 +22,7 @@ pub record Moment : Type 0 where
   pub hour : ℕ
   pub minute : ℕ
   pub second : ℕ
-  pub fraction : List ℕ  -- the digits behind the point
+  pub fraction : List ℕ  -- the digits after the point
 
 -- a date that exists, and a time of day, which may have a leap second (60)
 pub record IsMoment (m : Moment) : Type 0 where
@@ -31,7 +32,7 @@ pub record IsMoment (m : Moment) : Type 0 where
   pub second : m.second ≤ 60
   pub digits : AllDigits 10 m.fraction
 
--- the point and the digits behind it
+-- the point and the digits after it
 abbrev pub fraction_text : List ℕ → List ℕ
 fraction_text [] = []
 fraction_text (d ∷ ds) = 46 ∷ d ∷ ds
@@ -50,15 +51,16 @@ micros_of fraction = digits_value 10 fraction * 10 ^ (6 - length fraction)
 abbrev pub second_of_day : Moment → ℕ
 second_of_day m = m.hour * 3600 + m.minute * 60 + m.second
 
--- the time that it says, for up to six digits behind the point
+-- the time that it says, for up to six digits after the point
 abbrev pub time_of : Moment → ℤ
-time_of m = (days_from_civil (pos m.year) m.month m.day *ℤ pos 86400 +ℤ pos (second_of_day m)) *ℤ pos 1000000 +ℤ pos (micros_of m.fraction)
+time_of m = (days_from_civil (pos m.year) m.month m.day *ℤ pos 86400 +ℤ pos (second_of_day m)) *ℤ pos 1000000 +ℤ pos
+    (micros_of m.fraction)
 
 -- a time cut to so many digits of a second
 abbrev pub cut_to : ℕ → ℕ → ℕ
 cut_to digits time = time / 10 ^ (6 - digits) * 10 ^ (6 - digits)
 
--- the text of the time with this many digits behind the point; digits beyond are cut off
+-- the text of the time with this many digits after the point; digits beyond are cut off
 pub record IsTimeTextOf (digits time : ℕ) (text : List ℕ) : Type 0 where
   pub moment : Moment
   pub is : IsMoment moment
@@ -77,17 +79,17 @@ pub record IsTimeText (time : ℕ) (text : List ℕ) : Type 0 where
   pub precision : IsPrecision digits
   pub is : IsTimeTextOf digits time text
 
--- how many digits stand behind the point
+-- how many digits stand after the point
 abbrev pub digits_of_precision : Precision → ℕ
 digits_of_precision Seconds = 0
 digits_of_precision Millis = 3
 digits_of_precision Micros = 6
 
--- how many digits may stand behind the point of a UTCTimestamp
+-- how many digits may stand after the point of a UTCTimestamp
 abbrev pub IsFractionLength : ℕ → Type 0
 IsFractionLength n = (n ≡ 0) ⊎ (n ≡ 3) ⊎ (n ≡ 6) ⊎ (n ≡ 9)
 
--- the value is a UTCTimestamp that says this time; digits behind the sixth are cut off
+-- the value is a UTCTimestamp that says this time; digits after the sixth are cut off
 pub record IsUtcTimestamp (value : List ℕ) (time : ℤ) : Type 0 where
   pub moment : Moment
   pub is : IsMoment moment

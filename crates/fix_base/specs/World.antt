@@ -58,13 +58,23 @@ abbrev pub rested : Peer → EndState → Peer
 rested a s' = record { state = s'; number = a.number; log = a.log; given = a.given }
 
 abbrev pub opened_peer : Peer → EndState → ℕ → Peer
-opened_peer a s' c = record { state = s'; number = c; log = record { number = c; opened = a.state.end; wrote = [] } ∷ a.log; given = a.given }
+opened_peer a s' c = record {
+  state = s';
+  number = c;
+  log = record { number = c; opened = a.state.end; wrote = [] } ∷ a.log;
+  given = a.given;
+}
 
 abbrev pub wrote_peer : Peer → EndState → List ℕ → Peer
 wrote_peer a s' b = record { state = s'; number = a.number; log = grown_log a.log b; given = a.given }
 
 abbrev pub gave_peer : Peer → EndState → ℕ → Peer
-gave_peer a s' n = record { state = s'; number = a.number; log = a.log; given = record { number = n; connection = a.number } ∷ a.given }
+gave_peer a s' n = record {
+  state = s';
+  number = a.number;
+  log = a.log;
+  given = record { number = n; connection = a.number } ∷ a.given;
+}
 
 -- an act that changes an end's state alone
 abbrev pub IsQuiet : Act → Type 0
@@ -86,12 +96,19 @@ IsQuiet act.Stop = Unit {0}
 -- one act of a peer, beside the other peer as it is
 pub data PeerStep (id : Identity) (a o : Peer) : Act → Peer → Type 0 where
   -- a connection has a number above those of all before
-  opens : {s' : EndState} (c : ℕ) → a.number < c → EndStep id a.state act.Opened s' → PeerStep id a o act.Opened (opened_peer a s' c)
+  opens : {s' : EndState} (c : ℕ) → a.number < c → EndStep id a.state act.Opened s'
+      → PeerStep id a o act.Opened (opened_peer a s' c)
   -- all that was read on a connection is a prefix of what the other has written there
-  reads : {s' : EndState} (b : List ℕ) (c : Connection) → a.state.connection ≡ Some c → IsPrefixOf (c.read ++ b) (wrote_at a.number o.log) → EndStep id a.state (act.Read b) s' → PeerStep id a o (act.Read b) (rested a s')
-  writes : {s' : EndState} (b : List ℕ) → EndStep id a.state (act.Wrote b) s' → PeerStep id a o (act.Wrote b) (wrote_peer a s' b)
-  hands : {s' : EndState} (n : ℕ) (marked : Bool) (body : List ℕ) → EndStep id a.state (act.Handed n marked body) s' → PeerStep id a o (act.Handed n marked body) (gave_peer a s' n)
-  loses : {s' : EndState} (n : ℕ) (marked : Bool) (body : List ℕ) → EndStep id a.state (act.HandLost n marked body) s' → PeerStep id a o (act.HandLost n marked body) (gave_peer a s' n)
+  reads : {s' : EndState} (b : List ℕ) (c : Connection) → a.state.connection ≡ Some c
+      → IsPrefixOf (c.read ++ b) (wrote_at a.number o.log) → EndStep id a.state (act.Read b) s'
+      → PeerStep id a o (act.Read b) (rested a s')
+  writes : {s' : EndState} (b : List ℕ) → EndStep id a.state (act.Wrote b) s'
+      → PeerStep id a o (act.Wrote b) (wrote_peer a s' b)
+  hands : {s' : EndState} (n : ℕ) (marked : Bool) (body : List ℕ) → EndStep id a.state (act.Handed n marked body) s'
+      → PeerStep id a o (act.Handed n marked body) (gave_peer a s' n)
+  loses : {s' : EndState} (n : ℕ) (marked : Bool) (body : List ℕ)
+      → EndStep id a.state (act.HandLost n marked body) s'
+      → PeerStep id a o (act.HandLost n marked body) (gave_peer a s' n)
   rests : {s' : EndState} (x : Act) → IsQuiet x → EndStep id a.state x s' → PeerStep id a o x (rested a s')
 
 pub data Who : Type 0 where
@@ -122,8 +139,11 @@ pub data Event : Type 0 where
 -- these events in this order, with moves between
 pub data WorldRun (id : Identity) : World → List Event → World → Type 0 where
   stop : {w : World} → WorldRun id w [] w
-  step : {w w' : World} {events : List Event} {a' : Peer} (who : Who) (x : Act) → PeerStep (identity_of who id) (peer_of who w) (other_of who w) x a' → WorldRun id (with_peer who w a') events w' → WorldRun id w (Does who x ∷ events) w'
-  move : {w w' : World} {events : List Event} {s' : EndState} (who : Who) → Move (peer_of who w).state s' → WorldRun id (with_peer who w (rested (peer_of who w) s')) events w' → WorldRun id w events w'
+  step : {w w' : World} {events : List Event} {a' : Peer} (who : Who) (x : Act)
+      → PeerStep (identity_of who id) (peer_of who w) (other_of who w) x a'
+      → WorldRun id (with_peer who w a') events w' → WorldRun id w (Does who x ∷ events) w'
+  move : {w w' : World} {events : List Event} {s' : EndState} (who : Who) → Move (peer_of who w).state s'
+      → WorldRun id (with_peer who w (rested (peer_of who w) s')) events w' → WorldRun id w events w'
 
 -- the record is no reset, and its entries may be sent again
 abbrev pub IsPlainRecord : Record → Type 0
@@ -167,7 +187,9 @@ pub data GivesBy (who : Who) (n : ℕ) (marked : Bool) : Event → Type 0 where
 
 -- a message that an application was given before comes marked as PossDup (43 = Y)
 pub record MarksRepeats (events : List Event) : Type 0 where
-  pub each : (before after : List Event) (e earlier : Event) (who : Who) (n : ℕ) (marked was_marked : Bool) → events ≡ before ++ e ∷ after → Among earlier before → GivesBy who n was_marked earlier → GivesBy who n marked e → marked ≡ true
+  pub each : (before after : List Event) (e earlier : Event) (who : Who) (n : ℕ) (marked was_marked : Bool) → events
+      ≡ before ++ e ∷ after → Among earlier before → GivesBy who n was_marked earlier → GivesBy who n marked e
+      → marked ≡ true
 
 -- each end agrees with the other, and no message comes twice without its mark
 pub record WorldAgrees (events : List Event) (w : World) : Type 0 where
@@ -201,7 +223,7 @@ pub record ComesAgain (id : Identity) : Type 0 where
   pub handled : world.first.state.handled ≡ handed_over false body ∷ handed_over true body ∷ []
   pub expected : world.first.state.end.stored ≡ 2
 
--- a message that one end withholds is passed over by the other, which hands over the one behind it and
+-- a message that one end withholds is passed over by the other, which hands over the one after it and
 -- expects the next number
 pub record PassesWithheld (id : Identity) : Type 0 where
   pub events : List Event

@@ -22,21 +22,25 @@ pub fn records_fold_in_order()
 /// expected one, or up to the greatest that was handled where that is more, with its body. Each of
 /// these that was not handled is withheld.
 pub fn agreement_in_plain_words()
-    ensures { (expected : ℕ) (handled : List Handling) (f : End) → Agrees expected handled f ↔ AgreesInPlainWords expected handled f }
+    ensures { (expected : ℕ) (handled : List Handling) (f : End) → Agrees expected handled f
+        ↔ AgreesInPlainWords expected handled f }
 {}
 
 /// Where two ends agree, what was handed over or rejected, repeats removed, is a prefix of what
 /// the other end stored, with equal bodies, less only messages that it withholds: nothing else was
 /// lost, and nothing made up or put out of order.
 pub fn what_was_handled_is_a_prefix()
-    ensures { (expected : ℕ) (handled : List Handling) (f : End) → Agrees expected handled f → IsPrefixLess f.withheld (fresh handled) (app_entries f.out) }
+    ensures { (expected : ℕ) (handled : List Handling) (f : End) → Agrees expected handled f
+        → IsPrefixLess f.withheld (fresh handled) (app_entries f.out) }
 {}
 
 /// Where two ends agree, each application message that the other end stored under a number below
 /// the expected one was handed over or rejected, with the body that was stored, or is withheld: none
 /// was passed over.
 pub fn no_message_is_passed_over()
-    ensures { (expected : ℕ) (handled : List Handling) (f : End) (n : ℕ) (body : List ℕ) → Agrees expected handled f → IsAppAt f.out n body → n < expected → Among (record { number = n; body = body }) (fresh handled) ⊎ Among n f.withheld }
+    ensures { (expected : ℕ) (handled : List Handling) (f : End) (n : ℕ) (body : List ℕ) → Agrees expected handled f
+        → IsAppAt f.out n body → n < expected → Among (record { number = n; body = body }) (fresh handled)
+        ⊎ Among n f.withheld }
 {}
 
 /// Where two ends agree, a message that came for its first time came with a number above all that had

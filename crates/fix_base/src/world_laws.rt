@@ -12,17 +12,22 @@ ghost use Rattle.fix_base.specs.EndStep.{Connection, EndState, EndStep, EndRun};
 ghost use Rattle.fix_base.specs.Agrees.{Agrees};
 ghost use Rattle.fix_base.specs.Reader.{bytes_read, AreOfOneConnection, ReaderKeepsUp};
 ghost use Rattle.fix_base.specs.Resets.{EpochPeers, ResetEvent, ResetsRun, ResetsAgree, SharesReset, new_epoch_peers};
-ghost use Rattle.fix_base.specs.World.{Event, World, WorldRun, EachPlain, WorldAgrees, Arrives, ComesAgain, PassesWithheld, ComeInOrder, new_world};
+ghost use Rattle.fix_base.specs.World.{Event, World, WorldRun, EachPlain, WorldAgrees, Arrives, ComesAgain};
+ghost use Rattle.fix_base.specs.World.{PassesWithheld, ComeInOrder, new_world};
 
 /// What a writer has written stays lawful: nothing at the opening of a connection, with more
 /// entries stored and more of them withheld, with one more original, gap fill, or repeat of a
 /// message that isn't withheld, and where a write is cut at any byte.
 pub fn what_a_writer_keeps_true()
     ensures start { (id : Identity) (e : End) → WroteWhole id e e (length e.out) [] }
-    ensures grown { (id : Identity) (old new more : End) (last : ℕ) (w : List ℕ) → GrowsTo new more → WroteWhole id old new last w → WroteWhole id old more last w }
-    ensures more { (id : Identity) (old new : End) (last to : ℕ) (w text : List ℕ) → WritesNext id new last text to → WroteWhole id old new last w → WroteWhole id old new to (w ++ text) }
-    ensures wrote { (id : Identity) (old new : End) (last : ℕ) (w : List ℕ) → WroteWhole id old new last w → Wrote id old new w }
-    ensures cut { (id : Identity) (old new : End) (w bytes : List ℕ) → IsPrefixOf bytes w → Wrote id old new w → Wrote id old new bytes }
+    ensures grown { (id : Identity) (old new more : End) (last : ℕ) (w : List ℕ) → GrowsTo new more
+        → WroteWhole id old new last w → WroteWhole id old more last w }
+    ensures more { (id : Identity) (old new : End) (last to : ℕ) (w text : List ℕ) → WritesNext id new last text to
+        → WroteWhole id old new last w → WroteWhole id old new to (w ++ text) }
+    ensures wrote { (id : Identity) (old new : End) (last : ℕ) (w : List ℕ) → WroteWhole id old new last w
+        → Wrote id old new w }
+    ensures cut { (id : Identity) (old new : End) (w bytes : List ℕ) → IsPrefixOf bytes w → Wrote id old new w
+        → Wrote id old new bytes }
 {}
 
 /// Over one connection, an end that agrees with its counterparty at the opening goes on agreeing
@@ -55,13 +60,15 @@ pub fn a_reader_keeps_up_after_a_reset()
 /// application was given before comes marked (PossDupFlag 43 = Y). This is said of ends whose
 /// stores are not reset, and that keep each application message to be sent again.
 pub fn world_agrees()
-    ensures { (id : Identity) (w : World) (events : List Event) → WorldRun id new_world events w → EachPlain events → WorldAgrees events w }
+    ensures { (id : Identity) (w : World) (events : List Event) → WorldRun id new_world events w → EachPlain events
+        → WorldAgrees events w }
 {}
 
 /// Between two such ends a message that comes for its first time comes with a number above all that
 /// came before: one that was withheld never comes after a later one.
 pub fn no_withheld_message_comes_late()
-    ensures { (id : Identity) (w : World) (events : List Event) → WorldRun id new_world events w → EachPlain events → ComeInOrder w }
+    ensures { (id : Identity) (w : World) (events : List Event) → WorldRun id new_world events w → EachPlain events
+        → ComeInOrder w }
 {}
 
 /// A message does arrive: between any two CompIDs there is a run of two new ends in which one
@@ -94,7 +101,8 @@ pub fn a_message_is_withheld()
 /// times that an application was given a message since one reset, the later one is marked (PossDupFlag 43 =
 /// Y). This is said of ends that keep no other reset, and keep each application message to be sent again.
 pub fn resets_are_shared()
-    ensures { (id : Identity) (w : EpochPeers) (events : List ResetEvent) → ResetsRun id new_epoch_peers events w → ResetsAgree w }
+    ensures { (id : Identity) (w : EpochPeers) (events : List ResetEvent) → ResetsRun id new_epoch_peers events w
+        → ResetsAgree w }
 {}
 
 /// A reset may be shared: between any two CompIDs there is a run in which the initiator asks for a reset,

@@ -12,7 +12,7 @@ use Rattle.fix_dict.specs.Faults.{and_then, inside, need, IsMemory}
 use Rattle.fix_dict.specs.Fields.{FieldTable, some_text, texts_in, listed_values, values_in, field_tag, kind_at, field_in, fields_in}
 use Rattle.fix_dict.specs.Members.{TagSet, new_tag, own_tag, member_shape, judged_member, judged_items, inside_group}
 use Rattle.fix_dict.specs.Messages.{MessageTable, most_groups, type_in, new_type, message_in, messages_in}
-use Rattle.fix_dict.specs.Book.{Book, version, book_in, IsJson}
+use Rattle.fix_dict.specs.Dictionary.{DictionarySeen, version, dictionary_in, IsJson}
 
 abbrev is_json : DictFault → Bool
 is_json NotJson = false
@@ -110,9 +110,9 @@ items_fit inner all fields name leads index seen [] = refl
 items_fit inner all fields name leads index seen (d ∷ ds) =
     then_fits (inside name index (judged_member inner fields (leads && (index == 0)) seen d)) _ (inside_fits name index (judged_member inner fields (leads && (index == 0)) seen d) (member_fits inner all fields (leads && (index == 0)) seen d)) (λ behind. items_fit inner all fields name leads (index + 1) behind ds)
 
-group_fits : (room : ℕ) (fields : FieldTable) → AllFit (inside_group room fields)
+group_fits : (depth_left : ℕ) (fields : FieldTable) → AllFit (inside_group depth_left fields)
 group_fits zero fields seen ds = refl
-group_fits (suc room) fields seen ds = items_fit (inside_group room fields) (group_fits room fields) fields (codes "members") true 0 seen ds
+group_fits (suc depth_left) fields seen ds = items_fit (inside_group depth_left fields) (group_fits depth_left fields) fields (codes "members") true 0 seen ds
 
 -- ---- messages
 
@@ -133,7 +133,7 @@ messages_fit fields index before [] = refl
 messages_fit fields index before (d ∷ ds) =
     then_fits (inside (codes "messages") index (message_in fields before d)) _ (inside_fits (codes "messages") index (message_in fields before d) (message_fits fields before d)) (λ behind. messages_fit fields (index + 1) behind ds)
 
-book_fits : (d : Data) → fits (book_in d) ≡ true
+book_fits : (d : Data) → fits (dictionary_in d) ≡ true
 book_fits d =
     then_fits (need (as_object d) []) _ (need_fits (as_object d) [])
     (λ _. then_fits (need (option_and_then version (text_at (codes "begin") d)) (codes "begin")) _ (need_fits (option_and_then version (text_at (codes "begin") d)) (codes "begin"))
@@ -146,9 +146,9 @@ book_fits d =
     (λ _. then_fits (need (list_at (codes "messages") d) (codes "messages")) _ (need_fits (list_at (codes "messages") d) (codes "messages"))
     (λ types. then_fits (messages_in fields 0 table.empty types) _ (messages_fit fields 0 table.empty types) (λ _. refl))))))))))
 
-pub never_no_json : (d : Data) → book_in d ≡ Err NotJson → ⊥
+pub never_no_json : (d : Data) → dictionary_in d ≡ Err NotJson → ⊥
 never_no_json d e = true≢false (sym (book_fits d) ∙ ap fits e)
 
-pub refused : (answer : Result Book DictFault) (bytes : List ℕ) → IfErr answer (λ e. (IsMemory e → ⊥) → (d : Data) → IsJson bytes d → book_in d ≡ Err e) → IfErr answer (λ e. e ≡ NotJson → (d : Data) → IsJson bytes d → ⊥)
-refused (Ok book) bytes h = h
+pub refused : (answer : Result DictionarySeen DictFault) (bytes : List ℕ) → IfErr answer (λ e. (IsMemory e → ⊥) → (d : Data) → IsJson bytes d → dictionary_in d ≡ Err e) → IfErr answer (λ e. e ≡ NotJson → (d : Data) → IsJson bytes d → ⊥)
+refused (Ok dictionary) bytes h = h
 refused (Err e) bytes h = λ is d json. never_no_json d (h (λ m. true≢false (sym (ap is_json (sym is ∙ m)))) d json ∙ ap Err is)

@@ -3,6 +3,6 @@ use Rattle.std.proofs.Common.{◌≡◌, ℕ, zero, suc, ◌-◌, List, refl, ap
 use Rattle.serde_json.specs.Data.{Data}
 use Rattle.fix_dict.specs.Members.{members_in, inner_members}
 
-pub members_below : (room : ℕ) (ds : List Data) → (room ≡ 0 → ⊥) → members_in (room - 1) ds ≡ inner_members room ds
+pub members_below : (depth_left : ℕ) (ds : List Data) → (depth_left ≡ 0 → ⊥) → members_in (depth_left - 1) ds ≡ inner_members depth_left ds
 members_below zero ds some = absurd (some refl)
-members_below (suc room) ds some = let e : suc room - 1 ≡ room = omega arith in ap (λ n. members_in n ds) e
+members_below (suc depth_left) ds some = let e : suc depth_left - 1 ≡ depth_left = omega arith in ap (λ n. members_in n ds) e

@@ -19,7 +19,7 @@ use Rattle.fix_dict.specs.Parts.{list_at, items_at, text_at, flag_at, tag_at, ha
 use Rattle.fix_dict.specs.Faults.{and_then, inside, need}
 use Rattle.fix_dict.specs.Fields.{FieldTable, fields_in}
 use Rattle.fix_dict.specs.Messages.{MessageTable, most_groups, type_in, new_type, message_in, messages_in}
-use Rattle.fix_dict.specs.Book.{Book, version, book_in, AreTold, IsTold, Says}
+use Rattle.fix_dict.specs.Dictionary.{DictionarySeen, version, dictionary_in, AreTold, IsTold, Says}
 use Rattle.fix_dict.specs.Members.{TagSet, are_some, tag_or, with_members, member_shape, own_tag, judged_member, judged_items, inside_group, member_tag, is_required, member_in, inner_members, members_in}
 
 -- ---- what an Ok came from
@@ -188,16 +188,16 @@ items_led judge inner fields name seen after (d ∷ ds) some h =
     let s = shaped (is_some (as_object d)) (is_some (flag_at (codes "required") d)) (has (codes "tag") d) (has (codes "group") d) true (tag_at (codes "tag") d) (tag_at (codes "group") d) (items_at (codes "members") d) m.value o.0 in
     led_first (has (codes "group") d) (member_tag d) (is_required d) _ (map (member_in inner) ds) (s.field refl)
 
-groups_come : (room : ℕ) (fields : FieldTable) → GroupsCome (inside_group room fields) (inner_members room)
+groups_come : (depth_left : ℕ) (fields : FieldTable) → GroupsCome (inside_group depth_left fields) (inner_members depth_left)
 groups_come zero fields seen after ds some h = absurd (no _ after h)
-groups_come (suc room) fields seen after ds some h = (
-  items_come (inside_group room fields) (inner_members room) (groups_come room fields) fields (codes "members") true 0 seen after ds h,
-  items_led (inside_group room fields) (inner_members room) fields (codes "members") seen after ds some h,
+groups_come (suc depth_left) fields seen after ds some h = (
+  items_come (inside_group depth_left fields) (inner_members depth_left) (groups_come depth_left fields) fields (codes "members") true 0 seen after ds h,
+  items_led (inside_group depth_left fields) (inner_members depth_left) fields (codes "members") seen after ds some h,
 )
 
-pub no_twice : (room : ℕ) (fields : FieldTable) (name : List ℕ) (leads : Bool) (seen after : TagSet) (ds : List Data)
-    → judged_items (inside_group room fields) fields name leads 0 seen ds ≡ Ok after → HasNoTwice (shapes_of (members_in room ds))
-no_twice room fields name leads seen after ds h = (items_come (inside_group room fields) (inner_members room) (groups_come room fields) fields name leads 0 seen after ds h).told
+pub no_twice : (depth_left : ℕ) (fields : FieldTable) (name : List ℕ) (leads : Bool) (seen after : TagSet) (ds : List Data)
+    → judged_items (inside_group depth_left fields) fields name leads 0 seen ds ≡ Ok after → HasNoTwice (shapes_of (members_in depth_left ds))
+no_twice depth_left fields name leads seen after ds h = (items_come (inside_group depth_left fields) (inner_members depth_left) (groups_come depth_left fields) fields name leads 0 seen after ds h).told
 
 -- ---- messages, and the whole
 
@@ -234,28 +234,28 @@ messages_told fields index before after (d ∷ ds) told h =
 none_told : AreTold table.empty
 none_told q x h = absurd (true≢false (sym (ap is_some (sym (table.get-empty (slice_cmp nat_cmp) q) ∙ h))))
 
-abbrev book_or : Book → Result Book DictFault → Book
+abbrev book_or : DictionarySeen → Result DictionarySeen DictFault → DictionarySeen
 book_or other (Ok b) = b
 book_or other (Err e) = other
 
-pub book_told : (d : Data) (book : Book) → book_in d ≡ Ok book → IsTold book
-book_told d book h =
-    let a = came (need (as_object d) []) _ book h in
-    let b = came (need (option_and_then version (text_at (codes "begin") d)) (codes "begin")) _ book a.next in
-    let c = came (need (list_at (codes "fields") d) (codes "fields")) _ book b.next in
-    let e = came (fields_in 0 table.empty c.value) _ book c.next in
-    let f = came (need (list_at (codes "header") d) (codes "header")) _ book e.next in
-    let g = came (judged_items (inside_group most_groups e.value) e.value (codes "header") false 0 set.empty f.value) _ book f.next in
-    let i = came (need (list_at (codes "trailer") d) (codes "trailer")) _ book g.next in
-    let j = came (judged_items (inside_group most_groups e.value) e.value (codes "trailer") false 0 g.value i.value) _ book i.next in
-    let k = came (need (list_at (codes "messages") d) (codes "messages")) _ book j.next in
-    let l = came (messages_in e.value 0 table.empty k.value) _ book k.next in
-    subst IsTold (ap (book_or book) l.next) (record {
+pub book_told : (d : Data) (dictionary : DictionarySeen) → dictionary_in d ≡ Ok dictionary → IsTold dictionary
+book_told d dictionary h =
+    let a = came (need (as_object d) []) _ dictionary h in
+    let b = came (need (option_and_then version (text_at (codes "begin") d)) (codes "begin")) _ dictionary a.next in
+    let c = came (need (list_at (codes "fields") d) (codes "fields")) _ dictionary b.next in
+    let e = came (fields_in 0 table.empty c.value) _ dictionary c.next in
+    let f = came (need (list_at (codes "header") d) (codes "header")) _ dictionary e.next in
+    let g = came (judged_items (inside_group most_groups e.value) e.value (codes "header") false 0 set.empty f.value) _ dictionary f.next in
+    let i = came (need (list_at (codes "trailer") d) (codes "trailer")) _ dictionary g.next in
+    let j = came (judged_items (inside_group most_groups e.value) e.value (codes "trailer") false 0 g.value i.value) _ dictionary i.next in
+    let k = came (need (list_at (codes "messages") d) (codes "messages")) _ dictionary j.next in
+    let l = came (messages_in e.value 0 table.empty k.value) _ dictionary k.next in
+    subst IsTold (ap (book_or dictionary) l.next) (record {
       header = no_twice most_groups e.value (codes "header") false set.empty g.value f.value g.first;
       trailer = no_twice most_groups e.value (codes "trailer") false g.value j.value i.value j.first;
       messages = messages_told e.value 0 table.empty l.value k.value none_told l.first;
     })
 
-pub read_told : (answer : Result Book DictFault) (bytes : List ℕ) → IfOk answer (λ book. Says bytes (Ok book)) → IfOk answer IsTold
-read_told (Ok book) bytes h = book_told h.0 book h.2
+pub read_told : (answer : Result DictionarySeen DictFault) (bytes : List ℕ) → IfOk answer (λ dictionary. Says bytes (Ok dictionary)) → IfOk answer IsTold
+read_told (Ok dictionary) bytes h = book_told h.0 dictionary h.2
 read_told (Err e) bytes h = h

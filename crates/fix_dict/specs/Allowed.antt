@@ -5,7 +5,7 @@ use Rattle.std.specs.FinMap as table
 use Rattle.fix_fields.specs.declared.kind.ValueKind.{ValueKind}
 use Rattle.fix_fields.specs.declared.kind.ValueKind.TheVariants.{MultipleValueString}
 use Rattle.fix_dict.specs.declared.rule.FieldRule.{FieldRule}
-use Rattle.fix_dict.specs.Book.{Book}
+use Rattle.fix_dict.specs.Dictionary.{DictionarySeen}
 
 abbrev pub is_listed : List (List ℕ) → List ℕ → Bool
 is_listed values value = list_any (λ v. bytes_eq v value) values
@@ -32,5 +32,5 @@ allowed None value = true
 allowed (Some rule) value = is_allowed_by rule.kind rule.values value
 
 -- every value is allowed where no values are listed for the tag
-abbrev pub allows : Book → ℕ → List ℕ → Bool
-allows book tag value = allowed (table.get book.fields tag) value
+abbrev pub allows : DictionarySeen → ℕ → List ℕ → Bool
+allows dictionary tag value = allowed (table.get dictionary.fields tag) value

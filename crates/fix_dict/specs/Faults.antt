@@ -2,11 +2,12 @@
 use Rattle.std.specs.Prelude.{◌≡◌, ℕ, List, [], ◌∷◌, ◌++◌, Option, Some, None, Result, Ok, Err}
 use Rattle.std.specs.Fmt.{decimal}
 use Rattle.fix_dict.specs.declared.fault.DictFault.{DictFault}
-use Rattle.fix_dict.specs.declared.fault.DictFault.TheVariants.{NotJson, BadShape, DuplicateTag, UnknownTag, DuplicateType, DepthPassed, OutOfMemory}
+use Rattle.fix_dict.specs.declared.fault.DictFault.TheVariants.{NotJson, BadShape, DuplicateTag, UnknownTag}
+use Rattle.fix_dict.specs.declared.fault.DictFault.TheVariants.{DuplicateType, DepthPassed, OutOfMemory}
 
 -- ---- paths
 
--- what stands behind an item's index
+-- what stands after an item's index
 abbrev pub behind_index : List ℕ → List ℕ
 behind_index [] = []
 behind_index (b ∷ path) = 46 ∷ b ∷ path
@@ -27,7 +28,7 @@ within name index OutOfMemory = OutOfMemory
 
 -- ---- one after another
 
--- goes on behind what is right, so the first that is wrong is the answer
+-- goes on after what is right, so the first that is wrong is the answer
 abbrev pub and_then : {A B : Type 0} → Result A DictFault → (A → Result B DictFault) → Result B DictFault
 and_then (Ok a) f = f a
 and_then (Err fault) f = Err fault
@@ -46,6 +47,6 @@ need None path = Err (BadShape path)
 abbrev pub IsMemory : DictFault → Type 0
 IsMemory fault = fault ≡ OutOfMemory
 
--- the fault of this answer, unless memory was refused
+-- the fault of this answer, unless it is out of memory
 abbrev pub Tells : {A : Type 0} → Result A DictFault → DictFault → Type 0
 Tells answer fault = (IsMemory fault → ⊥) → answer ≡ Err fault

@@ -1,5 +1,6 @@
 -- The fields of a dictionary: each tag's kind and the values that it lists.
-use Rattle.std.specs.Prelude.{ℕ, ◌+◌, if◌then◌else◌, List, [], ◌∷◌, ◌++◌, codes, Option, Some, None, option_and_then, Result, Ok, Err}
+use Rattle.std.specs.Prelude.{ℕ, ◌+◌, if◌then◌else◌, List, [], ◌∷◌, ◌++◌, codes, Option, Some, None}
+use Rattle.std.specs.Prelude.{option_and_then, Result, Ok, Err}
 use Rattle.std.specs.Ordering.{nat_cmp}
 use Rattle.std.specs.FinMap as table
 use Rattle.serde_json.specs.Data.{Data}
@@ -25,10 +26,11 @@ some_text None = Err (BadShape [])
 some_text (Some []) = Err (BadShape [])
 some_text (Some (b ∷ bs)) = Ok (b ∷ bs)
 
--- the texts of an array, behind those before
+-- the texts of an array, after those before
 abbrev pub texts_in : ℕ → List (List ℕ) → List Data → Result (List (List ℕ)) DictFault
 texts_in index before [] = Ok before
-texts_in index before (d ∷ ds) = and_then (inside (codes "values") index (some_text (as_str d))) (λ text. texts_in (index + 1) (before ++ text ∷ []) ds)
+texts_in index before (d ∷ ds) = and_then (inside (codes "values") index (some_text (as_str d)))
+    (λ text. texts_in (index + 1) (before ++ text ∷ []) ds)
 
 abbrev pub listed_values : Option (List Data) → Result (List (List ℕ)) DictFault
 listed_values None = Err (BadShape (codes "values"))
@@ -43,7 +45,7 @@ abbrev pub field_tag : FieldTable → Option ℕ → Result ℕ DictFault
 field_tag before None = Err (BadShape (codes "tag"))
 field_tag before (Some tag) = if table.contains_key before tag then Err (DuplicateTag tag) else Ok tag
 
--- the rules behind a field's object, by those before
+-- the rules after a field's object, by those before
 abbrev pub field_in : FieldTable → Data → Result FieldTable DictFault
 field_in before d =
     and_then (need (as_object d) []) (λ _.
@@ -55,4 +57,5 @@ field_in before d =
 
 abbrev pub fields_in : ℕ → FieldTable → List Data → Result FieldTable DictFault
 fields_in index before [] = Ok before
-fields_in index before (d ∷ ds) = and_then (inside (codes "fields") index (field_in before d)) (λ behind. fields_in (index + 1) behind ds)
+fields_in index before (d ∷ ds) = and_then (inside (codes "fields") index (field_in before d))
+    (λ behind. fields_in (index + 1) behind ds)

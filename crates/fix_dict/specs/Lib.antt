@@ -6,5 +6,5 @@ pub mod Fields
 pub mod Members
 pub mod Keyed
 pub mod Messages
-pub mod Book
+pub mod Dictionary
 pub mod Allowed

@@ -1,5 +1,6 @@
 -- The messages of a dictionary: each type's layout.
-use Rattle.std.specs.Prelude.{ℕ, ◌+◌, ◌&&◌, Bool, false, not, nat_le, if◌then◌else◌, List, [], ◌∷◌, length, codes, Option, Some, None, Result, Ok, Err}
+use Rattle.std.specs.Prelude.{ℕ, ◌+◌, ◌&&◌, Bool, false, not, nat_le, if◌then◌else◌, List, [], ◌∷◌, length, codes}
+use Rattle.std.specs.Prelude.{Option, Some, None, Result, Ok, Err}
 use Rattle.std.specs.Ordering.{nat_cmp}
 use Rattle.std.specs.Cmp.Lexicographic.{slice_cmp}
 use Rattle.std.specs.FinMap as table
@@ -36,7 +37,7 @@ abbrev pub new_type : MessageTable → Option (List ℕ) → Result (List ℕ) D
 new_type before None = Err (BadShape (codes "type"))
 new_type before (Some type) = if table.contains_key before type then Err (DuplicateType type) else Ok type
 
--- the layouts behind a message's object, by those before
+-- the layouts after a message's object, by those before
 abbrev pub message_in : FieldTable → MessageTable → Data → Result MessageTable DictFault
 message_in fields before d =
     and_then (need (as_object d) []) (λ _.
@@ -48,4 +49,5 @@ message_in fields before d =
 
 abbrev pub messages_in : FieldTable → ℕ → MessageTable → List Data → Result MessageTable DictFault
 messages_in fields index before [] = Ok before
-messages_in fields index before (d ∷ ds) = and_then (inside (codes "messages") index (message_in fields before d)) (λ behind. messages_in fields (index + 1) behind ds)
+messages_in fields index before (d ∷ ds) = and_then (inside (codes "messages") index (message_in fields before d))
+    (λ behind. messages_in fields (index + 1) behind ds)

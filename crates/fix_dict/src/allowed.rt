@@ -1,3 +1,4 @@
+//! Whether a value is among those that a field's rule lists. `dictionary` calls this for `Dictionary::allows`.
 ghost use Rattle.std.specs.Prelude.{◌≡◌, ◌≤◌, length, take, drop};
 ghost use Rattle.std.specs.List.{list_all};
 ghost use Rattle.fix_dict.specs.Allowed.{is_listed, parts_of, allowed_parts, is_allowed_by};
@@ -5,6 +6,21 @@ ghost use Rattle.fix_dict.specs.Allowed.{is_listed, parts_of, allowed_parts, is_
 use crate::rule::FieldRule;
 use fix_base::Bytes;
 use fix_fields::ValueKind;
+
+/// Whether the rule lists no values, or this one: each part between spaces where the kind is
+/// `MultipleValueString`.
+pub fn is_allowed_by(rule: &FieldRule, value: &[u8]) -> bool
+    ensures { result ≡ is_allowed_by rule.now.kind rule.now.values value.now }
+{
+    let values = rule.values.as_slice();
+    if values.is_empty() {
+        return true;
+    }
+    match rule.kind {
+        ValueKind::MultipleValueString => are_listed(values, value),
+        _ => is_listed(values, value),
+    }
+}
 
 fn is_listed(values: &[Bytes], value: &[u8]) -> bool
     ensures { result ≡ is_listed values.now value.now }
@@ -32,19 +48,4 @@ fn are_listed(values: &[Bytes], value: &[u8]) -> bool
         start = i + 1;
     }
     is_listed(values, &value[start..])
-}
-
-/// Whether the rule lists no values, or this one: each part between spaces where the kind is
-/// `MultipleValueString`.
-pub fn is_allowed_by(rule: &FieldRule, value: &[u8]) -> bool
-    ensures { result ≡ is_allowed_by rule.now.kind rule.now.values value.now }
-{
-    let values = rule.values.as_slice();
-    if values.is_empty() {
-        return true;
-    }
-    match rule.kind {
-        ValueKind::MultipleValueString => are_listed(values, value),
-        _ => is_listed(values, value),
-    }
 }

@@ -1,3 +1,5 @@
+//! Makes the members of a layout from a JSON array. `dictionary` and `message` call this after `members` has
+//! judged the array.
 ghost use Rattle.std.specs.Prelude.{◌≡◌, map, IfOk};
 ghost use Rattle.serde_json.specs.View.{view};
 ghost use Rattle.fix_dict.specs.Members.{member_tag, is_required, member_in, inner_members, members_in};
@@ -38,25 +40,29 @@ fn is_required(item: &Value) -> bool
 }
 
 #[cycle(build)]
-fn inner_members(alloc: Global, room: usize, items: &[Value]) -> Result<Vec<Member>, AllocError>
-    ensures { IfOk result (λ members. members.items ≡ inner_members room (map view items.now)) }
+fn inner_members(
+    alloc: Global,
+    depth_left: usize,
+    items: &[Value],
+) -> Result<Vec<Member>, AllocError>
+    ensures { IfOk result (λ members. members.items ≡ inner_members depth_left (map view items.now)) }
 {
-    if room == 0 {
+    if depth_left == 0 {
         return Ok(Vec::new(alloc));
     }
-    members_of(alloc, room - 1, items)
+    members_of(alloc, depth_left - 1, items)
 }
 
 #[cycle(build)]
-fn member_of(alloc: Global, room: usize, item: &Value) -> Result<Member, AllocError>
-    ensures { IfOk result (λ member. member ≡ member_in (inner_members room) (view item.now)) }
+fn member_of(alloc: Global, depth_left: usize, item: &Value) -> Result<Member, AllocError>
+    ensures { IfOk result (λ member. member ≡ member_in (inner_members depth_left) (view item.now)) }
 {
     let tag = member_tag(item);
     let required = is_required(item);
     if !has(item, "group") {
         return Ok(Member::Plain { tag, required });
     }
-    let members = inner_members(alloc, room, items_at(item, "members"))?;
+    let members = inner_members(alloc, depth_left, items_at(item, "members"))?;
     Ok(Member::Group {
         count: tag,
         required,
@@ -64,14 +70,18 @@ fn member_of(alloc: Global, room: usize, item: &Value) -> Result<Member, AllocEr
     })
 }
 
-/// The members that an array says, with those of at most `room` groups one in another.
+/// The members that an array says, with those of at most `depth_left` groups one in another.
 #[cycle(build)]
-pub fn members_of(alloc: Global, room: usize, items: &[Value]) -> Result<Vec<Member>, AllocError>
-    ensures { IfOk result (λ members. members.items ≡ members_in room (map view items.now)) }
+pub fn members_of(
+    alloc: Global,
+    depth_left: usize,
+    items: &[Value],
+) -> Result<Vec<Member>, AllocError>
+    ensures { IfOk result (λ members. members.items ≡ members_in depth_left (map view items.now)) }
 {
     let mut members = Vec::new(alloc);
     for item in items {
-        members.push(member_of(alloc, room, item)?)?;
+        members.push(member_of(alloc, depth_left, item)?)?;
     }
     Ok(members)
 }

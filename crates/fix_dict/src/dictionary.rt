@@ -1,9 +1,11 @@
+//! The calls of this crate, for who reads a dictionary and asks it. Reading runs the stages `field`,
+//! `members`, `message` and `build`.
 ghost use Rattle.std.specs.Prelude.{◌≡◌, IfOk, IfErr, Ok, Err, option_and_then, option_copied, codes, true, false};
 ghost use Rattle.serde_json.specs.Data.{Data};
 ghost use Rattle.serde_json.specs.View.{view};
 ghost use Rattle.fix_dict.specs.Parts.{text_at};
 ghost use Rattle.fix_dict.specs.Faults.{Tells, IsMemory};
-ghost use Rattle.fix_dict.specs.Book.{book_in, version, kind_of, layout_of, IsJson, Says, IsTold};
+ghost use Rattle.fix_dict.specs.Dictionary.{dictionary_in, version, kind_of, layout_of, IsJson, Says, IsTold};
 ghost use Rattle.fix_dict.specs.Allowed.{allows};
 ghost use Rattle.fix_dict.specs.declared.fault.DictFault.TheVariants.{NotJson};
 
@@ -25,7 +27,7 @@ use std::alloc::Global;
 use std::marker::Model;
 
 /// What a counterparty's rules of engagement say: the kinds and allowed values of fields, and the
-/// layouts of messages, of the header and of the trailer. Contracts see it as a `Book`.
+/// layouts of messages, of the header and of the trailer. Contracts see it as a `DictionarySeen`.
 #[derive(Drop)]
 pub struct Dictionary {
     begin: Begin,
@@ -36,13 +38,14 @@ pub struct Dictionary {
 }
 
 impl Model for Dictionary {
-    ghost use Rattle.fix_dict.specs.Book.{Book, book_code};
+    ghost use Rattle.fix_dict.specs.Dictionary.{DictionarySeen, dictionary_code};
 
-    ghost Value = { Book };
+    ghost Value = { DictionarySeen };
 
-    ghost coded = { book_code };
+    ghost coded = { dictionary_code };
 
-    ghost view = { λ d. record { begin = d.begin; fields = d.fields; header = d.header; trailer = d.trailer; messages = d.messages } };
+    ghost view = { λ d.
+        record { begin = d.begin; fields = d.fields; header = d.header; trailer = d.trailer; messages = d.messages } };
 }
 
 impl Dictionary {
@@ -112,7 +115,7 @@ impl Dictionary {
 fn read_json(alloc: Global, json: &[u8]) -> Result<Dictionary, DictFault>
     ensures ok { IfOk result (λ dictionary. Says json.now (Ok dictionary)) }
     ensures err { IfErr result (λ e. (IsMemory e → ⊥) → (e ≡ NotJson → ⊥) → Says json.now (Err e)) }
-    ensures not_json { IfErr result (λ e. (IsMemory e → ⊥) → (d : Data) → IsJson json.now d → book_in d ≡ Err e) }
+    ensures not_json { IfErr result (λ e. (IsMemory e → ⊥) → (d : Data) → IsJson json.now d → dictionary_in d ≡ Err e) }
 {
     match Value::from_slice(alloc, json) {
         Ok(value) => dictionary_of(alloc, &value),
@@ -154,8 +157,8 @@ fn version(text: &[u8]) -> Option<Begin>
 }
 
 fn dictionary_of(alloc: Global, value: &Value) -> Result<Dictionary, DictFault>
-    ensures ok { IfOk result (λ dictionary. book_in (view value.now) ≡ Ok dictionary) }
-    ensures err { IfErr result (Tells (book_in (view value.now))) }
+    ensures ok { IfOk result (λ dictionary. dictionary_in (view value.now) ≡ Ok dictionary) }
+    ensures err { IfErr result (Tells (dictionary_in (view value.now))) }
 {
     if !value.is_object() {
         return Err(bad_shape(alloc, ""));

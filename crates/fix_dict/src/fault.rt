@@ -1,3 +1,4 @@
+//! What `Dictionary::read` answers where it fails, and how a failed allocation becomes that.
 use fix_base::{Bytes, OutOfMemory, Tag};
 use std::alloc::{AllocError, AllocFailed};
 
@@ -7,7 +8,7 @@ pub enum DictFault {
     /// The bytes are no JSON.
     NotJson,
     /// A member is missing or isn't of its form. The path is the names of the members joined by
-    /// points, each item's index in brackets behind its array, as in `messages[0].members[2].tag`.
+    /// points, each item's index in brackets after its array, as in `messages[0].members[2].tag`.
     BadShape(Bytes),
     /// Two fields have the tag; or it stands twice among the members of one message, groups
     /// included, or twice in header and trailer together.
@@ -18,7 +19,7 @@ pub enum DictFault {
     DuplicateType(Bytes),
     /// A group stands inside eight others.
     DepthPassed,
-    /// Memory was refused.
+    /// Out of memory.
     OutOfMemory,
 }
 

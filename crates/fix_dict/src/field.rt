@@ -1,8 +1,10 @@
+//! Reads the fields of a dictionary, each into its rule. `dictionary` calls this before any member is judged.
 ghost use Rattle.std.specs.Prelude.{◌≡◌, OnOk, IfOk, IfErr, Ok, map, codes, []};
 ghost use Rattle.serde_json.specs.View.{view};
 ghost use Rattle.serde_json.specs.Find.{get, as_str};
 ghost use Rattle.fix_dict.specs.Parts.{tag_at};
-ghost use Rattle.fix_dict.specs.Fields.{field_in, fields_in, texts_in, values_in, listed_values, field_tag, some_text, kind_at};
+ghost use Rattle.fix_dict.specs.Fields.{field_in, fields_in, texts_in, values_in, listed_values, field_tag};
+ghost use Rattle.fix_dict.specs.Fields.{some_text, kind_at};
 ghost use Rattle.fix_dict.specs.Faults.{Tells};
 
 use crate::DictFault;
@@ -15,6 +17,19 @@ use fix_base::{Bytes, Tag};
 use fix_fields::ValueKind;
 use serde_json::Value;
 use std::alloc::Global;
+
+/// The fields of a dictionary: their rules come to `fields`, or the first wrong place is told.
+pub fn read_fields(alloc: Global, fields: &mut Fields, items: &[Value]) -> Result<(), DictFault>
+    ensures ok { OnOk result (fields_in 0 fields.old (map view items.now) ≡ Ok fields.new) }
+    ensures err { IfErr result (Tells (fields_in 0 fields.old (map view items.now))) }
+{
+    for i in 0..items.len() {
+        if let Err(fault) = read_field(alloc, fields, &items[i]) {
+            return Err(within(alloc, "fields", i, fault));
+        }
+    }
+    Ok(())
+}
 
 fn kind_at(item: &Value, name: &str) -> Option<ValueKind>
     ensures { result ≡ kind_at name.now (view item.now) }
@@ -95,18 +110,5 @@ fn read_field(alloc: Global, fields: &mut Fields, item: &Value) -> Result<(), Di
     };
     let values = values_in(alloc, item)?;
     fields.insert(tag, FieldRule { kind, values })?;
-    Ok(())
-}
-
-/// The fields of a dictionary: their rules come to `fields`, or the first wrong place is told.
-pub fn read_fields(alloc: Global, fields: &mut Fields, items: &[Value]) -> Result<(), DictFault>
-    ensures ok { OnOk result (fields_in 0 fields.old (map view items.now) ≡ Ok fields.new) }
-    ensures err { IfErr result (Tells (fields_in 0 fields.old (map view items.now))) }
-{
-    for i in 0..items.len() {
-        if let Err(fault) = read_field(alloc, fields, &items[i]) {
-            return Err(within(alloc, "fields", i, fault));
-        }
-    }
     Ok(())
 }

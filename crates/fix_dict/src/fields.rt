@@ -1,3 +1,4 @@
+//! The table of the rules of fields. `field` fills it, and `members` and `dictionary` look tags up in it.
 ghost use Rattle.std.specs.Prelude.{◌≡◌, OnOk, option_copied, IfOk, IfErr, Ok, map};
 ghost use Rattle.std.specs.FinMap as table;
 ghost use Rattle.serde_json.specs.View.{view};

@@ -1,3 +1,4 @@
+//! The names of the kinds of values in a dictionary's file. `field` calls this for the type of each field.
 ghost use Rattle.std.specs.Prelude.{◌≡◌};
 ghost use Rattle.fix_dict.specs.KindNames.{kind_named, number_named, time_named, text_named};
 

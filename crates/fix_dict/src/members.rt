@@ -1,7 +1,10 @@
+//! Judges the members of a header, a trailer or a message, before `build` makes their layout. `dictionary`
+//! and `message` call this.
 ghost use Rattle.std.specs.Prelude.{◌≡◌, map, codes, Ok, Err, IfOk, IfErr, OnOk};
 ghost use Rattle.serde_json.specs.View.{view};
 ghost use Rattle.fix_dict.specs.Parts.{tag_at, items_at};
-ghost use Rattle.fix_dict.specs.Members.{member_shape, with_members, own_tag, judged_member, judged_members, inside_group, inner_members, member_in, member_tag, members_in};
+ghost use Rattle.fix_dict.specs.Members.{member_shape, with_members, own_tag, judged_member, judged_members};
+ghost use Rattle.fix_dict.specs.Members.{inside_group, inner_members, member_in, member_tag, members_in};
 ghost use Rattle.fix_dict.specs.Faults.{Tells};
 
 use crate::DictFault;
@@ -15,8 +18,12 @@ use std::alloc::Global;
 
 // The tag of a group that has some members, or which of the two isn't of its form.
 fn group_shape(item: &Value) -> Result<Tag, &'static str>
-    ensures ok { IfOk result (λ tag. with_members (tag_at (codes "group") (view item.now)) (items_at (codes "members") (view item.now)) ≡ Ok tag) }
-    ensures err { IfErr result (λ path. with_members (tag_at (codes "group") (view item.now)) (items_at (codes "members") (view item.now)) ≡ Err path.now) }
+    ensures ok { IfOk result
+        (λ tag. with_members (tag_at (codes "group") (view item.now)) (items_at (codes "members") (view item.now))
+        ≡ Ok tag) }
+    ensures err { IfErr result
+        (λ path. with_members (tag_at (codes "group") (view item.now)) (items_at (codes "members") (view item.now))
+        ≡ Err path.now) }
 {
     let Some(tag) = tag_at(item, "group") else {
         return Err("group");
@@ -81,58 +88,69 @@ fn own_tag(
 #[cycle(judge)]
 fn judge_group(
     alloc: Global,
-    room: usize,
+    depth_left: usize,
     fields: &Fields,
     seen: &mut Tags,
     items: &[Value],
 ) -> Result<(), DictFault>
-    ensures ok { OnOk result (inside_group room fields.now seen.old (map view items.now) ≡ Ok seen.new) }
-    ensures err { IfErr result (Tells (inside_group room fields.now seen.old (map view items.now))) }
+    ensures ok { OnOk result (inside_group depth_left fields.now seen.old (map view items.now) ≡ Ok seen.new) }
+    ensures err { IfErr result (Tells (inside_group depth_left fields.now seen.old (map view items.now))) }
 {
-    if room == 0 {
+    if depth_left == 0 {
         return Err(DictFault::DepthPassed);
     }
-    judge_members(alloc, room - 1, fields, "members", true, seen, items)
+    judge_members(alloc, depth_left - 1, fields, "members", true, seen, items)
 }
 
 #[cycle(judge)]
 fn judge_member(
     alloc: Global,
-    room: usize,
+    depth_left: usize,
     fields: &Fields,
     leads: bool,
     seen: &mut Tags,
     item: &Value,
 ) -> Result<(), DictFault>
-    ensures ok { OnOk result (judged_member (inside_group room fields.now) fields.now leads seen.old (view item.now) ≡ Ok seen.new) }
-    ensures err { IfErr result (Tells (judged_member (inside_group room fields.now) fields.now leads seen.old (view item.now))) }
+    ensures ok { OnOk result
+        (judged_member (inside_group depth_left fields.now) fields.now leads seen.old (view item.now) ≡ Ok seen.new) }
+    ensures err { IfErr result
+        (Tells (judged_member (inside_group depth_left fields.now) fields.now leads seen.old (view item.now))) }
 {
     let tag = own_tag(alloc, fields, seen, leads, item)?;
     seen.insert(tag.get())?;
     if has(item, "group") {
-        judge_group(alloc, room, fields, seen, items_at(item, "members"))?;
+        judge_group(alloc, depth_left, fields, seen, items_at(item, "members"))?;
     }
     Ok(())
 }
 
 /// The members of the array with the name: the tags that they have come to `seen`, or the first
-/// wrong place is told. `room` groups may stand one in another, and the first of a group's members
+/// wrong place is told. `depth_left` groups may stand one in another, and the first of a group's members
 /// `leads`.
 #[cycle(judge)]
 pub fn judge_members(
     alloc: Global,
-    room: usize,
+    depth_left: usize,
     fields: &Fields,
     name: &str,
     leads: bool,
     seen: &mut Tags,
     items: &[Value],
 ) -> Result<(), DictFault>
-    ensures ok { OnOk result (judged_members room fields.now name.now leads seen.old (map view items.now) ≡ Ok seen.new) }
-    ensures err { IfErr result (Tells (judged_members room fields.now name.now leads seen.old (map view items.now))) }
+    ensures ok { OnOk result (judged_members depth_left fields.now name.now leads seen.old (map view items.now)
+        ≡ Ok seen.new) }
+    ensures err { IfErr result
+        (Tells (judged_members depth_left fields.now name.now leads seen.old (map view items.now))) }
 {
     for i in 0..items.len() {
-        if let Err(fault) = judge_member(alloc, room, fields, leads && i == 0, seen, &items[i]) {
+        if let Err(fault) = judge_member(
+            alloc,
+            depth_left,
+            fields,
+            leads && i == 0,
+            seen,
+            &items[i],
+        ) {
             return Err(within(alloc, name, i, fault));
         }
     }

@@ -1,3 +1,5 @@
+//! Reads the messages of a dictionary, each into its layout. `dictionary` calls this after header and trailer
+//! are judged.
 ghost use Rattle.std.specs.Prelude.{◌≡◌, OnOk, IfOk, IfErr, Ok, map, codes, option_map};
 ghost use Rattle.serde_json.specs.View.{view};
 ghost use Rattle.fix_fields.specs.Members.{shapes_of};
@@ -14,7 +16,7 @@ use crate::messages::Messages;
 use crate::parts::{list_at, text_at};
 use crate::paths::{bad_shape, within};
 use crate::tags::Tags;
-use fix_base::Bytes;
+use fix_base::{Bytes, SOH};
 use fix_fields::Layout;
 use serde_json::Value;
 use std::alloc::Global;
@@ -25,7 +27,23 @@ pub const MOST_GROUPS: usize = 8;
 /// The most bytes of a MsgType (35).
 const MOST_TYPE_BYTES: usize = 8;
 
-const SOH: u8 = 1;
+/// The messages of a dictionary: their layouts come to `messages`, or the first wrong place is told.
+pub fn read_messages(
+    alloc: Global,
+    fields: &Fields,
+    messages: &mut Messages,
+    items: &[Value],
+) -> Result<(), DictFault>
+    ensures ok { OnOk result (messages_in fields.now 0 messages.old (map view items.now) ≡ Ok messages.new) }
+    ensures err { IfErr result (Tells (messages_in fields.now 0 messages.old (map view items.now))) }
+{
+    for i in 0..items.len() {
+        if let Err(fault) = read_message(alloc, fields, messages, &items[i]) {
+            return Err(within(alloc, "messages", i, fault));
+        }
+    }
+    Ok(())
+}
 
 // Whether the text is a MsgType (35).
 fn is_type(text: &[u8]) -> bool
@@ -63,7 +81,8 @@ fn type_in<'a>(item: &'a Value) -> Option<&'a str>
 
 // The MsgType (35) of a message, which no message before has.
 fn new_type(alloc: Global, before: &Messages, item: &Value) -> Result<Vec<u8>, DictFault>
-    ensures ok { IfOk result (λ kind. new_type before.now (type_in (text_at (codes "type") (view item.now))) ≡ Ok kind.items) }
+    ensures ok { IfOk result
+        (λ kind. new_type before.now (type_in (text_at (codes "type") (view item.now))) ≡ Ok kind.items) }
     ensures err { IfErr result (Tells (new_type before.now (type_in (text_at (codes "type") (view item.now))))) }
 {
     let Some(kind) = type_in(item) else {
@@ -106,23 +125,5 @@ fn read_message(
     )?;
     let members = members_of(alloc, MOST_GROUPS, items)?;
     messages.insert(kind, Layout { members })?;
-    Ok(())
-}
-
-/// The messages of a dictionary: their layouts come to `messages`, or the first wrong place is told.
-pub fn read_messages(
-    alloc: Global,
-    fields: &Fields,
-    messages: &mut Messages,
-    items: &[Value],
-) -> Result<(), DictFault>
-    ensures ok { OnOk result (messages_in fields.now 0 messages.old (map view items.now) ≡ Ok messages.new) }
-    ensures err { IfErr result (Tells (messages_in fields.now 0 messages.old (map view items.now))) }
-{
-    for i in 0..items.len() {
-        if let Err(fault) = read_message(alloc, fields, messages, &items[i]) {
-            return Err(within(alloc, "messages", i, fault));
-        }
-    }
     Ok(())
 }

@@ -1,3 +1,4 @@
+//! The table of the layouts of messages. `message` fills it, and `dictionary` looks types up in it.
 ghost use Rattle.std.specs.Prelude.{◌≡◌, OnOk, option_copied};
 ghost use Rattle.std.specs.FinMap as table;
 

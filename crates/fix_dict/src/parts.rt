@@ -1,3 +1,4 @@
+//! Takes a member of a JSON object by its name, in the form that is wanted. The stages of reading call this.
 ghost use Rattle.std.specs.Prelude.{◌≡◌, map, option_map};
 ghost use Rattle.serde_json.specs.View.{view};
 ghost use Rattle.fix_dict.specs.Parts.{list_in, list_at, items_at, text_at, flag_at, tag_in, tag_at, has};

@@ -1,3 +1,5 @@
+//! Makes the path of a wrong place, from the place outwards. `field`, `members`, `message` and `dictionary`
+//! call this.
 ghost use Rattle.std.specs.Prelude.{◌≡◌, ◌++◌, ◌∷◌, [], OnOk, IfOk};
 ghost use Rattle.fix_dict.specs.declared.fault.DictFault.TheVariants.{BadShape};
 ghost use Rattle.fix_dict.specs.Faults.{item_path, behind_index, within, IsMemory};
@@ -17,7 +19,20 @@ pub fn bad_shape(alloc: Global, path: &str) -> DictFault
     }
 }
 
-// The rest of a path behind an item's index.
+/// A fault of the item at the index of the array with the name, as one of the whole.
+pub fn within(alloc: Global, name: &str, index: usize, fault: DictFault) -> DictFault
+    ensures { (IsMemory result → ⊥) → result ≡ within name.now index fault }
+{
+    match fault {
+        DictFault::BadShape(path) => match item_path(alloc, name, index, path.as_slice()) {
+            Ok(whole) => DictFault::BadShape(whole),
+            Err(_) => DictFault::OutOfMemory,
+        },
+        other => other,
+    }
+}
+
+// The rest of a path after an item's index.
 fn push_behind(out: &mut Vec<u8>, path: &[u8]) -> Result<(), AllocError>
     ensures { OnOk result (out.new.items ≡ out.old.items ++ behind_index path.now) }
 {
@@ -39,17 +54,4 @@ fn item_path(alloc: Global, name: &str, index: usize, path: &[u8]) -> Result<Byt
     whole.push(b']')?;
     push_behind(&mut whole, path)?;
     Ok(Bytes::from_vec(whole))
-}
-
-/// A fault of the item at the index of the array with the name, as one of the whole.
-pub fn within(alloc: Global, name: &str, index: usize, fault: DictFault) -> DictFault
-    ensures { (IsMemory result → ⊥) → result ≡ within name.now index fault }
-{
-    match fault {
-        DictFault::BadShape(path) => match item_path(alloc, name, index, path.as_slice()) {
-            Ok(whole) => DictFault::BadShape(whole),
-            Err(_) => DictFault::OutOfMemory,
-        },
-        other => other,
-    }
 }

@@ -1,3 +1,4 @@
+//! That files that are no dictionaries are refused, each with its first fault.
 use crate::{DictFault, Dictionary};
 use fix_base::{Bytes, Tag};
 use std::alloc::{AllocError, Global};

@@ -1,3 +1,4 @@
+//! What is kept of one field of a dictionary. `field` makes it, and `dictionary` and `allowed` read it.
 use fix_base::Bytes;
 use fix_fields::ValueKind;
 use std::marker::Model;

@@ -1,3 +1,4 @@
+//! That the samples are read, and have the kinds, the allowed values and the layouts that are listed here.
 use crate::{Dictionary, SAMPLE_42, SAMPLE_44};
 use fix_base::{Begin, Tag};
 use fix_fields::{Layout, Member, ValueKind};

@@ -1,3 +1,5 @@
+//! Two dictionaries as text, one for FIX.4.2 and one for FIX.4.4. The tests here and in fix_validate read them.
+
 /// The dictionary of the examples for FIX.4.2, in the JSON form that `Dictionary::read` reads: the
 /// session's messages, an order and an execution report. It is not the dictionary of FIX.4.2. The
 /// same text stands in `examples/FIX42.json`.

@@ -1,3 +1,4 @@
+//! The tags seen so far, so that none stands twice. `dictionary` and `message` make it, and `members` fills it.
 ghost use Rattle.std.specs.Prelude.{◌≡◌, OnOk};
 ghost use Rattle.std.specs.FinSet as set;
 

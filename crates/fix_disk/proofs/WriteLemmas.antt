@@ -2,7 +2,7 @@
 use Rattle.std.proofs.Common.{◌≡◌, ◌↔◌, ℕ, ◌+◌, ◌≤◌, min, Bool, true, false, List, length, Some, Result, Ok, Err, refl, sym, ap, arith}
 use Rattle.std.specs.Prelude.{IsErr, IsTrue, MatchBool}
 use Rattle.std.proofs.lemmas.Bool.{false≢true}
-use Rattle.fix_base.specs.Seen.{LAST_COUNT, Rises}
+use Rattle.fix_base.specs.Trace.{LAST_COUNT, Rises}
 use Rattle.fix_disk.specs.Disk.{Torn, WrittenAfter, overwritten, failures}
 use Rattle.fix_disk.specs.declared.disk.DiskFailed.{DiskFailed}
 use Rattle.fix_disk.proofs.Overwritten.{length-overwritten, overwritten_before, overwritten_after}

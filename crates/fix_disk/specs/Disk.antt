@@ -1,6 +1,8 @@
 -- What is seen of a disk, what a crash may leave of it, and what its calls do to that.
-use Rattle.std.specs.Prelude.{◌≡◌, ◌⊎◌, ◌↔◌, ℕ, ◌+◌, ◌<◌, ◌≤◌, min, max, List, ◌++◌, length, take, drop, slice_index, Option, Some, None, IsSome, IfSome, Result, Ok, Err, OnOk, OnErr, IfOk, ⊤}
-use Rattle.fix_base.specs.Seen.{LAST_COUNT, Rises}
+use Rattle.std.specs.Prelude.{◌≡◌, ◌⊎◌, ◌↔◌, ℕ, ◌+◌, ◌<◌, ◌≤◌, min, max, List, ◌++◌, length, take, drop}
+use Rattle.std.specs.Prelude.{slice_index, Option, Some, None, IsSome, IfSome, Result, Ok, Err, OnOk, OnErr, IfOk}
+use Rattle.std.specs.Prelude.{⊤}
+use Rattle.fix_base.specs.Trace.{LAST_COUNT, Rises}
 use Rattle.fix_disk.specs.declared.disk.DiskFailed.{DiskFailed}
 
 pub record DiskSeen : Type 1 where
@@ -14,7 +16,7 @@ pub record DiskSeen : Type 1 where
   pub room : Option ℕ  -- where it is told, the disk fails only at a write that ends past this place
 
 -- what always holds of it
-pub record IsLawful (s : DiskSeen) : Type 0 where
+pub record IsLawfulDisk (s : DiskSeen) : Type 0 where
   pub tells_bytes : s.TellsImages → IsSome s.bytes
   pub tells_now : s.TellsPast → s.TellsImages
   pub in_time : s.TellsPast → s.clock < LAST_COUNT
@@ -28,7 +30,8 @@ pub record IsLawful (s : DiskSeen) : Type 0 where
 abbrev pub overwritten : {A : Type 0} → ℕ → List A → List A → List A
 overwritten at items old = take at old ++ items ++ drop (at + length items) old
 
--- after a write of so many bytes that a crash may cut short: any bytes in its range and past the old end, the same elsewhere
+-- after a write of so many bytes that a crash may cut short: any bytes in its range and past the old end, the
+-- same elsewhere
 pub record Torn (at count : ℕ) (old new : List ℕ) : Type 0 where
   pub no_shorter : length old ≤ length new
   pub no_longer : length new ≤ max (length old) (at + count)
@@ -55,13 +58,15 @@ MayFail (Some room) end = room < end
 abbrev pub next_moment : ℕ → ℕ
 next_moment t = min (t + 1) LAST_COUNT
 
--- a call is one moment, and what was told stays told; a crash since t might have left what it might have left before, or what it may leave now
+-- a call is one moment, and what was told stays told; a crash since t might have left what it might have left
+-- before, or what it may leave now
 pub record Elapses (old new : DiskSeen) : Type 0 where
   pub clock : IsSome old.bytes → new.clock ≡ next_moment old.clock
   pub room : new.room ≡ old.room
   pub tells_images : new.TellsImages ↔ old.TellsImages
   pub tells_past : new.TellsPast ↔ (old.TellsPast × (new.clock < LAST_COUNT))
-  pub nothing_else : new.TellsPast → (t : ℕ) (c : List ℕ) → t ≤ old.clock → new.image_since t c → old.image_since t c ⊎ new.image c
+  pub nothing_else : new.TellsPast → (t : ℕ) (c : List ℕ) → t ≤ old.clock → new.image_since t c
+      → old.image_since t c ⊎ new.image c
   pub keeps : new.TellsPast → (t : ℕ) (c : List ℕ) → t ≤ old.clock → old.image_since t c → new.image_since t c
 
 -- a call that writes nothing
@@ -76,7 +81,8 @@ pub record DiskMeasures (answer : Result ℕ DiskFailed) (old new : DiskSeen) : 
   pub cause : Rises (failures answer) old.faults new.faults
   pub need : OnErr answer (MayFail old.room 0)
 
-pub record DiskReads {T : Type 0} (answer : Result T DiskFailed) (at : ℕ) (room : List ℕ) (old new : DiskSeen) : Type 0 where
+pub record DiskReads {T : Type 0} (answer : Result T DiskFailed) (at : ℕ) (room : List ℕ)
+    (old new : DiskSeen) : Type 0 where
   pub read : OnOk answer (IfSome old.bytes (λ bytes. room ≡ take (length room) (drop at bytes)))
   pub same : LeavesAsIs old new
   pub time : Elapses old new
@@ -89,7 +95,8 @@ WrittenAfter answer at bytes None new = new ≡ None
 WrittenAfter (Ok x) at bytes (Some old) new = new ≡ Some (overwritten at bytes old)
 WrittenAfter (Err e) at bytes (Some old) new = (torn : List ℕ) × Torn at (length bytes) old torn × (new ≡ Some torn)
 
-pub record DiskWrites {T : Type 0} (answer : Result T DiskFailed) (at : ℕ) (bytes : List ℕ) (old new : DiskSeen) : Type 0 where
+pub record DiskWrites {T : Type 0} (answer : Result T DiskFailed) (at : ℕ) (bytes : List ℕ)
+    (old new : DiskSeen) : Type 0 where
   pub written : WrittenAfter answer at bytes old.bytes new.bytes
   pub torn : old.TellsImages → Follows (Torn at (length bytes)) old.image new.image
   -- until a sync a crash may take it all back

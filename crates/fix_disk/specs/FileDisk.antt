@@ -2,7 +2,7 @@
 use Rattle.std.specs.Prelude.{ℕ, Option, Some, None, Result, Ok, Err}
 use Rattle.fix_disk.specs.declared.file_disk.FileDisk.{FileDisk}
 use Rattle.fix_disk.specs.declared.file_disk.FileRefusal.{FileRefusal}
-use Rattle.fix_disk.specs.Disk.{DiskSeen, IsLawful}
+use Rattle.fix_disk.specs.Disk.{DiskSeen, IsLawfulDisk}
 
 -- a disk that tells nothing
 abbrev pub untold : ℕ → DiskSeen
@@ -20,7 +20,7 @@ untold faults = record {
 abbrev pub file_disk_of : FileDisk → DiskSeen
 file_disk_of d = untold d.faults
 
-pub untold_lawful : (faults : ℕ) → IsLawful (untold faults)
+pub untold_lawful : (faults : ℕ) → IsLawfulDisk (untold faults)
 untold_lawful faults = record {
   tells_bytes = λ told. absurd told;
   tells_now = λ told. absurd told;
@@ -30,7 +30,7 @@ untold_lawful faults = record {
   only_now = λ told c left. absurd told;
 }
 
-pub lawful : (d : FileDisk) → IsLawful (file_disk_of d)
+pub lawful : (d : FileDisk) → IsLawfulDisk (file_disk_of d)
 lawful d = untold_lawful d.faults
 
 -- why a file can't be used, if it can't

@@ -6,6 +6,6 @@ abbrev pub IsBlown : Option ℕ → ℕ → Type 0
 IsBlown None call = ⊥
 IsBlown (Some first) call = first ≤ call
 
--- a call is listed, or stands at the fuse or behind it
+-- a call is listed, or stands at the fuse or after it
 abbrev pub IsStruck : List ℕ → Option ℕ → ℕ → Type 0
 IsStruck fail fuse call = Contains fail call ⊎ IsBlown fuse call

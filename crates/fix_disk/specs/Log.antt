@@ -1,4 +1,4 @@
--- How a list of writes and syncs is kept: the written bytes stand one behind the other.
+-- How a list of writes and syncs is kept: the written bytes stand one after another.
 use Rattle.std.specs.Prelude.{ℕ, ◌+◌, List, [], ◌∷◌, take, drop}
 use Rattle.fix_disk.specs.Past.{Step as PastStep, Change as PastChange, Wrote, Synced}
 use Rattle.fix_disk.specs.declared.log.Step.{Step}
@@ -15,7 +15,10 @@ rest_of Sync written = written
 
 abbrev pub steps_of : List Step → List ℕ → List PastStep
 steps_of [] written = []
-steps_of (step ∷ later) written = record { moment = step.moment; change = change_of step.change written } ∷ steps_of later (rest_of step.change written)
+steps_of (step ∷ later) written = record {
+  moment = step.moment;
+  change = change_of step.change written;
+} ∷ steps_of later (rest_of step.change written)
 
 abbrev pub count_of : Change → ℕ
 count_of (Write at count) = count

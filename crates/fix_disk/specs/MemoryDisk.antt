@@ -1,10 +1,11 @@
 -- What is seen of a disk in memory.
-use Rattle.std.specs.Prelude.{◌≡◌, ◌⊎◌, ℕ, ◌+◌, ◌<◌, ◌≤◌, length, vec_len, List, Option, Some, None, ⊤, refl, if◌then◌else◌, ◌==◌}
+use Rattle.std.specs.Prelude.{◌≡◌, ◌⊎◌, ℕ, ◌+◌, ◌<◌, ◌≤◌, length, vec_len, List, Option, Some, None, ⊤, refl}
+use Rattle.std.specs.Prelude.{if◌then◌else◌, ◌==◌}
 use Rattle.std.proofs.Common.{subst, sym}
 use Rattle.std.proofs.Math.Nat.{le_refl}
-use Rattle.fix_base.specs.Seen.{LAST_COUNT}
+use Rattle.fix_base.specs.Trace.{LAST_COUNT}
 use Rattle.fix_disk.specs.declared.memory_disk.MemoryDisk.{MemoryDisk}
-use Rattle.fix_disk.specs.Disk.{DiskSeen, IsLawful, next_moment}
+use Rattle.fix_disk.specs.Disk.{DiskSeen, IsLawfulDisk, next_moment}
 use Rattle.fix_disk.specs.Fuse.{IsStruck}
 use Rattle.fix_disk.specs.State.{State, Leaves, blank}
 use Rattle.fix_disk.specs.Script.{told_room}
@@ -31,7 +32,8 @@ told state steps past clock faults room = record {
 }
 
 abbrev pub disk_of : MemoryDisk → DiskSeen
-disk_of d = told (state_of d.contents) (log_steps d.log) d.log.most d.failing.calls d.failing.faults (room_of d.failing.numbers.items d.fuse d.log.most d.contents.capacity)
+disk_of d = told (state_of d.contents) (log_steps d.log) d.log.most d.failing.calls d.failing.faults
+    (room_of d.failing.numbers.items d.fuse d.log.most d.contents.capacity)
 
 -- the bytes, those of the last sync and which were written since
 abbrev pub disk_state : MemoryDisk → State
@@ -58,7 +60,7 @@ disk_script d = record {
   written = vec_len d.log.written;
 }
 
--- the next call is listed, or stands at the fuse or behind it
+-- the next call is listed, or stands at the fuse or after it
 abbrev pub Strikes : DiskScript → Type 0
 Strikes s = IsStruck s.fail s.fuse (next_moment s.calls)
 
@@ -73,7 +75,7 @@ HasPlace s at count = (at + count ≤ s.capacity) × KeepsOneMore s count
 abbrev pub after_call : DiskScript → DiskScript
 after_call s = record s { calls = next_moment s.calls }
 
--- behind a call that wrote so many bytes, or synced
+-- after a call that wrote so many bytes, or synced
 abbrev pub after_step : DiskScript → ℕ → DiskScript
 after_step s count = record s {
   calls = next_moment s.calls;
@@ -82,14 +84,29 @@ after_step s count = record s {
 }
 
 abbrev pub script_of : List ℕ → Option ℕ → ℕ → ℕ → DiskScript
-script_of fail fuse capacity past = record { fail = fail; fuse = fuse; calls = 0; capacity = capacity; past = past; steps = 0; written = 0 }
+script_of fail fuse capacity past = record {
+  fail = fail;
+  fuse = fuse;
+  calls = 0;
+  capacity = capacity;
+  past = past;
+  steps = 0;
+  written = 0;
+}
 
-pub lawful : (d : MemoryDisk) → IsLawful (disk_of d)
+pub lawful : (d : MemoryDisk) → IsLawfulDisk (disk_of d)
 lawful d = record {
   tells_bytes = λ told. refl;
   tells_now = λ past. tt;
   in_time = λ past. past.1;
-  as_read = λ told. record { no_shorter = d.contents.grows; no_longer = le_refl (length d.contents.bytes.items); same = d.contents.same };
-  counts_now = λ past t c le image. counts_now (log_steps d.log) blank t c (subst (λ s. Leaves s c) (sym (d.replays past.0)) image);
-  only_now = λ past c left. subst (λ s. Leaves s c) (d.replays past.0) (only_now (log_steps d.log) blank d.failing.calls c (d.in_time past.0) left);
+  as_read = λ told.
+      record {
+        no_shorter = d.contents.grows;
+        no_longer = le_refl (length d.contents.bytes.items);
+        same = d.contents.same;
+      };
+  counts_now = λ past t c le image. counts_now (log_steps d.log) blank t c (subst
+      (λ s. Leaves s c) (sym (d.replays past.0)) image);
+  only_now = λ past c left. subst
+      (λ s. Leaves s c) (d.replays past.0) (only_now (log_steps d.log) blank d.failing.calls c (d.in_time past.0) left);
 }

@@ -5,7 +5,11 @@ use Rattle.fix_disk.specs.Script.{Script, script_with, told_room}
 use Rattle.fix_disk.specs.Sink.{SinkSeen}
 
 abbrev pub sink_of : MemorySink → SinkSeen
-sink_of m = record { written = Some m.out.items; room = told_room m.failing.numbers.items (m.capacity - length m.out.items); faults = m.failing.faults }
+sink_of m = record {
+  written = Some m.out.items;
+  room = told_room m.failing.numbers.items (m.capacity - length m.out.items);
+  faults = m.failing.faults;
+}
 
 abbrev pub sink_script : MemorySink → Script
 sink_script m = script_with m.failing m.capacity

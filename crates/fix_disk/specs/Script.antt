@@ -1,6 +1,6 @@
 -- Which calls of a thing in memory fail, and how much it may keep.
 use Rattle.std.specs.Prelude.{ℕ, ◌+◌, min, List, [], ◌∷◌, Option, Some, None, Contains}
-use Rattle.fix_base.specs.Seen.{LAST_COUNT}
+use Rattle.fix_base.specs.Trace.{LAST_COUNT}
 use Rattle.fix_disk.specs.declared.failing.Failing.{Failing}
 
 -- the calls that are listed to fail, how many calls there were, and how much may be kept

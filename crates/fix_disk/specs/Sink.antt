@@ -3,7 +3,7 @@ use Rattle.std.specs.Prelude.{◌≡◌, ℕ, List, length, Option, Result, Ok, 
 use Rattle.fix_base.specs.Lists.{IsPrefixOf}
 use Rattle.fix_disk.specs.declared.sink.SinkFailed.{SinkFailed}
 use Rattle.fix_base.specs.Parts.{extended, less, HasNoRoom}
-use Rattle.fix_base.specs.Seen.{Rises}
+use Rattle.fix_base.specs.Trace.{Rises}
 
 pub record SinkSeen : Type 0 where
   pub written : Option (List ℕ)  -- the bytes that were written

@@ -1,6 +1,6 @@
 -- What is seen of a place that files come from, and what a read gives.
 use Rattle.std.specs.Prelude.{◌≡◌, ◌⊎◌, ℕ, ◌<◌, ◌≤◌, List, [], ◌∷◌, length, Option, IfSome, Result, Ok, Err, IfOk, ⊤}
-use Rattle.fix_base.specs.Seen.{Rises}
+use Rattle.fix_base.specs.Trace.{Rises}
 use Rattle.fix_disk.specs.declared.source.SourceFault.{SourceFault}
 use Rattle.fix_disk.specs.declared.source.SourceFault.TheVariants.{Failed, TooLong, OutOfMemory}
 
@@ -11,7 +11,8 @@ pub record SourceSeen : Type 0 where
 -- the first file of this name has these bytes
 abbrev pub IsFile : List ℕ → List ℕ → List (List ℕ × List ℕ) → Type 0
 IsFile name bytes [] = ⊥
-IsFile name bytes (file ∷ later) = ((file.0 ≡ name) × (file.1 ≡ bytes)) ⊎ ((file.0 ≡ name → ⊥) × IsFile name bytes later)
+IsFile name bytes (file ∷ later) = ((file.0 ≡ name) × (file.1 ≡ bytes))
+    ⊎ ((file.0 ≡ name → ⊥) × IsFile name bytes later)
 
 -- what a read gives, where the files are told
 abbrev pub ReadFrom : Result (List ℕ) SourceFault → List ℕ → ℕ → List (List ℕ × List ℕ) → Type 0
@@ -31,7 +32,8 @@ source_failures (Err Failed) = 1
 source_failures (Err TooLong) = 0
 source_failures (Err OutOfMemory) = 0
 
-pub record SourceReads (answer : Result (List ℕ) SourceFault) (name : List ℕ) (limit : ℕ) (old new : SourceSeen) : Type 0 where
+pub record SourceReads (answer : Result (List ℕ) SourceFault) (name : List ℕ) (limit : ℕ)
+    (old new : SourceSeen) : Type 0 where
   pub read : IfSome old.files (ReadFrom answer name limit)
   pub within : IsWithin answer limit
   pub files : new.files ≡ old.files

@@ -1,5 +1,6 @@
 -- What a disk in memory holds between its calls, and what a crash may leave of that.
-use Rattle.std.specs.Prelude.{◌≡◌, ℕ, ◌<◌, ◌≤◌, Bool, true, false, List, [], length, replicate, slice_index, slice_index_or}
+use Rattle.std.specs.Prelude.{◌≡◌, ℕ, ◌<◌, ◌≤◌, Bool, true, false, List, [], length, replicate, slice_index}
+use Rattle.std.specs.Prelude.{slice_index_or}
 use Rattle.fix_disk.specs.Disk.{overwritten}
 
 pub record State : Type 0 where
@@ -25,4 +26,5 @@ after_sync s = record { bytes = s.bytes; synced = s.bytes; changed = replicate (
 pub record Leaves (s : State) (c : List ℕ) : Type 0 where
   pub no_shorter : length s.synced ≤ length c
   pub no_longer : length c ≤ length s.bytes
-  pub same : (i : ℕ) → i < length s.synced → slice_index_or s.changed i true ≡ false → slice_index c i ≡ slice_index s.synced i
+  pub same : (i : ℕ) → i < length s.synced → slice_index_or s.changed i true ≡ false → slice_index c i
+      ≡ slice_index s.synced i

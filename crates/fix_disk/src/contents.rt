@@ -1,4 +1,7 @@
-ghost use Rattle.std.specs.Prelude.{◌≡◌, ◌<◌, ◌≤◌, ◌+◌, Bool, true, false, List, length, take, replicate, slice_index, slice_index_or, vec_len, vec_capacity};
+//! Carries out writes and syncs on the bytes of a disk in memory. `memory_disk` calls this for each write that
+//! has room, and for each sync that doesn't fail.
+ghost use Rattle.std.specs.Prelude.{◌≡◌, ◌<◌, ◌≤◌, ◌+◌, Bool, true, false, List, length, take, replicate};
+ghost use Rattle.std.specs.Prelude.{slice_index, slice_index_or, vec_len, vec_capacity};
 
 use crate::room::{clear_from, mark_over, put_from, put_over};
 use fix_base::OutOfMemory;
@@ -23,7 +26,8 @@ pub(crate) struct Contents {
     ghost low_within: { low ≤ length synced.items },
     ghost low_same: { take low synced.items ≡ take low bytes.items },
     ghost low_unmarked: { take low changed.items ≡ replicate low false },
-    ghost same: { (i : _) → i < length synced.items → slice_index_or changed.items i true ≡ false → slice_index bytes.items i ≡ slice_index synced.items i },
+    ghost same: { (i : _) → i < length synced.items → slice_index_or changed.items i true ≡ false
+        → slice_index bytes.items i ≡ slice_index synced.items i },
 }
 
 impl Contents {

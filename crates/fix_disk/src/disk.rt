@@ -1,5 +1,7 @@
+//! What a disk is to whoever keeps a file on it: four calls, each of which may fail. `fix_journal` makes these
+//! calls, and `file_disk` and `memory_disk` carry them out.
 ghost use Rattle.std.specs.Prelude.{length};
-ghost use Rattle.fix_disk.specs.Disk.{DiskSeen, IsLawful, DiskMeasures, DiskReads, DiskWrites, DiskSyncs, HasRange};
+ghost use Rattle.fix_disk.specs.Disk.{DiskSeen, IsLawfulDisk, DiskMeasures, DiskReads, DiskWrites, DiskSyncs, HasRange};
 
 /// A disk failed. A write may have changed its range.
 #[derive(Clone, Copy, Debug, PartialEq, Eq)]
@@ -32,5 +34,5 @@ pub trait Disk {
     fn sync(&mut self) -> Result<(), DiskFailed>
         ensures moves { DiskSyncs result (disk self.old) (disk self.new) };
 
-    ghost lawful: { (d : Self) → IsLawful (disk d) };
+    ghost lawful: { (d : Self) → IsLawfulDisk (disk d) };
 }

@@ -1,5 +1,7 @@
+//! Counts calls, and says of each whether it fails. The disk, the files and the sink in memory ask it in each
+//! call. The application and the connection in memory of `fix_parts` use it too.
 ghost use Rattle.std.specs.Prelude.{◌≡◌, ◌↔◌, ◌⊎◌, ◌+◌, ◌≤◌, false, min, [], Contains, IsTrue, MatchBool};
-ghost use Rattle.fix_base.specs.Seen.{LAST_COUNT};
+ghost use Rattle.fix_base.specs.Trace.{LAST_COUNT};
 ghost use Rattle.fix_disk.specs.Fuse.{IsBlown, IsStruck};
 
 /// Which calls of a thing in memory fail, and how many did. The versions in memory of disks, sinks
@@ -38,7 +40,8 @@ impl Failing {
         ensures calls { self.new.calls ≡ min (self.old.calls + 1) LAST_COUNT }
         ensures no_fewer { self.old.calls ≤ self.new.calls }
         ensures fails { IsTrue result ↔ Contains self.old.numbers.items (min (self.old.calls + 1) LAST_COUNT) }
-        ensures faults { MatchBool result (self.new.faults ≡ min (self.old.faults + 1) LAST_COUNT) (self.new.faults ≡ self.old.faults) }
+        ensures faults { MatchBool result (self.new.faults ≡ min (self.old.faults + 1) LAST_COUNT) (self.new.faults
+            ≡ self.old.faults) }
     {
         self.calls = self.calls.saturating_add(1);
         let fails = self.numbers.contains(&self.calls);
@@ -53,8 +56,10 @@ impl Failing {
         ensures numbers { self.new.numbers ≡ self.old.numbers }
         ensures calls { self.new.calls ≡ min (self.old.calls + 1) LAST_COUNT }
         ensures no_fewer { self.old.calls ≤ self.new.calls }
-        ensures fails { IsTrue result ↔ (IsStruck self.old.numbers.items fuse (min (self.old.calls + 1) LAST_COUNT) ⊎ (can ≡ false)) }
-        ensures faults { MatchBool result (self.new.faults ≡ min (self.old.faults + 1) LAST_COUNT) (self.new.faults ≡ self.old.faults) }
+        ensures fails { IsTrue result
+            ↔ (IsStruck self.old.numbers.items fuse (min (self.old.calls + 1) LAST_COUNT) ⊎ (can ≡ false)) }
+        ensures faults { MatchBool result (self.new.faults ≡ min (self.old.faults + 1) LAST_COUNT) (self.new.faults
+            ≡ self.old.faults) }
     {
         if self.strikes() {
             return true;

@@ -1,5 +1,7 @@
+//! `Disk` over a real file: opens and locks it, and has the system carry out each call. A store can be opened
+//! on it.
 ghost use Rattle.std.specs.Prelude.{◌≡◌, length, IsErr, OnErr};
-ghost use Rattle.fix_base.specs.Seen.{Rises};
+ghost use Rattle.fix_base.specs.Trace.{Rises};
 ghost use Rattle.fix_disk.specs.Disk.{failures};
 
 use crate::{Disk, DiskFailed};

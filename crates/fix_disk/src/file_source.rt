@@ -1,3 +1,4 @@
+//! `Source` over the real files of the system. It reads a file as a whole, up to a limit of bytes.
 ghost use Rattle.std.specs.Prelude.{◌≡◌, ◌≤◌, length, IfOk};
 
 use crate::{Source, SourceFault};

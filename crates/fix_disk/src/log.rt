@@ -1,3 +1,5 @@
+//! The history of a disk in memory. `memory_disk` notes its writes and syncs here, and contracts tell by them
+//! what a crash might have left.
 ghost use Rattle.std.specs.Prelude.{◌≡◌, ◌<◌, ◌≤◌, ◌+◌, List, length, vec_len, vec_capacity};
 ghost use Rattle.fix_disk.specs.Log.{counted};
 
@@ -62,7 +64,8 @@ impl Log {
 
     pub(crate) fn note_write(&mut self, moment: u64, at: usize, bytes: &[u8])
         requires { LogTakes self.old (length bytes.now) }
-        ensures steps { 0 < self.old.most → log_steps self.new ≡ log_steps self.old ++ record { moment = moment; change = Wrote at bytes.now } ∷ [] }
+        ensures steps { 0 < self.old.most → log_steps self.new ≡ log_steps self.old
+            ++ record { moment = moment; change = Wrote at bytes.now } ∷ [] }
         ensures most { self.new.most ≡ self.old.most }
         ensures capacity { self.new.capacity ≡ self.old.capacity }
         ensures grows { LogGrows self.old (length bytes.now) self.new }
@@ -83,7 +86,8 @@ impl Log {
 
     pub(crate) fn note_sync(&mut self, moment: u64)
         requires { LogTakes self.old 0 }
-        ensures steps { 0 < self.old.most → log_steps self.new ≡ log_steps self.old ++ record { moment = moment; change = Synced } ∷ [] }
+        ensures steps { 0 < self.old.most → log_steps self.new ≡ log_steps self.old
+            ++ record { moment = moment; change = Synced } ∷ [] }
         ensures most { self.new.most ≡ self.old.most }
         ensures capacity { self.new.capacity ≡ self.old.capacity }
         ensures grows { LogGrows self.old 0 self.new }

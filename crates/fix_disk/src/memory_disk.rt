@@ -1,3 +1,5 @@
+//! `Disk` in memory. In a call `failing` says whether it fails, `contents` reads or changes the bytes, and
+//! `log` notes a write or a sync.
 ghost use Rattle.std.specs.Prelude.{◌≡◌, ◌<◌, ◌≤◌, ◌+◌, ◌↔◌, length, IsErr, IsTrue};
 ghost use Rattle.fix_disk.specs.State.{blank};
 ghost use Rattle.fix_disk.specs.Contents.{state_of};
@@ -65,7 +67,8 @@ impl Disk for MemoryDisk {
     ghost use Rattle.std.specs.Prelude.{◌⊎◌, OnOk, OnErr};
     ghost use Rattle.fix_disk.specs.Disk.{DiskMeasures, DiskReads, DiskWrites, DiskSyncs, HasRange, Torn};
     ghost use Rattle.fix_disk.specs.State.{Leaves, after_write, after_sync};
-    ghost use Rattle.fix_disk.specs.MemoryDisk.{disk_of, disk_state, disk_script, Strikes, HasPlace, KeepsOneMore, after_call, after_step, lawful};
+    ghost use Rattle.fix_disk.specs.MemoryDisk.{disk_of, disk_state, disk_script, Strikes, HasPlace, KeepsOneMore};
+    ghost use Rattle.fix_disk.specs.MemoryDisk.{after_call, after_step, lawful};
 
     ghost disk = { disk_of };
 
@@ -101,11 +104,15 @@ impl Disk for MemoryDisk {
     fn write_at(&mut self, at: u64, bytes: &[u8]) -> Result<(), DiskFailed>
         requires { HasRange (disk_of self.old).bytes at 0 }
         ensures moves { DiskWrites result at bytes.now (disk_of self.old) (disk_of self.new) }
-        ensures fails { IsErr result ↔ (Strikes (disk_script self.old) ⊎ (HasPlace (disk_script self.old) at (length bytes.now) → ⊥)) }
+        ensures fails { IsErr result
+            ↔ (Strikes (disk_script self.old) ⊎ (HasPlace (disk_script self.old) at (length bytes.now) → ⊥)) }
         // A write that is struck has changed its range all the same.
-        ensures written { HasPlace (disk_script self.old) at (length bytes.now) → disk_state self.new ≡ after_write at bytes.now (disk_state self.old) }
-        ensures script { HasPlace (disk_script self.old) at (length bytes.now) → disk_script self.new ≡ after_step (disk_script self.old) (length bytes.now) }
-        ensures refused { (HasPlace (disk_script self.old) at (length bytes.now) → ⊥) → (disk_state self.new ≡ disk_state self.old) × (disk_script self.new ≡ after_call (disk_script self.old)) }
+        ensures written { HasPlace (disk_script self.old) at (length bytes.now) → disk_state self.new
+            ≡ after_write at bytes.now (disk_state self.old) }
+        ensures script { HasPlace (disk_script self.old) at (length bytes.now) → disk_script self.new
+            ≡ after_step (disk_script self.old) (length bytes.now) }
+        ensures refused { (HasPlace (disk_script self.old) at (length bytes.now) → ⊥)
+            → (disk_state self.new ≡ disk_state self.old) × (disk_script self.new ≡ after_call (disk_script self.old)) }
         // A crash leaves every torn form of what it might have left before, and nothing else.
         ensures torn { HasPlace (disk_script self.old) at (length bytes.now)
             → (c : _) → Leaves (disk_state self.new) c ↔ ((d : _) × Leaves (disk_state self.old) d × Torn at (length bytes.now) d c) }
@@ -126,7 +133,8 @@ impl Disk for MemoryDisk {
         ensures fails { IsErr result ↔ (Strikes (disk_script self.old) ⊎ (KeepsOneMore (disk_script self.old) 0 → ⊥)) }
         ensures synced { OnOk result (disk_state self.new ≡ after_sync (disk_state self.old)) }
         ensures script { OnOk result (disk_script self.new ≡ after_step (disk_script self.old) 0) }
-        ensures refused { OnErr result ((disk_state self.new ≡ disk_state self.old) × (disk_script self.new ≡ after_call (disk_script self.old))) }
+        ensures refused { OnErr result ((disk_state self.new ≡ disk_state self.old)
+            × (disk_script self.new ≡ after_call (disk_script self.old))) }
     {
         let has_room = self.log.takes(0);
         if self.failing.fails(self.fuse, has_room) {

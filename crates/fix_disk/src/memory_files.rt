@@ -1,3 +1,4 @@
+//! `Source` in memory: looks up a file by its name, and copies its bytes. `failing` can make a read fail.
 ghost use Rattle.std.specs.Prelude.{◌≡◌, ◌↔◌, IsTrue, MatchOption};
 ghost use Rattle.fix_disk.specs.Source.{IsFile};
 
@@ -42,9 +43,12 @@ impl Source for MemoryFiles {
     fn read(&mut self, alloc: Global, name: &str, limit: u64) -> Result<Bytes, SourceFault>
         ensures moves { SourceReads result name.now limit (files_of self.old) (files_of self.new) }
         ensures listed { FailsNext (files_script self.old) → IsErrOf result SourceFault.Failed }
-        ensures missing { ((bytes : _) → IsFile name.now bytes (files_in self.old) → ⊥) → IsErrOf result SourceFault.Failed }
-        ensures failed { IsErrOf result SourceFault.Failed → FailsNext (files_script self.old) ⊎ ((bytes : _) → IsFile name.now bytes (files_in self.old) → ⊥) }
-        ensures script { files_script self.new ≡ record (files_script self.old) { calls = next_call (files_script self.old) } }
+        ensures missing { ((bytes : _) → IsFile name.now bytes (files_in self.old) → ⊥)
+            → IsErrOf result SourceFault.Failed }
+        ensures failed { IsErrOf result SourceFault.Failed → FailsNext (files_script self.old)
+            ⊎ ((bytes : _) → IsFile name.now bytes (files_in self.old) → ⊥) }
+        ensures script { files_script self.new
+            ≡ record (files_script self.old) { calls = next_call (files_script self.old) } }
     {
         if self.failing.strikes() {
             return Err(SourceFault::Failed);
@@ -62,7 +66,8 @@ impl Source for MemoryFiles {
 
 // The bytes of the first file of this name.
 fn find<'a>(files: &'a [(Bytes, Bytes)], name: &[u8]) -> Option<&'a [u8]>
-    ensures { MatchOption result ((bytes : _) → IsFile name.now bytes files.now → ⊥) (λ found. IsFile name.now found.now files.now) }
+    ensures { MatchOption result ((bytes : _) → IsFile name.now bytes files.now → ⊥)
+        (λ found. IsFile name.now found.now files.now) }
 {
     let mut rest = files;
     while let [first, later @ ..] = rest {

@@ -1,3 +1,4 @@
+//! `Sink` in memory: appends text in room that was taken at the start. `failing` can make a write fail.
 ghost use Rattle.std.specs.Prelude.{◌≡◌, ◌≤◌, vec_len, vec_capacity};
 
 use crate::failing::Failing;
@@ -24,7 +25,8 @@ impl MemorySink {
     /// A sink that keeps up to `capacity` bytes. The calls of `write` whose numbers are in `fail`,
     /// from 1 on, fail.
     pub fn new(alloc: Global, capacity: usize, fail: Vec<u64>) -> Result<MemorySink, OutOfMemory>
-        ensures seen { IfOk result (λ made. sink_of made ≡ record { written = Some []; room = told_room fail.items capacity; faults = 0 }) }
+        ensures seen { IfOk result
+            (λ made. sink_of made ≡ record { written = Some []; room = told_room fail.items capacity; faults = 0 }) }
         ensures script { IfOk result (λ made. sink_script made ≡ script_from fail.items capacity) }
     {
         Ok(MemorySink {
@@ -54,7 +56,8 @@ impl Sink for MemorySink {
         ensures moves { SinkWrites result bytes.now (sink_of self.old) (sink_of self.new) }
         ensures fails { IsErr result ↔ (FailsNext (sink_script self.old) ⊎ (sink_room self.old < length bytes.now)) }
         ensures kept { OnErr result ((sink_of self.new).written ≡ (sink_of self.old).written) }
-        ensures script { sink_script self.new ≡ record (sink_script self.old) { calls = next_call (sink_script self.old) } }
+        ensures script { sink_script self.new
+            ≡ record (sink_script self.old) { calls = next_call (sink_script self.old) } }
     {
         if self.failing.strikes() {
             return Err(SinkFailed);

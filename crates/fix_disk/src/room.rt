@@ -1,4 +1,7 @@
-ghost use Rattle.std.specs.Prelude.{◌≡◌, ◌+◌, ◌-◌, ◌<◌, ◌≤◌, Bool, true, false, [], ◌∷◌, ◌++◌, length, take, drop, replicate, vec_len, vec_capacity};
+//! Changes of vectors whose room was taken before, so that none runs out of memory. The disk and the sink in
+//! memory call these, and other crates call `put` and `put_bytes`.
+ghost use Rattle.std.specs.Prelude.{◌≡◌, ◌+◌, ◌-◌, ◌<◌, ◌≤◌, Bool, true, false, [], ◌∷◌, ◌++◌, length, take, drop};
+ghost use Rattle.std.specs.Prelude.{replicate, vec_len, vec_capacity};
 ghost use Rattle.fix_disk.specs.Disk.{overwritten};
 
 /// Puts a value into room that is there.
@@ -27,7 +30,7 @@ pub fn put_bytes(held: &mut Vec<u8>, bytes: &[u8])
     }
 }
 
-// Puts bytes over those that stand from a place on, and behind them.
+// Puts bytes over those that stand from a place on, and after them.
 pub(crate) fn put_over(held: &mut Vec<u8>, at: usize, bytes: &[u8])
     requires within { at ≤ vec_len held.old }
     requires room { at + length bytes.now ≤ vec_capacity held.old }
@@ -51,28 +54,6 @@ pub(crate) fn mark_over(marks: &mut Vec<bool>, at: usize, count: usize)
     fill_up(marks, count - inside, true);
 }
 
-// Marks so many places that are there.
-fn mark_part(marks: &mut Vec<bool>, at: usize, count: usize)
-    requires { at + count ≤ vec_len marks.old }
-    ensures items { marks.new.items ≡ take at marks.old.items ++ (replicate count true ++ drop (at + count) marks.old.items) }
-    ensures len { vec_len marks.new ≡ vec_len marks.old }
-    ensures capacity { vec_capacity marks.new ≡ vec_capacity marks.old }
-{
-    marks[at..at + count].fill(true);
-}
-
-// Puts so many marks behind.
-fn fill_up(marks: &mut Vec<bool>, count: usize, mark: bool)
-    requires { vec_len marks.old + count ≤ vec_capacity marks.old }
-    ensures items { marks.new.items ≡ marks.old.items ++ replicate count mark }
-    ensures capacity { vec_capacity marks.old ≤ vec_capacity marks.new }
-{
-    match marks.resize(marks.len() + count, mark) {
-        Ok(()) => {}
-        Err(_) => unreachable!(),
-    }
-}
-
 // Puts what stands in `bytes` from a place on in place of what stood there.
 pub(crate) fn put_from(held: &mut Vec<u8>, from: usize, bytes: &[u8])
     requires within { from ≤ vec_len held.old }
@@ -94,4 +75,27 @@ pub(crate) fn clear_from(marks: &mut Vec<bool>, from: usize)
     let count = marks.len() - from;
     marks.truncate(from);
     fill_up(marks, count, false);
+}
+
+// Marks so many places that are there.
+fn mark_part(marks: &mut Vec<bool>, at: usize, count: usize)
+    requires { at + count ≤ vec_len marks.old }
+    ensures items { marks.new.items ≡ take at marks.old.items
+        ++ (replicate count true ++ drop (at + count) marks.old.items) }
+    ensures len { vec_len marks.new ≡ vec_len marks.old }
+    ensures capacity { vec_capacity marks.new ≡ vec_capacity marks.old }
+{
+    marks[at..at + count].fill(true);
+}
+
+// Appends so many marks.
+fn fill_up(marks: &mut Vec<bool>, count: usize, mark: bool)
+    requires { vec_len marks.old + count ≤ vec_capacity marks.old }
+    ensures items { marks.new.items ≡ marks.old.items ++ replicate count mark }
+    ensures capacity { vec_capacity marks.old ≤ vec_capacity marks.new }
+{
+    match marks.resize(marks.len() + count, mark) {
+        Ok(()) => {}
+        Err(_) => unreachable!(),
+    }
 }

@@ -1,3 +1,5 @@
+//! What a place of files is to whoever reads them: one call, which may fail. `file_source` and `memory_files`
+//! carry it out.
 ghost use Rattle.fix_disk.specs.Source.{SourceSeen, SourceReads};
 
 use fix_base::Bytes;

@@ -1,3 +1,4 @@
+//! `Sink` over a stream of the system. It writes by `streams`, and counts the writes that failed.
 ghost use Rattle.fix_disk.specs.Sink.{SinkWrites};
 
 use crate::streams::write_out;

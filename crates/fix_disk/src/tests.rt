@@ -1,3 +1,4 @@
+//! Disks, sources and sinks, in memory and over real files: what they give back, and when they fail.
 use super::*;
 use fix_base::{Bytes, OutOfMemory};
 use std::alloc::Global;

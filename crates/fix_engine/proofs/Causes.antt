@@ -2,7 +2,7 @@
 use Rattle.std.proofs.Common.{ℕ, ◌<◌, List, [], ◌∷◌, ◌++◌, Result, Ok, Err, arith}
 use Rattle.std.specs.Prelude.{⊤}
 use Rattle.fix_base.specs.declared.identity.Identity.{Identity}
-use Rattle.fix_base.specs.Seen.{Note, Seen, Faults, Counts, Goes, store_failures, link_failures, app_failures}
+use Rattle.fix_base.specs.Trace.{Note, OutsideSeen, Faults, Counts, HasTrace, store_failures, link_failures, app_failures}
 use Rattle.fix_base.proofs.SeenLemmas.{store_failures-append, link_failures-append, app_failures-append}
 use Rattle.fix_engine.specs.State.{State, Ending, Step}
 use Rattle.fix_engine.specs.declared.state.Ending.TheVariants as ending
@@ -11,14 +11,14 @@ use Rattle.fix_engine.specs.Answer.{Performed, nothing, count, go_up, close, giv
 use Rattle.fix_engine.specs.Answer.{spent, keep_memory, keep_lost, sent, write_lost, write_memory}
 use Rattle.fix_fields.specs.Drafted.{DraftText}
 use Rattle.fix_engine.specs.declared.stop.SendFault.{SendFault}
-use Rattle.fix_engine.specs.Turn.{Live, Taken, no_more, ends as ends_at, goes as goes_on, Fed, fed_frames, fed_memory}
-use Rattle.fix_engine.specs.Turn.{Heard, bytes, idle, over, read_lost, read_memory, Clocked, now, now_memory}
-use Rattle.fix_engine.specs.Turn.{KeptExpected, same, kept, expect_lost, expect_memory}
+use Rattle.fix_engine.specs.Reading.{ConnectionSeen, AnswerFrames, no_more, ends as ends_at, goes as goes_on, Feed, fed_frames, fed_memory}
+use Rattle.fix_engine.specs.Reading.{ReadFrames, bytes, idle, over, read_lost, read_memory, ReadClock, now, now_memory}
+use Rattle.fix_engine.specs.Reading.{StoreExpected, same, kept, expect_lost, expect_memory}
 use Rattle.fix_engine.specs.Drafted as drafted
 use Rattle.fix_engine.specs.Drafted.{Drafting}
-use Rattle.fix_engine.specs.Desk as desk
-use Rattle.fix_engine.specs.Desk.{Desk, Sends, Holding, Offered, beside, Met, Turn, stops, keeps, keeps_not, Ran}
-use Rattle.fix_engine.specs.Desk.{all_turns, cut, cut_memory, no_cut}
+use Rattle.fix_engine.specs.Turn as turn_seen
+use Rattle.fix_engine.specs.Turn.{TurnSeen, SendDraft, SendPending, OfferDraft, beside, SendReadClock, Turn, stops, keeps, keeps_not, RunAndCut}
+use Rattle.fix_engine.specs.Turn.{all_turns, cut, cut_memory, no_cut}
 use Rattle.fix_engine.specs.Run.{RunHasCause}
 use Rattle.fix_engine.specs.Faults.{sent_ending, run_end}
 use Rattle.fix_engine.proofs.SendLemmas.{drafting_blames}
@@ -79,34 +79,34 @@ Performed-blames id frame s x notes r s' (sent say n text h said) = tt
 Performed-blames id frame s x notes r s' (write_lost say n text k h said) = omega arith
 Performed-blames id frame s x notes r s' (write_memory say n h) = tt
 
-Taken-blames : (id : Identity) (l : Live) (notes : List Note) (r : Result ⊤ Ending) (to : Live) →
-    Taken id l notes r to → Blames r notes
-Taken-blames id l notes r to (no_more gives) = tt
-Taken-blames id l notes r to (ends_at frame gives h) = Each-blames (Performed-blames id frame) h.carried
-Taken-blames id l notes r to (goes_on frame gives h more) = Blames-behind _ _ _ (Taken-blames id _ _ _ _ more)
+AnswerFrames-blames : (id : Identity) (l : ConnectionSeen) (notes : List Note) (r : Result ⊤ Ending) (to : ConnectionSeen) →
+    AnswerFrames id l notes r to → Blames r notes
+AnswerFrames-blames id l notes r to (no_more gives) = tt
+AnswerFrames-blames id l notes r to (ends_at frame gives h) = Each-blames (Performed-blames id frame) h.carried
+AnswerFrames-blames id l notes r to (goes_on frame gives h more) = Blames-behind _ _ _ (AnswerFrames-blames id _ _ _ _ more)
 
-Fed-blames : (id : Identity) (b : List ℕ) (l : Live) (notes : List Note) (r : Result ⊤ Ending) (to : Live) →
-    Fed id b l notes r to → Blames r notes
-Fed-blames id b l notes r to (fed_frames d) = Taken-blames id _ _ _ _ d
-Fed-blames id b l notes r to fed_memory = tt
+Feed-blames : (id : Identity) (b : List ℕ) (l : ConnectionSeen) (notes : List Note) (r : Result ⊤ Ending) (to : ConnectionSeen) →
+    Feed id b l notes r to → Blames r notes
+Feed-blames id b l notes r to (fed_frames d) = AnswerFrames-blames id _ _ _ _ d
+Feed-blames id b l notes r to fed_memory = tt
 
-Heard-blames : (id : Identity) (l : Live) (notes : List Note) (r : Result ⊤ Ending) (to : Live) →
-    Heard id l notes r to → Blames r notes
-Heard-blames id l notes r to (bytes b some fits d) = Blames-behind r (_ ∷ []) _ (Fed-blames id b l _ r to d)
-Heard-blames id l notes r to idle = tt
-Heard-blames id l notes r to over = tt
-Heard-blames id l notes r to read_lost = omega arith
-Heard-blames id l notes r to read_memory = tt
+ReadFrames-blames : (id : Identity) (l : ConnectionSeen) (notes : List Note) (r : Result ⊤ Ending) (to : ConnectionSeen) →
+    ReadFrames id l notes r to → Blames r notes
+ReadFrames-blames id l notes r to (bytes b some fits d) = Blames-behind r (_ ∷ []) _ (Feed-blames id b l _ r to d)
+ReadFrames-blames id l notes r to idle = tt
+ReadFrames-blames id l notes r to over = tt
+ReadFrames-blames id l notes r to read_lost = omega arith
+ReadFrames-blames id l notes r to read_memory = tt
 
-Clocked-blames : (l : Live) (notes : List Note) (r : Result ⊤ Ending) (to : Live) → Clocked l notes r to →
+ReadClock-blames : (l : ConnectionSeen) (notes : List Note) (r : Result ⊤ Ending) (to : ConnectionSeen) → ReadClock l notes r to →
     Blames r notes
-Clocked-blames l notes r to (now t) = tt
-Clocked-blames l notes r to now_memory = tt
+ReadClock-blames l notes r to (now t) = tt
+ReadClock-blames l notes r to now_memory = tt
 
-Looked-blames : (id : Identity) {l to : Live} {notes : List Note} {r : Result ⊤ Ending} →
-    AndThen (Heard id) Clocked l notes r to → Blames r notes
-Looked-blames id (first_ends d) = Heard-blames id _ _ _ _ d
-Looked-blames id (both d more) = Blames-behind _ _ _ (Clocked-blames _ _ _ _ more)
+Looked-blames : (id : Identity) {l to : ConnectionSeen} {notes : List Note} {r : Result ⊤ Ending} →
+    AndThen (ReadFrames id) ReadClock l notes r to → Blames r notes
+Looked-blames id (first_ends d) = ReadFrames-blames id _ _ _ _ d
+Looked-blames id (both d more) = Blames-behind _ _ _ (ReadClock-blames _ _ _ _ more)
 
 Drafting-blames : (id : Identity) (draft : DraftText) (s s' : State) (notes : List Note) (r : Result ℕ SendFault) →
     Drafting id draft s notes r s' → Blames (sent_ending r) notes
@@ -118,48 +118,48 @@ Drafting-blames id draft s s' notes r (drafted.write_lost text many up said k) =
     drafting_blames id draft s s' notes r (drafted.write_lost text many up said k)
 Drafting-blames id draft s s' notes r (drafted.write_memory up k) = tt
 
-Sends-blames : (id : Identity) (draft : DraftText) {d to : Desk} {notes : List Note} {r : Result ⊤ Ending} →
-    Sends id draft d notes r to → Blames r notes
-Sends-blames id draft (desk.spent full) = tt
-Sends-blames id draft (desk.sends small is k) = Drafting-blames id draft _ _ _ _ k
+SendDraft-blames : (id : Identity) (draft : DraftText) {d to : TurnSeen} {notes : List Note} {r : Result ⊤ Ending} →
+    SendDraft id draft d notes r to → Blames r notes
+SendDraft-blames id draft (turn_seen.spent full) = tt
+SendDraft-blames id draft (turn_seen.sends small is k) = Drafting-blames id draft _ _ _ _ k
 
-Holding-blames : (id : Identity) {d to : Desk} {notes : List Note} {r : Result ⊤ Ending} → Holding id d notes r to →
+SendPending-blames : (id : Identity) {d to : TurnSeen} {notes : List Note} {r : Result ⊤ Ending} → SendPending id d notes r to →
     Blames r notes
-Holding-blames id (desk.empty held_none) = tt
-Holding-blames id (desk.holds draft some k) = Sends-blames id draft k
+SendPending-blames id (turn_seen.empty held_none) = tt
+SendPending-blames id (turn_seen.holds draft some k) = SendDraft-blames id draft k
 
-Offered-blames : (id : Identity) {d to : Desk} {notes : List Note} {r : Result ⊤ Ending} → Offered id d notes r to →
+OfferDraft-blames : (id : Identity) {d to : TurnSeen} {notes : List Note} {r : Result ⊤ Ending} → OfferDraft id d notes r to →
     Blames r notes
-Offered-blames id (desk.not_up other) = tt
-Offered-blames id (desk.asked {notes = notes} {r = r} given up held_none k) =
-    Blames-behind r (_ ∷ []) notes (Holding-blames id k)
-Offered-blames id (desk.was_in_hand draft up some k) = Sends-blames id draft k
+OfferDraft-blames id (turn_seen.not_up other) = tt
+OfferDraft-blames id (turn_seen.asked {notes = notes} {r = r} given up held_none k) =
+    Blames-behind r (_ ∷ []) notes (SendPending-blames id k)
+OfferDraft-blames id (turn_seen.was_in_hand draft up some k) = SendDraft-blames id draft k
 
-Met-blames : (id : Identity) {d to : Desk} {notes : List Note} {r : Result ⊤ Ending} → Met id d notes r to →
+SendReadClock-blames : (id : Identity) {d to : TurnSeen} {notes : List Note} {r : Result ⊤ Ending} → SendReadClock id d notes r to →
     Blames r notes
-Met-blames id (first_ends d) = Offered-blames id d
-Met-blames id (both d (beside more)) = Blames-behind _ _ _ (Looked-blames id more)
+SendReadClock-blames id (first_ends d) = OfferDraft-blames id d
+SendReadClock-blames id (both d (beside more)) = Blames-behind _ _ _ (Looked-blames id more)
 
-KeptExpected-blames : (l : Live) (notes : List Note) (r : Result ⊤ Ending) (to : Live) → KeptExpected l notes r to →
+StoreExpected-blames : (l : ConnectionSeen) (notes : List Note) (r : Result ⊤ Ending) (to : ConnectionSeen) → StoreExpected l notes r to →
     Blames r notes
-KeptExpected-blames l notes r to (same h) = tt
-KeptExpected-blames l notes r to (kept h) = tt
-KeptExpected-blames l notes r to (expect_lost h) = omega arith
-KeptExpected-blames l notes r to (expect_memory h) = tt
+StoreExpected-blames l notes r to (same h) = tt
+StoreExpected-blames l notes r to (kept h) = tt
+StoreExpected-blames l notes r to (expect_lost h) = omega arith
+StoreExpected-blames l notes r to (expect_memory h) = tt
 
-Turn-blames : (id : Identity) (l : Desk) (u : ⊤) (notes : List Note) (r : Result ⊤ Ending) (to : Desk) →
+Turn-blames : (id : Identity) (l : TurnSeen) (u : ⊤) (notes : List Note) (r : Result ⊤ Ending) (to : TurnSeen) →
     Turn id l notes r to → Blames r notes
-Turn-blames id l u notes r to (stops h d) = Met-blames id d
-Turn-blames id l u notes r to (keeps h d k) = Blames-before _ _ _ (Met-blames id d)
+Turn-blames id l u notes r to (stops h d) = SendReadClock-blames id d
+Turn-blames id l u notes r to (keeps h d k) = Blames-before _ _ _ (SendReadClock-blames id d)
 Turn-blames id l u notes r to (keeps_not {first = a} {more = b} {e = e} h d (beside k)) =
-    Blames-behind (Err e) a b (KeptExpected-blames _ _ _ _ k)
+    Blames-behind (Err e) a b (StoreExpected-blames _ _ _ _ k)
 
-pub Ran-blames : (id : Identity) (n : ℕ) (l : Desk) (notes : List Note) (r : Result ⊤ Ending) (to : Desk) →
-    Ran id n l notes r to → Blames r notes
-Ran-blames id n l notes r to (all_turns d) = tt
-Ran-blames id n l notes r to (cut {notes = a} {e = e} h d) = Blames-before (Err e) a _ (Each-blames (Turn-blames id) d)
-Ran-blames id n l notes r to (cut_memory h d) = tt
-Ran-blames id n l notes r to (no_cut h d) = Each-blames (Turn-blames id) d
+pub RunAndCut-blames : (id : Identity) (n : ℕ) (l : TurnSeen) (notes : List Note) (r : Result ⊤ Ending) (to : TurnSeen) →
+    RunAndCut id n l notes r to → Blames r notes
+RunAndCut-blames id n l notes r to (all_turns d) = tt
+RunAndCut-blames id n l notes r to (cut {notes = a} {e = e} h d) = Blames-before (Err e) a _ (Each-blames (Turn-blames id) d)
+RunAndCut-blames id n l notes r to (cut_memory h d) = tt
+RunAndCut-blames id n l notes r to (no_cut h d) = Each-blames (Turn-blames id) d
 
 caused : (r : Result ⊤ Ending) (old new : Faults) (notes : List Note) → Counts old new notes → Blames r notes →
     RunHasCause (run_end r) old new
@@ -173,6 +173,6 @@ caused (Err ending.LinkFault) old new notes counts h = omega arith
 caused (Err ending.AppFault) old new notes counts h = omega arith
 
 -- a run that answers a fault has its cause
-pub RanTo-has_cause : (id : Identity) (n : ℕ) (l : Desk) (r : Result ⊤ Ending) (to : Desk) (old new : Seen) →
-    Goes old new (λ notes. Ran id n l notes r to) → RunHasCause (run_end r) old.faults new.faults
-RanTo-has_cause id n l r to old new g = caused r old.faults new.faults g.0 g.1.faults (Ran-blames id n l g.0 r to g.2)
+pub RunsTo-has_cause : (id : Identity) (n : ℕ) (l : TurnSeen) (r : Result ⊤ Ending) (to : TurnSeen) (old new : OutsideSeen) →
+    HasTrace old new (λ notes. RunAndCut id n l notes r to) → RunHasCause (run_end r) old.faults new.faults
+RunsTo-has_cause id n l r to old new g = caused r old.faults new.faults g.0 g.1.faults (RunAndCut-blames id n l g.0 r to g.2)

@@ -1,10 +1,6 @@
 -- The frame of a draft of the application.
-<<<<<<< HEAD
-use Rattle.std.proofs.Common.{◌≡◌, ℕ, ◌+◌, ◌≤◌, List, [], ◌∷◌, ◌++◌, length, Option, None, refl, sym, ap, ◌∙◌, subst, append_assoc, length-append, lit≤, arith}
-=======
 use Rattle.std.proofs.Common.{◌≡◌, ℕ, ◌+◌, ◌≤◌, List, [], ◌∷◌, ◌++◌, length, Option, None, refl, sym, ap}
 use Rattle.std.proofs.Common.{◌∙◌, subst, append_assoc, length-append, lit≤, arith}
->>>>>>> 96824219a17e0c1d58d40506ff6d577247a7c6f7
 use Rattle.std.specs.List.{AllByRecursion}
 use Rattle.std.specs.Fmt.{decimal}
 use Rattle.fix_base.specs.declared.identity.Identity.{Identity}
@@ -12,12 +8,8 @@ use Rattle.fix_base.specs.Session.{IsValidIdentity}
 use Rattle.fix_base.specs.Fields.{Field, FieldsAfter}
 use Rattle.fix_base.specs.Sealed.{sealed}
 use Rattle.fix_base.specs.Says.{field_text, fields_text}
-<<<<<<< HEAD
-use Rattle.fix_base.specs.Payload.{field, IsEntryField, IsBodyOf, IsPersistentEntry, LAST_TIME}
-=======
 use Rattle.fix_base.specs.Payload.{field, IsEntryField, IsBodyOf, IsPersistentEntry}
 use Rattle.fix_base.specs.Payload.{LAST_TIME}
->>>>>>> 96824219a17e0c1d58d40506ff6d577247a7c6f7
 use Rattle.fix_base.specs.Times.{IsTimeTextOf}
 use Rattle.fix_base.specs.Wrote.{original_fields}
 use Rattle.fix_base.proofs.PlainFields.{IsPlainField, plain_announces_nothing}

@@ -1,7 +1,7 @@
 -- What the keeping of a draft comes to.
 use Rattle.std.proofs.Common.{◌≢◌, ℕ, List, Result, Ok, Err}
 use Rattle.fix_base.specs.declared.identity.Identity.{Identity}
-use Rattle.fix_base.specs.Seen.{Note}
+use Rattle.fix_base.specs.Trace.{Note}
 use Rattle.fix_fields.specs.Drafted.{DraftText}
 use Rattle.fix_engine.specs.State.{State, Up}
 use Rattle.fix_engine.specs.declared.stop.SendFault.{SendFault}

@@ -10,7 +10,7 @@ use Rattle.fix_base.specs.Fields.{Field}
 use Rattle.fix_base.specs.Front.{Begins, IsPartOf}
 use Rattle.fix_base.specs.Shape.{IsShape, IsFrame}
 use Rattle.fix_base.specs.Says.{value_of}
-use Rattle.fix_base.specs.Stream.{Ahead, Item, Frame, Span, Byte, ends_in_soh, Takes, HasNoItem, frames}
+use Rattle.fix_base.specs.Stream.{UnreadBytes, Item, Frame, Span, Byte, ends_in_soh, Takes, HasNoItem, frames}
 use Rattle.fix_base.specs.Times.{IsUtcTimestamp}
 use Rattle.fix_base.proofs.Spans.{shape_long, part_short}
 use Rattle.fix_fields.specs.Header.{header_of_fields}
@@ -18,7 +18,7 @@ use Rattle.fix_fields.specs.Value.{IsDigitsOf, IsInt, plain, minus}
 use Rattle.fix_fields.proofs.EnvelopeLemmas.{has_first, begin_is}
 use Rattle.fix_fields.proofs.TimedLemmas.{stamp_same}
 use Rattle.fix_frame.specs.Given.{GivesFrame, GivesNone}
-use Rattle.fix_engine.specs.Inbound.{Inbound, IsOnly, IsSent, IsLogon, IsInbound}
+use Rattle.fix_engine.specs.Inbound.{InboundSeen, IsOnly, IsSent, IsLogon, IsInbound}
 use Rattle.fix_engine.specs.Stated.{CanNotFail}
 use Rattle.fix_engine.proofs.FrameLemmas.{fields_in, frame_has}
 use Rattle.fix_engine.proofs.InboundLemmas.{some_same, only_none}
@@ -77,7 +77,7 @@ each_sent : (value : Option (List ℕ)) → CanNotFail ((sent : Option ℤ) × I
 each_sent None = sure (None, refl)
 each_sent (Some value) = only (IsUtcTimestamp value) (stamp_same value)
 
-pub each_presents : (frame : List ℕ) → IsFrame frame → CanNotFail ((i : Inbound) × IsInbound frame i)
+pub each_presents : (frame : List ℕ) → IsFrame frame → CanNotFail ((i : InboundSeen) × IsInbound frame i)
 each_presents frame f =
     let line = has_first frame f in
     let fields : List Field = fields_in f in
@@ -133,7 +133,7 @@ long_has_item true (b ∷ bytes) long never =
         let fits : length s.text ≤ length (b ∷ bytes) = omega (arith, shape_most s.text s.is) in
         let there : b ∷ bytes ≡ s.text ++ drop (length s.text) (b ∷ bytes) =
         front_there (b ∷ bytes) more s.text rest s.spelled fits in
-        let behind : Ahead = record { may_mark = ends_in_soh s.text; bytes = drop (length s.text) (b ∷ bytes) } in
+        let behind : UnreadBytes = record { may_mark = ends_in_soh s.text; bytes = drop (length s.text) (b ∷ bytes) } in
         never.none (Span s.text) behind
         (record {
           is = (
@@ -146,17 +146,17 @@ long_has_item true (b ∷ bytes) long never =
           mark = refl;
         })
 
-few_bytes : (a : Ahead) → HasNoItem a → length a.bytes < 1048612
+few_bytes : (a : UnreadBytes) → HasNoItem a → length a.bytes < 1048612
 few_bytes a never = elim (cases_lt (length a.bytes) 1048612)
     [ inl less ↦ less | inr long ↦ absurd (long_has_item a.may_mark a.bytes long never) ]
 
 -- the next frame from a place on, or that the bytes have none yet
-pub data Next (a : Ahead) : Type 0 where
-  frame_next : (b : Ahead) (frame : List ℕ) → GivesFrame a b frame → Next a
-  none_next : (b : Ahead) → GivesNone a b → Next a
+pub data Next (a : UnreadBytes) : Type 0 where
+  frame_next : (b : UnreadBytes) (frame : List ℕ) → GivesFrame a b frame → Next a
+  none_next : (b : UnreadBytes) → GivesNone a b → Next a
 
 -- an item that is no frame is skipped
-skip_on : (a b : Ahead) (item : Item) → ((items : List Item) → frames (item ∷ items) ≡ frames items) →
+skip_on : (a b : UnreadBytes) (item : Item) → ((items : List Item) → frames (item ∷ items) ≡ frames items) →
     Takes a item b → Next b → Next a
 skip_on a b item no_frame t (frame_next c frame g) =
     frame_next c frame
@@ -180,11 +180,11 @@ skip_on a b item no_frame t (none_next c g) =
       end = g.end;
     })
 
-abbrev There : Ahead → Type 0
-There a = (item : Item) × (b : Ahead) × Takes a item b
+abbrev There : UnreadBytes → Type 0
+There a = (item : Item) × (b : UnreadBytes) × Takes a item b
 
 -- what stands first, where the next of fewer bytes is known
-by_first : (a : Ahead) → ((b : Ahead) → length b.bytes < length a.bytes → CanNotFail (Next b)) → There a ⊎
+by_first : (a : UnreadBytes) → ((b : UnreadBytes) → length b.bytes < length a.bytes → CanNotFail (Next b)) → There a ⊎
     (There a → ⊥) → CanNotFail (Next a)
 by_first a fewer (inr never) = let none : HasNoItem a = record { none = λ item b t. never (item, b, t) } in
     sure (none_next a
@@ -194,7 +194,7 @@ by_first a fewer (inr never) = let none : HasNoItem a = record { none = λ item 
     }))
 by_first a fewer (inl h) = at_item h.0 h.1 h.2
   where
-    at_item : (item : Item) (b : Ahead) → Takes a item b → CanNotFail (Next a)
+    at_item : (item : Item) (b : UnreadBytes) → Takes a item b → CanNotFail (Next a)
     at_item (Frame text) b t =
         sure (frame_next b text
         (record { at = a; skips = record { items = []; take = refl; none = refl }; frame_there = t }))
@@ -203,9 +203,9 @@ by_first a fewer (inl h) = at_item h.0 h.1 h.2
     at_item (Byte byte) b t = map_sure (skip_on a b (Byte byte) (λ items. refl) t)
         (fewer b (omega (arith, ap length t.spelled, length-append (byte ∷ []) b.bytes)))
 
-next_of_few : (n : ℕ) (a : Ahead) → length a.bytes < n → CanNotFail (Next a)
+next_of_few : (n : ℕ) (a : UnreadBytes) → length a.bytes < n → CanNotFail (Next a)
 next_of_few zero a few = absurd (omega arith)
 next_of_few (suc n) a few = on_sure (decided (There a)) (by_first a (λ b less. next_of_few n b (omega arith)))
 
-pub each_next : (a : Ahead) → CanNotFail (Next a)
+pub each_next : (a : UnreadBytes) → CanNotFail (Next a)
 each_next a = next_of_few (suc (length a.bytes)) a (omega arith)

@@ -16,8 +16,8 @@ use Rattle.fix_base.specs.Session.{mirrored}
 use Rattle.fix_base.specs.Agrees.{Agrees}
 use Rattle.fix_base.specs.Reader.{bytes_read, ReaderKeepsUp}
 use Rattle.fix_base.specs.Payload.{LAST_TIME, IsPersistent}
-use Rattle.fix_base.specs.Seen.{Stores, grown, Note, Did, acts_of, Seen, HoldsOn, Moves, Goes}
-use Rattle.fix_base.proofs.SeenLemmas.{Moves-nil}
+use Rattle.fix_base.specs.Trace.{Stores, grown, Note, Did, acts_of, OutsideSeen, HoldsOn, Trace, HasTrace}
+use Rattle.fix_base.proofs.SeenLemmas.{Trace-nil}
 use Rattle.fix_base.proofs.RunLemmas.{EndRun-append}
 use Rattle.fix_base.proofs.ReaderLemmas.{reader}
 use Rattle.fix_base.proofs.WholeLemmas.{whole_start}
@@ -27,28 +27,28 @@ use Rattle.fix_engine.specs.declared.stop.RunEnd.{RunEnd}
 use Rattle.fix_engine.specs.declared.stop.RunEnd.TheVariants as run
 use Rattle.fix_engine.specs.declared.stop.StopCause.{StopCause}
 use Rattle.fix_engine.specs.declared.stop.BeginFault.{BeginFault}
-use Rattle.fix_engine.specs.Turn.{Live, live}
-use Rattle.fix_engine.specs.declared.hand.Hand.{Hand}
-use Rattle.fix_engine.specs.Desk.{desk, Ran, no_draft}
+use Rattle.fix_engine.specs.Reading.{ConnectionSeen, connection_seen}
+use Rattle.fix_engine.specs.declared.pending.PendingDraft.{PendingDraft}
+use Rattle.fix_engine.specs.Turn.{turn_seen, RunAndCut, no_draft}
 use Rattle.fix_engine.specs.declared.stop.BeginFault.TheVariants as begins
-use Rattle.fix_engine.specs.Run.{Seat, desk_of, seated_at, seated_again, no_bytes, stopped_for_memory, Opens, BeginsTo, opened_to, no_memory, no_memory_to_open, begun}
+use Rattle.fix_engine.specs.Run.{SessionSeen, turn_of, opened_session, reopened_session, no_bytes, stopped_for_memory, Opens, BeginsTo, opened_to, no_memory, no_memory_to_open, begun}
 use Rattle.fix_engine.specs.Faults.{open_behind, run_end, stop_cause}
-use Rattle.fix_engine.specs.Lawful.{HasNumbers, IsCertain, MayHold, silent, Fits, Leads, After, AfterBegin, IsLawfulBegin}
+use Rattle.fix_engine.specs.Lawful.{HasNumbers, IsCertain, IsStoredOrInDoubt, silent, MatchesConnected, LawfulRunTo, After, AfterBegin, IsLawfulBegin}
 use Rattle.fix_engine.specs.InStep as step
-use Rattle.fix_engine.specs.InStep.{IsBeside, IsTape, IsStored, IsInStep, StandsInStep, Trails, IsConnected, AreOfRun, HasServed, bytes_written}
-use Rattle.fix_rim.specs.declared.outside.LoadFault.{LoadFault}
-use Rattle.fix_rim.specs.declared.outside.LoadFault.TheVariants as load
+use Rattle.fix_engine.specs.InStep.{Matches, IsTape, IsStored, IsInStep, IsInStepSinceSome, CanRestart, IsConnected, AreOfRun, HasServed, bytes_written}
+use Rattle.fix_outside.specs.declared.outside.LoadFault.{LoadFault}
+use Rattle.fix_outside.specs.declared.outside.LoadFault.TheVariants as load
 use Rattle.fix_engine.specs.declared.stop.StopCause.TheVariants as stops
-use Rattle.fix_rim.specs.Outside.{IsStoredOf, IsLoaded, loads}
+use Rattle.fix_outside.specs.Outside.{IsStoredOf, IsLoaded, loads}
 use Rattle.fix_engine.proofs.RestartLemmas.{restarts_at}
 use Rattle.fix_engine.proofs.EachFrame.{decided, map_sure}
 use Rattle.fix_engine.proofs.BeginLemmas.{begins_ok, begins_err}
 use Rattle.fix_engine.proofs.LeadsLemmas.{leads_nowhere, leads_step, holds_end, Stores-split}
 use Rattle.fix_engine.proofs.ReadLemmas.{read_nothing}
 use Rattle.fix_engine.proofs.LogonLemmas.{never_asks, plain_nothing}
-use Rattle.fix_engine.proofs.LawfulRuns.{Ran-lawful}
+use Rattle.fix_engine.proofs.LawfulRuns.{RunAndCut-lawful}
 use Rattle.fix_engine.proofs.WritingLemmas.{run_wrote, run_persistent}
-use Rattle.fix_engine.proofs.RunActs.{of_run-append, of_run_one, Ran-plainly}
+use Rattle.fix_engine.proofs.RunActs.{of_run-append, of_run_one, RunAndCut-plainly}
 
 -- ---- what is told
 
@@ -71,7 +71,7 @@ pub store_moves : (P Q : End → Type 0) (acts : List Act) (from to : End) → H
 store_moves P Q acts from to moves follows h e q = some_end e to (told_holds P Q acts from (λ held. held ≡ Some to) moves follows h e q)
 
 -- the same over two lists of acts
-pub stored_on : (first between : End) (xs ys : List Act) (doubt : Option Record) (last : End) → ((held : Option End) → Stores xs (Some first) held → held ≡ Some between) → ((held : Option End) → Stores ys (Some between) held → MayHold doubt last held) → (held : Option End) → Stores (xs ++ ys) (Some first) held → MayHold doubt last held
+pub stored_on : (first between : End) (xs ys : List Act) (doubt : Option Record) (last : End) → ((held : Option End) → Stores xs (Some first) held → held ≡ Some between) → ((held : Option End) → Stores ys (Some between) held → IsStoredOrInDoubt doubt last held) → (held : Option End) → Stores (xs ++ ys) (Some first) held → IsStoredOrInDoubt doubt last held
 stored_on first between xs ys doubt last before behind held s =
     let parts = Stores-split xs ys (Some first) held s in
     behind held (subst (λ o. Stores ys o held) (before parts.0 parts.1) parts.2)
@@ -79,7 +79,7 @@ stored_on first between xs ys doubt last before behind held s =
 -- ---- a new session
 
 -- a session of which nothing is stored is in step with an outside that stores nothing
-pub new_in_step : (id : Identity) (w : Seen) (before : List Act) → IsTape w before → IsStored w new_end → w.open_at ≡ Some 0 → IsInStep (new_state Acceptor) before w (record { identity = id; live = live first_state no_bytes; hand = no_draft; stopped = None })
+pub new_in_step : (id : Identity) (w : OutsideSeen) (before : List Act) → IsTape w before → IsStored w new_end → w.open_at ≡ Some 0 → IsInStep (new_state Acceptor) before w (record { identity = id; connection = connection_seen first_state no_bytes; pending = no_draft; stopped = None })
 new_in_step id w before tape stored opens = record {
   acts = [];
   to = new_state Acceptor;
@@ -92,16 +92,16 @@ new_in_step id w before tape stored opens = record {
 
 -- ---- a run of turns
 
-pub beside_settled : (id : Identity) (l : Live) (e : EndState) → IsBeside id l e → IsCertain l.state e
+pub beside_settled : (id : Identity) (l : ConnectionSeen) (e : EndState) → Matches id l e → IsCertain l.state e
 beside_settled id l e (step.connected f) = f.on.settled
 beside_settled id l e (step.down p h) = h
 
-pub beside_fits : (id : Identity) (l : Live) (e : EndState) → l.state.phase ≢ Down → IsBeside id l e → Fits id l e
+pub beside_fits : (id : Identity) (l : ConnectionSeen) (e : EndState) → l.state.phase ≢ Down → Matches id l e → MatchesConnected id l e
 beside_fits id l e is_open (step.connected f) = f
 beside_fits id l e is_open (step.down p h) = absurd (is_open p)
 
 -- a session that isn't stopped behind a run is in step
-after_beside : (id : Identity) (r : Result ⊤ Ending) (to : Live) (e : EndState) → stop_cause (run_end r) ≡ None → After id (run_end r) to e → IsBeside id to e
+after_beside : (id : Identity) (r : Result ⊤ Ending) (to : ConnectionSeen) (e : EndState) → stop_cause (run_end r) ≡ None → After id (run_end r) to e → Matches id to e
 after_beside id (Ok x) to e none h = step.connected h
 after_beside id (Err (ending.Closed why)) to e none h = step.down h.phase h.settled
 after_beside id (Err (ending.NotBuilt n)) to e none h = step.down h.phase h.settled
@@ -111,12 +111,12 @@ after_beside id (Err ending.AppFault) to e none h = cc
 after_beside id (Err ending.StoreFault) to e none h = cc
 after_beside id (Err ending.OutOfMemory) to e none h = cc
 
-abbrev pub seated : Seat → Live → Hand → Option StopCause → Seat
-seated seat to hand stopped = record { identity = seat.identity; live = to; hand = hand; stopped = stopped }
+abbrev pub seated : SessionSeen → ConnectionSeen → PendingDraft → Option StopCause → SessionSeen
+seated session to pending stopped = record { identity = session.identity; connection = to; pending = pending; stopped = stopped }
 
 -- calls that lead an end to one that is in step
-pub moved : (start : EndState) (before : List Act) (old new : Seen) (seat : Seat) (to : Live) (hand : Hand) (stopped : Option StopCause) (notes : List Note) (P : EndState → Type 0) → Moves old new notes → new.open_at ≡ Some to.state.last → ((e : EndState) → P e → IsBeside seat.identity to e) → (h : IsInStep start before old seat) → Leads seat.identity h.to (acts_of notes) P → IsInStep start before new (seated seat to hand stopped)
-moved start before old new seat to hand stopped notes P m opens beside h l =
+pub moved : (start : EndState) (before : List Act) (old new : OutsideSeen) (session : SessionSeen) (to : ConnectionSeen) (pending : PendingDraft) (stopped : Option StopCause) (notes : List Note) (P : EndState → Type 0) → Trace old new notes → new.open_at ≡ Some to.state.last → ((e : EndState) → P e → Matches session.identity to e) → (h : IsInStep start before old session) → LawfulRunTo session.identity h.to (acts_of notes) P → IsInStep start before new (seated session to pending stopped)
+moved start before old new session to pending stopped notes P m opens beside h l =
     let b = beside l.to l.holds in
     record {
       acts = h.acts ++ acts_of notes;
@@ -124,7 +124,7 @@ moved start before old new seat to hand stopped notes P m opens beside h l =
       run = EndRun-append h.run l.run;
       beside = b;
       tape = subst (λ acts. IsTape new acts) (append_assoc before h.acts (acts_of notes)) (tape_moves old.tape new.tape (before ++ h.acts) (acts_of notes) m.tape h.tape);
-      stored = store_moves old.Holds new.Holds (acts_of notes) h.to.end l.to.end m.stored (λ held s. holds_end l.to.doubt l.to.end held (beside_settled seat.identity to l.to b).doubt (l.store held s)) h.stored;
+      stored = store_moves old.Holds new.Holds (acts_of notes) h.to.end l.to.end m.stored (λ held s. holds_end l.to.doubt l.to.end held (beside_settled session.identity to l.to b).doubt (l.store held s)) h.stored;
       opens = opens;
     }
 
@@ -144,11 +144,11 @@ open_unstopped (Err ending.StoreFault) s none = cc
 open_unstopped (Err ending.OutOfMemory) s none = refl
 
 -- a session that isn't stopped by a run stays in step
-pub run_in_step : (n : ℕ) (seat : Seat) (r : Result ⊤ Ending) (to : Live) (hand : Hand) (old new : Seen) → seat.live.state.phase ≢ Down → new.open_at ≡ open_behind r to.state → Goes old new (λ notes. Ran seat.identity n (desk_of seat) notes r (desk to hand)) → IfNone (stop_cause (run_end r)) ((start : EndState) (before : List Act) → IsInStep start before old seat → IsInStep start before new (seated seat to hand (stop_cause (run_end r))))
-run_in_step n seat r to hand old new is_open opens g =
-    if_none (stop_cause (run_end r)) ((start : EndState) (before : List Act) → IsInStep start before old seat → IsInStep start before new (seated seat to hand (stop_cause (run_end r))))
-    (λ none start before h. moved start before old new seat to hand (stop_cause (run_end r)) g.0 (After seat.identity (run_end r) to) g.1 (opens ∙ open_unstopped r to.state none) (λ e k. after_beside seat.identity r to e none k) h
-    (Ran-lawful seat.identity n (desk_of seat) g.0 r (desk to hand) g.2 h.to (beside_fits seat.identity seat.live h.to is_open h.beside)))
+pub run_in_step : (n : ℕ) (session : SessionSeen) (r : Result ⊤ Ending) (to : ConnectionSeen) (pending : PendingDraft) (old new : OutsideSeen) → session.connection.state.phase ≢ Down → new.open_at ≡ open_behind r to.state → HasTrace old new (λ notes. RunAndCut session.identity n (turn_of session) notes r (turn_seen to pending)) → IfNone (stop_cause (run_end r)) ((start : EndState) (before : List Act) → IsInStep start before old session → IsInStep start before new (seated session to pending (stop_cause (run_end r))))
+run_in_step n session r to pending old new is_open opens g =
+    if_none (stop_cause (run_end r)) ((start : EndState) (before : List Act) → IsInStep start before old session → IsInStep start before new (seated session to pending (stop_cause (run_end r))))
+    (λ none start before h. moved start before old new session to pending (stop_cause (run_end r)) g.0 (After session.identity (run_end r) to) g.1 (opens ∙ open_unstopped r to.state none) (λ e k. after_beside session.identity r to e none k) h
+    (RunAndCut-lawful session.identity n (turn_of session) g.0 r (turn_seen to pending) g.2 h.to (beside_fits session.identity session.connection h.to is_open h.beside)))
 
 -- only a run that made all its turns answers so
 spent_ok : (r : Result ⊤ Ending) → run_end r ≡ run.TurnsSpent → r ≡ Ok tt
@@ -162,17 +162,17 @@ spent_ok (Err ending.StoreFault) e = cc
 spent_ok (Err ending.OutOfMemory) e = cc
 
 -- where all turns were made, the connection goes on
-pub run_connected : (n : ℕ) (seat : Seat) (r : Result ⊤ Ending) (to : Live) (hand : Hand) (stopped : Option StopCause) (old new : Seen) → seat.live.state.reading ≤ LAST_TIME → new.open_at ≡ open_behind r to.state → Goes old new (λ notes. Ran seat.identity n (desk_of seat) notes r (desk to hand)) → run_end r ≡ run.TurnsSpent → (start : EndState) (before : List Act) → IsConnected start before old seat → IsConnected start before new (seated seat to hand stopped)
-run_connected n seat r to hand stopped old new small opens g spent start before h =
+pub run_connected : (n : ℕ) (session : SessionSeen) (r : Result ⊤ Ending) (to : ConnectionSeen) (pending : PendingDraft) (stopped : Option StopCause) (old new : OutsideSeen) → session.connection.state.reading ≤ LAST_TIME → new.open_at ≡ open_behind r to.state → HasTrace old new (λ notes. RunAndCut session.identity n (turn_of session) notes r (turn_seen to pending)) → run_end r ≡ run.TurnsSpent → (start : EndState) (before : List Act) → IsConnected start before old session → IsConnected start before new (seated session to pending stopped)
+run_connected n session r to pending stopped old new small opens g spent start before h =
     let acts = acts_of g.0 in
-    let d = desk_of seat in
-    let ran : Ran seat.identity n d g.0 (Ok tt) (desk to hand) = subst (λ (x : Result ⊤ Ending). Ran seat.identity n d g.0 x (desk to hand)) (spent_ok r spent) g.2 in
-    let l = Ran-lawful seat.identity n d g.0 (Ok tt) (desk to hand) ran h.to h.fits in
+    let d = turn_of session in
+    let ran : RunAndCut session.identity n d g.0 (Ok tt) (turn_seen to pending) = subst (λ (x : Result ⊤ Ending). RunAndCut session.identity n d g.0 x (turn_seen to pending)) (spent_ok r spent) g.2 in
+    let l = RunAndCut-lawful session.identity n d g.0 (Ok tt) (turn_seen to pending) ran h.to h.fits in
     record {
       opened = h.opened;
       opens = h.opens;
       acts = h.acts ++ acts;
-      ran = of_run-append h.acts acts h.ran (Ran-plainly seat.identity n d g.0 (Ok tt) (desk to hand) ran small);
+      ran = of_run-append h.acts acts h.ran (RunAndCut-plainly session.identity n d g.0 (Ok tt) (turn_seen to pending) ran small);
       to = l.to;
       run = EndRun-append h.run l.run;
       fits = l.holds;
@@ -183,13 +183,13 @@ run_connected n seat r to hand stopped old new small opens g spent start before 
     }
 
 -- what it wrote is lawful, and the session keeps up with its counterparty
-pub run_serves : (n : ℕ) (seat : Seat) (r : Result ⊤ Ending) (to : Live) (hand : Hand) (old new : Seen) → seat.live.state.reading ≤ LAST_TIME → Goes old new (λ notes. Ran seat.identity n (desk_of seat) notes r (desk to hand)) → (start : EndState) (before : List Act) (h : IsConnected start before old seat) → Goes old new (λ notes. HasServed seat.identity (run_end r) to start h.opened (h.acts ++ acts_of notes))
-run_serves n seat r to hand old new small g start before h =
-    let id = seat.identity in
+pub run_serves : (n : ℕ) (session : SessionSeen) (r : Result ⊤ Ending) (to : ConnectionSeen) (pending : PendingDraft) (old new : OutsideSeen) → session.connection.state.reading ≤ LAST_TIME → HasTrace old new (λ notes. RunAndCut session.identity n (turn_of session) notes r (turn_seen to pending)) → (start : EndState) (before : List Act) (h : IsConnected start before old session) → HasTrace old new (λ notes. HasServed session.identity (run_end r) to start h.opened (h.acts ++ acts_of notes))
+run_serves n session r to pending old new small g start before h =
+    let id = session.identity in
     let acts = h.acts ++ acts_of g.0 in
-    let l = Ran-lawful id n (desk_of seat) g.0 r (desk to hand) g.2 h.to h.fits in
+    let l = RunAndCut-lawful id n (turn_of session) g.0 r (turn_seen to pending) g.2 h.to h.fits in
     let run : EndRun id h.opened acts l.to = EndRun-append h.run l.run in
-    let ran : AreOfRun acts = of_run-append h.acts (acts_of g.0) h.ran (Ran-plainly id n (desk_of seat) g.0 r (desk to hand) g.2 small) in (
+    let ran : AreOfRun acts = of_run-append h.acts (acts_of g.0) h.ran (RunAndCut-plainly id n (turn_of session) g.0 r (turn_seen to pending) g.2 small) in (
       g.0,
       g.1,
       record {
@@ -205,12 +205,12 @@ run_serves n seat r to hand old new small g start before h =
     )
 
 -- over what another session wrote, a session keeps up with it
-pub sessions_agree : (id : Identity) (first second : RunEnd) (a b : Live) (mine theirs opened facing : EndState) (acts others : List Act) (x : HasServed id first a mine opened acts) (y : HasServed (mirrored id) second b theirs facing others) → IsPersistent theirs.end → IsPrefixOf (bytes_read acts) (bytes_written others) → Agrees mine.end.stored mine.handled theirs.end → Agrees mine.expected mine.handled theirs.end → ReaderKeepsUp theirs.end y.to.end acts x.to
+pub sessions_agree : (id : Identity) (first second : RunEnd) (a b : ConnectionSeen) (mine theirs opened facing : EndState) (acts others : List Act) (x : HasServed id first a mine opened acts) (y : HasServed (mirrored id) second b theirs facing others) → IsPersistent theirs.end → IsPrefixOf (bytes_read acts) (bytes_written others) → Agrees mine.end.stored mine.handled theirs.end → Agrees mine.expected mine.handled theirs.end → ReaderKeepsUp theirs.end y.to.end acts x.to
 sessions_agree id first second a b mine theirs opened facing acts others x y kept front stored running =
     x.keeps_up theirs.end y.to.end (record { wrote = bytes_written others; persistent = y.persistent kept; writes = y.wrote; front = front; stored = stored; running = running })
 
 -- and the other with the one
-pub sessions_agree_back : (id : Identity) (first second : RunEnd) (a b : Live) (mine theirs opened facing : EndState) (acts others : List Act) (x : HasServed id first a mine opened acts) (y : HasServed (mirrored id) second b theirs facing others) → IsPersistent mine.end → IsPrefixOf (bytes_read others) (bytes_written acts) → Agrees theirs.end.stored theirs.handled mine.end → Agrees theirs.expected theirs.handled mine.end → ReaderKeepsUp mine.end x.to.end others y.to
+pub sessions_agree_back : (id : Identity) (first second : RunEnd) (a b : ConnectionSeen) (mine theirs opened facing : EndState) (acts others : List Act) (x : HasServed id first a mine opened acts) (y : HasServed (mirrored id) second b theirs facing others) → IsPersistent mine.end → IsPrefixOf (bytes_read others) (bytes_written acts) → Agrees theirs.end.stored theirs.handled mine.end → Agrees theirs.expected theirs.handled mine.end → ReaderKeepsUp mine.end x.to.end others y.to
 sessions_agree_back id first second a b mine theirs opened facing acts others x y kept front stored running =
     y.keeps_up mine.end x.to.end (record { wrote = bytes_written acts; persistent = x.persistent kept; writes = x.wrote; front = front; stored = stored; running = running })
 
@@ -222,7 +222,7 @@ new_connection e = record { opened = e.end; read = []; written = []; base = leng
 abbrev pub opened_by : EndState → EndState
 opened_by e = record e { offered = None; connection = Some (new_connection e) }
 
-pub fits_opened : (id : Identity) (l : Live) (t : ℕ) (e : EndState) → IsCertain l.state e → Fits id (begun l t) (opened_by e)
+pub fits_opened : (id : Identity) (l : ConnectionSeen) (t : ℕ) (e : EndState) → IsCertain l.state e → MatchesConnected id (begun l t) (opened_by e)
 fits_opened id l t e h = record {
   connection = new_connection e;
   on = record {
@@ -244,35 +244,35 @@ pub opening : (id : Identity) (s : EndState) → s.role ≡ Acceptor → s.doubt
 opening id s role none = record { certain = none; row = steps.opened (λ asking. absurd (never_asks s role asking)) }
 
 -- the opening of a connection is a run of a lawful end
-Begins-lawful : {T : Type 0} (old new : Seat) (r : Result T BeginFault) (notes : List Note) → BeginsTo old r new notes → IsLawfulBegin old r new notes
+Begins-lawful : {T : Type 0} (old new : SessionSeen) (r : Result T BeginFault) (notes : List Note) → BeginsTo old r new notes → IsLawfulBegin old r new notes
 Begins-lawful old new r notes (opened_to t) e h =
-    leads_step old.identity e e (act.Now t) (act.Opened ∷ []) (Fits old.identity (begun old.live t)) (record { certain = h.doubt; row = steps.now t }) (λ held k. k)
-    (leads_step old.identity e (opened_by e) act.Opened [] (Fits old.identity (begun old.live t)) (opening old.identity e h.numbers.role h.doubt) (λ held k. k)
-    (leads_nowhere old.identity (opened_by e) (Fits old.identity (begun old.live t)) (fits_opened old.identity old.live t e h)))
-Begins-lawful old new r notes no_memory e h = leads_nowhere old.identity e (IsCertain old.live.state) h
+    leads_step old.identity e e (act.Now t) (act.Opened ∷ []) (MatchesConnected old.identity (begun old.connection t)) (record { certain = h.doubt; row = steps.now t }) (λ held k. k)
+    (leads_step old.identity e (opened_by e) act.Opened [] (MatchesConnected old.identity (begun old.connection t)) (opening old.identity e h.numbers.role h.doubt) (λ held k. k)
+    (leads_nowhere old.identity (opened_by e) (MatchesConnected old.identity (begun old.connection t)) (fits_opened old.identity old.connection t e h)))
+Begins-lawful old new r notes no_memory e h = leads_nowhere old.identity e (IsCertain old.connection.state) h
 Begins-lawful old new r notes (no_memory_to_open t) e h =
-    leads_step old.identity e e (act.Now t) [] (IsCertain old.live.state) (record { certain = h.doubt; row = steps.now t }) (λ held k. k) (leads_nowhere old.identity e (IsCertain old.live.state) h)
+    leads_step old.identity e e (act.Now t) [] (IsCertain old.connection.state) (record { certain = h.doubt; row = steps.now t }) (λ held k. k) (leads_nowhere old.identity e (IsCertain old.connection.state) h)
 
-pub begin_lawful : {T : Type 0} (old new : Seat) (r : Result T BeginFault) (a b : Seen) → Goes a b (BeginsTo old r new) → Goes a b (IsLawfulBegin old r new)
+pub begin_lawful : {T : Type 0} (old new : SessionSeen) (r : Result T BeginFault) (a b : OutsideSeen) → HasTrace a b (BeginsTo old r new) → HasTrace a b (IsLawfulBegin old r new)
 begin_lawful old new r a b g = (g.0, g.1, Begins-lawful old new r g.0 g.2)
 
 -- a session that isn't stopped is in step on the new connection
-Begins-in_step : {T : Type 0} (old new : Seat) (r : Result T BeginFault) (a b : Seen) (notes : List Note) → b.open_at ≡ a.open_at → Moves a b notes → BeginsTo old r new notes → IfNone new.stopped ((start : EndState) (before : List Act) → IsInStep start before a old → IsInStep start before b new)
+Begins-in_step : {T : Type 0} (old new : SessionSeen) (r : Result T BeginFault) (a b : OutsideSeen) (notes : List Note) → b.open_at ≡ a.open_at → Trace a b notes → BeginsTo old r new notes → IfNone new.stopped ((start : EndState) (before : List Act) → IsInStep start before a old → IsInStep start before b new)
 Begins-in_step old new r a b notes same m (opened_to {x = x} t) =
-    λ start before h. moved start before a b old (begun old.live t) old.hand None notes (Fits old.identity (begun old.live t)) m (same ∙ h.opens) (λ e f. step.connected f) h
-    (Begins-lawful old new (Ok x) notes (opened_to t) h.to (beside_settled old.identity old.live h.to h.beside))
+    λ start before h. moved start before a b old (begun old.connection t) old.pending None notes (MatchesConnected old.identity (begun old.connection t)) m (same ∙ h.opens) (λ e f. step.connected f) h
+    (Begins-lawful old new (Ok x) notes (opened_to t) h.to (beside_settled old.identity old.connection h.to h.beside))
 Begins-in_step old new r a b notes same m no_memory = tt
 Begins-in_step old new r a b notes same m (no_memory_to_open t) = tt
 
-pub begin_in_step : {T : Type 0} (old new : Seat) (r : Result T BeginFault) (a b : Seen) → b.open_at ≡ a.open_at → Goes a b (BeginsTo old r new) → IfNone new.stopped ((start : EndState) (before : List Act) → IsInStep start before a old → IsInStep start before b new)
+pub begin_in_step : {T : Type 0} (old new : SessionSeen) (r : Result T BeginFault) (a b : OutsideSeen) → b.open_at ≡ a.open_at → HasTrace a b (BeginsTo old r new) → IfNone new.stopped ((start : EndState) (before : List Act) → IsInStep start before a old → IsInStep start before b new)
 begin_in_step old new r a b same g = Begins-in_step old new r a b g.0 same g.1 g.2
 
 -- and from there on it is connected
-Begins-connected : {T : Type 0} (old new : Seat) (r : Result T BeginFault) (a b : Seen) (notes : List Note) → b.open_at ≡ a.open_at → Moves a b notes → BeginsTo old r new notes → IfNone new.stopped ((start : EndState) (before : List Act) (h : IsInStep start before a old) → (time : ℕ) × IsConnected h.to (before ++ h.acts ++ act.Now time ∷ []) b new)
+Begins-connected : {T : Type 0} (old new : SessionSeen) (r : Result T BeginFault) (a b : OutsideSeen) (notes : List Note) → b.open_at ≡ a.open_at → Trace a b notes → BeginsTo old r new notes → IfNone new.stopped ((start : EndState) (before : List Act) (h : IsInStep start before a old) → (time : ℕ) × IsConnected h.to (before ++ h.acts ++ act.Now time ∷ []) b new)
 Begins-connected old new r a b notes same m (opened_to t) =
     λ start before h.
     (let e = h.to in
-    let settled = beside_settled old.identity old.live e h.beside in (
+    let settled = beside_settled old.identity old.connection e h.beside in (
       t,
       record {
         opened = opened_by e;
@@ -281,7 +281,7 @@ Begins-connected old new r a b notes same m (opened_to t) =
         ran = tt;
         to = opened_by e;
         run = steps.stop;
-        fits = fits_opened old.identity old.live t e settled;
+        fits = fits_opened old.identity old.connection t e settled;
         tape = subst (λ (w : List Act). IsTape b w) (again before h.acts t) (tape_moves a.tape b.tape (before ++ h.acts) (act.Now t ∷ act.Opened ∷ []) m.tape h.tape);
         stored = store_moves a.Holds b.Holds (act.Now t ∷ act.Opened ∷ []) e.end e.end m.stored (λ held s. s.2.2 ∙ s.2.1 ∙ s.1) h.stored;
         store_open = same ∙ h.opens;
@@ -294,25 +294,25 @@ Begins-connected old new r a b notes same m (opened_to t) =
 Begins-connected old new r a b notes same m no_memory = tt
 Begins-connected old new r a b notes same m (no_memory_to_open t) = tt
 
-pub begin_connected : {T : Type 0} (old new : Seat) (r : Result T BeginFault) (a b : Seen) → b.open_at ≡ a.open_at → Goes a b (BeginsTo old r new) → IfNone new.stopped ((start : EndState) (before : List Act) (h : IsInStep start before a old) → (time : ℕ) × IsConnected h.to (before ++ h.acts ++ act.Now time ∷ []) b new)
+pub begin_connected : {T : Type 0} (old new : SessionSeen) (r : Result T BeginFault) (a b : OutsideSeen) → b.open_at ≡ a.open_at → HasTrace a b (BeginsTo old r new) → IfNone new.stopped ((start : EndState) (before : List Act) (h : IsInStep start before a old) → (time : ℕ) × IsConnected h.to (before ++ h.acts ++ act.Now time ∷ []) b new)
 begin_connected old new r a b same g = Begins-connected old new r a b g.0 same g.1 g.2
 
 -- ---- the exits of `begin`
 
-pub opened_lawful : (old : Seat) (t : ℕ) (a b : Seen) → Goes a b (Opens (Ok t)) → Goes a b (IsLawfulBegin {T = ⊤} old (Ok tt) (seated old (begun old.live t) old.hand None))
-opened_lawful old t a b g = begin_lawful {T = ⊤} old (seated old (begun old.live t) old.hand None) (Ok tt) a b (g.0, g.1, begins_ok old tt t g.0 g.2)
+pub opened_lawful : (old : SessionSeen) (t : ℕ) (a b : OutsideSeen) → HasTrace a b (Opens (Ok t)) → HasTrace a b (IsLawfulBegin {T = ⊤} old (Ok tt) (seated old (begun old.connection t) old.pending None))
+opened_lawful old t a b g = begin_lawful {T = ⊤} old (seated old (begun old.connection t) old.pending None) (Ok tt) a b (g.0, g.1, begins_ok old tt t g.0 g.2)
 
-pub opened_in_step : (old : Seat) (t : ℕ) (a b : Seen) → b.open_at ≡ a.open_at → Goes a b (Opens (Ok t)) → (start : EndState) (before : List Act) → IsInStep start before a old → IsInStep start before b (seated old (begun old.live t) old.hand None)
-opened_in_step old t a b same g = begin_in_step {T = ⊤} old (seated old (begun old.live t) old.hand None) (Ok tt) a b same (g.0, g.1, begins_ok old tt t g.0 g.2)
+pub opened_in_step : (old : SessionSeen) (t : ℕ) (a b : OutsideSeen) → b.open_at ≡ a.open_at → HasTrace a b (Opens (Ok t)) → (start : EndState) (before : List Act) → IsInStep start before a old → IsInStep start before b (seated old (begun old.connection t) old.pending None)
+opened_in_step old t a b same g = begin_in_step {T = ⊤} old (seated old (begun old.connection t) old.pending None) (Ok tt) a b same (g.0, g.1, begins_ok old tt t g.0 g.2)
 
-pub opened_connected : (old : Seat) (t : ℕ) (a b : Seen) → b.open_at ≡ a.open_at → Goes a b (Opens (Ok t)) → (start : EndState) (before : List Act) (h : IsInStep start before a old) → (time : ℕ) × IsConnected h.to (before ++ h.acts ++ act.Now time ∷ []) b (seated old (begun old.live t) old.hand None)
-opened_connected old t a b same g = begin_connected {T = ⊤} old (seated old (begun old.live t) old.hand None) (Ok tt) a b same (g.0, g.1, begins_ok old tt t g.0 g.2)
+pub opened_connected : (old : SessionSeen) (t : ℕ) (a b : OutsideSeen) → b.open_at ≡ a.open_at → HasTrace a b (Opens (Ok t)) → (start : EndState) (before : List Act) (h : IsInStep start before a old) → (time : ℕ) × IsConnected h.to (before ++ h.acts ++ act.Now time ∷ []) b (seated old (begun old.connection t) old.pending None)
+opened_connected old t a b same g = begin_connected {T = ⊤} old (seated old (begun old.connection t) old.pending None) (Ok tt) a b same (g.0, g.1, begins_ok old tt t g.0 g.2)
 
-pub not_opened_lawful : (old : Seat) (fault : BeginFault) (a b : Seen) → Goes a b (Opens (Err fault)) → Goes a b (IsLawfulBegin {T = ⊤} old (Err fault) (stopped_for_memory old))
+pub not_opened_lawful : (old : SessionSeen) (fault : BeginFault) (a b : OutsideSeen) → HasTrace a b (Opens (Err fault)) → HasTrace a b (IsLawfulBegin {T = ⊤} old (Err fault) (stopped_for_memory old))
 not_opened_lawful old fault a b g = begin_lawful {T = ⊤} old (stopped_for_memory old) (Err fault) a b (g.0, g.1, begins_err old fault g.0 g.2)
 
-pub refused_lawful : (old : Seat) (a : Seen) → Goes a a (IsLawfulBegin {T = ⊤} old (Err begins.OutOfMemory) (stopped_for_memory old))
-refused_lawful old a = begin_lawful {T = ⊤} old (stopped_for_memory old) (Err begins.OutOfMemory) a a ([], Moves-nil a, no_memory)
+pub refused_lawful : (old : SessionSeen) (a : OutsideSeen) → HasTrace a a (IsLawfulBegin {T = ⊤} old (Err begins.OutOfMemory) (stopped_for_memory old))
+refused_lawful old a = begin_lawful {T = ⊤} old (stopped_for_memory old) (Err begins.OutOfMemory) a a ([], Trace-nil a, no_memory)
 
 -- ---- a session that was opened over a store
 
@@ -325,7 +325,7 @@ pub tape_of : (tape : Option (List Act)) → (before : List Act) × IfSome tape 
 tape_of None = ([], tt)
 tape_of (Some acts) = (acts, refl)
 
-at_end_in_step : (id : Identity) (stored : Stored) (w : Seen) (e : End) → IsStoredOf stored e → ((x : End) → w.Holds x → x ≡ e) → w.open_at ≡ Some stored.last → (start : EndState) × (before : List Act) × IsInStep start before w (seated_at id stored)
+at_end_in_step : (id : Identity) (stored : Stored) (w : OutsideSeen) (e : End) → IsStoredOf stored e → ((x : End) → w.Holds x → x ≡ e) → w.open_at ≡ Some stored.last → (start : EndState) × (before : List Act) × IsInStep start before w (opened_session id stored)
 at_end_in_step id stored w e numbers all opens =
     let told = tape_of w.tape in (
       at_end e,
@@ -350,13 +350,13 @@ unfolding numbered_end
 numbered_is stored = record { last = sym (length-replicate stored.last (Admin 0 48 0)); expected = refl; since = refl; asked = refl }
 
 -- what a store tells behind a load is what it told before
-loaded_same : (a b : Seen) → HoldsOn a.Holds b.Holds (act.Stop ∷ []) → (e : End) → b.Holds e → (x : End) × a.Holds x × (e ≡ x)
+loaded_same : (a b : OutsideSeen) → HoldsOn a.Holds b.Holds (act.Stop ∷ []) → (e : End) → b.Holds e → (x : End) × a.Holds x × (e ≡ x)
 loaded_same a b moves e h = let was = moves.only e h in (was.0, was.1, some_end e was.0 (was.2.2 ∙ was.2.1))
 
-pub loaded_stands : (id : Identity) (stored : Stored) (a b : Seen) → IsLoaded stored a → Moves a b (Did act.Stop ∷ []) → b.open_at ≡ Some stored.last → StandsInStep b (seated_at id stored)
+pub loaded_stands : (id : Identity) (stored : Stored) (a b : OutsideSeen) → IsLoaded stored a → Trace a b (Did act.Stop ∷ []) → b.open_at ≡ Some stored.last → IsInStepSinceSome b (opened_session id stored)
 loaded_stands id stored a b loaded m opens = record { opens = opens; stands = map_sure by_case (decided ((e : End) × b.Holds e)) }
   where
-    by_case : ((e : End) × b.Holds e) ⊎ ((e : End) × b.Holds e → ⊥) → (start : EndState) × (before : List Act) × IsInStep start before b (seated_at id stored)
+    by_case : ((e : End) × b.Holds e) ⊎ ((e : End) × b.Holds e → ⊥) → (start : EndState) × (before : List Act) × IsInStep start before b (opened_session id stored)
     by_case (inl known) =
         let was = loaded_same a b m.stored known.0 known.1 in
         at_end_in_step id stored b known.0 (subst (IsStoredOf stored) (sym was.2) (loaded.told was.0 was.1))
@@ -364,32 +364,32 @@ loaded_stands id stored a b loaded m opens = record { opens = opens; stands = ma
     by_case (inr never) = at_end_in_step id stored b (numbered_end stored) (numbered_is stored) (λ x h. absurd (never (x, h))) opens
 
 -- a session that is in step with some start stays so
-pub stands_on : (a b : Seen) (old new : Seat) → b.open_at ≡ Some new.live.state.last → ((start : EndState) (before : List Act) → IsInStep start before a old → IsInStep start before b new) → StandsInStep a old → StandsInStep b new
+pub stands_on : (a b : OutsideSeen) (old new : SessionSeen) → b.open_at ≡ Some new.connection.state.last → ((start : EndState) (before : List Act) → IsInStep start before a old → IsInStep start before b new) → IsInStepSinceSome a old → IsInStepSinceSome b new
 stands_on a b old new opens keeps h = record { opens = opens; stands = map_sure (λ x. (x.0, x.1, keeps x.0 x.1 x.2)) h.stands }
 
-pub opened_stands : (old : Seat) (t : ℕ) (a b : Seen) → b.open_at ≡ a.open_at → Goes a b (Opens (Ok t)) → StandsInStep a old → StandsInStep b (seated old (begun old.live t) old.hand None)
-opened_stands old t a b same g h = stands_on a b old (seated old (begun old.live t) old.hand None) (same ∙ h.opens) (opened_in_step old t a b same g) h
+pub opened_stands : (old : SessionSeen) (t : ℕ) (a b : OutsideSeen) → b.open_at ≡ a.open_at → HasTrace a b (Opens (Ok t)) → IsInStepSinceSome a old → IsInStepSinceSome b (seated old (begun old.connection t) old.pending None)
+opened_stands old t a b same g h = stands_on a b old (seated old (begun old.connection t) old.pending None) (same ∙ h.opens) (opened_in_step old t a b same g) h
 
-pub run_stands : (n : ℕ) (seat : Seat) (r : Result ⊤ Ending) (to : Live) (hand : Hand) (old new : Seen) → seat.live.state.phase ≢ Down → new.open_at ≡ open_behind r to.state → Goes old new (λ notes. Ran seat.identity n (desk_of seat) notes r (desk to hand)) → StandsInStep old seat → IfNone (stop_cause (run_end r)) (StandsInStep new (seated seat to hand (stop_cause (run_end r))))
-run_stands n seat r to hand old new is_open opens g h =
-    if_none (stop_cause (run_end r)) (StandsInStep new (seated seat to hand (stop_cause (run_end r))))
-    (λ none. stands_on old new seat (seated seat to hand (stop_cause (run_end r))) (opens ∙ open_unstopped r to.state none)
-    (λ start before k. moved start before old new seat to hand (stop_cause (run_end r)) g.0 (After seat.identity (run_end r) to) g.1 (opens ∙ open_unstopped r to.state none) (λ e q. after_beside seat.identity r to e none q) k
-    (Ran-lawful seat.identity n (desk_of seat) g.0 r (desk to hand) g.2 k.to (beside_fits seat.identity seat.live k.to is_open k.beside))) h)
+pub run_stands : (n : ℕ) (session : SessionSeen) (r : Result ⊤ Ending) (to : ConnectionSeen) (pending : PendingDraft) (old new : OutsideSeen) → session.connection.state.phase ≢ Down → new.open_at ≡ open_behind r to.state → HasTrace old new (λ notes. RunAndCut session.identity n (turn_of session) notes r (turn_seen to pending)) → IsInStepSinceSome old session → IfNone (stop_cause (run_end r)) (IsInStepSinceSome new (seated session to pending (stop_cause (run_end r))))
+run_stands n session r to pending old new is_open opens g h =
+    if_none (stop_cause (run_end r)) (IsInStepSinceSome new (seated session to pending (stop_cause (run_end r))))
+    (λ none. stands_on old new session (seated session to pending (stop_cause (run_end r))) (opens ∙ open_unstopped r to.state none)
+    (λ start before k. moved start before old new session to pending (stop_cause (run_end r)) g.0 (After session.identity (run_end r) to) g.1 (opens ∙ open_unstopped r to.state none) (λ e q. after_beside session.identity r to e none q) k
+    (RunAndCut-lawful session.identity n (turn_of session) g.0 r (turn_seen to pending) g.2 k.to (beside_fits session.identity session.connection k.to is_open k.beside))) h)
 
 -- ---- what is left of a session that stopped
 
-pub trail : (start : EndState) (before : List Act) (old new : Seen) (seat : Seat) (to : Live) (hand : Hand) (stopped : Option StopCause) (notes : List Note) (P : EndState → Type 0) → Moves old new notes → ((e : EndState) → P e → HasNumbers to.state e) → (h : IsInStep start before old seat) → Leads seat.identity h.to (acts_of notes) P → Trails start before new (seated seat to hand stopped)
-trail start before old new seat to hand stopped notes P m numbers h l = record {
+pub trail : (start : EndState) (before : List Act) (old new : OutsideSeen) (session : SessionSeen) (to : ConnectionSeen) (pending : PendingDraft) (stopped : Option StopCause) (notes : List Note) (P : EndState → Type 0) → Trace old new notes → ((e : EndState) → P e → HasNumbers to.state e) → (h : IsInStep start before old session) → LawfulRunTo session.identity h.to (acts_of notes) P → CanRestart start before new (seated session to pending stopped)
+trail start before old new session to pending stopped notes P m numbers h l = record {
   acts = h.acts ++ acts_of notes;
   to = l.to;
   run = EndRun-append h.run l.run;
   numbers = numbers l.to l.holds;
   tape = subst (λ acts. IsTape new acts) (append_assoc before h.acts (acts_of notes)) (tape_moves old.tape new.tape (before ++ h.acts) (acts_of notes) m.tape h.tape);
-  held = told_holds old.Holds new.Holds (acts_of notes) h.to.end (MayHold l.to.doubt l.to.end) m.stored l.store h.stored;
+  held = told_holds old.Holds new.Holds (acts_of notes) h.to.end (IsStoredOrInDoubt l.to.doubt l.to.end) m.stored l.store h.stored;
 }
 
-after_numbers : (id : Identity) (r : Result ⊤ Ending) (to : Live) (e : EndState) → After id (run_end r) to e → HasNumbers to.state e
+after_numbers : (id : Identity) (r : Result ⊤ Ending) (to : ConnectionSeen) (e : EndState) → After id (run_end r) to e → HasNumbers to.state e
 after_numbers id (Ok x) to e h = h.on.settled.numbers
 after_numbers id (Err (ending.Closed why)) to e h = h.settled.numbers
 after_numbers id (Err (ending.NotBuilt n)) to e h = h.settled.numbers
@@ -399,34 +399,34 @@ after_numbers id (Err ending.NumbersSpent) to e h = h.settled.numbers
 after_numbers id (Err ending.StoreFault) to e h = h.numbers
 after_numbers id (Err ending.OutOfMemory) to e h = h.numbers
 
-pub run_trails : (n : ℕ) (seat : Seat) (r : Result ⊤ Ending) (to : Live) (hand : Hand) (stopped : Option StopCause) (old new : Seen) → seat.live.state.phase ≢ Down → Goes old new (λ notes. Ran seat.identity n (desk_of seat) notes r (desk to hand)) → (start : EndState) (before : List Act) → IsInStep start before old seat → Trails start before new (seated seat to hand stopped)
-run_trails n seat r to hand stopped old new is_open g start before h =
-    trail start before old new seat to hand stopped g.0 (After seat.identity (run_end r) to) g.1 (after_numbers seat.identity r to) h
-    (Ran-lawful seat.identity n (desk_of seat) g.0 r (desk to hand) g.2 h.to (beside_fits seat.identity seat.live h.to is_open h.beside))
+pub run_trails : (n : ℕ) (session : SessionSeen) (r : Result ⊤ Ending) (to : ConnectionSeen) (pending : PendingDraft) (stopped : Option StopCause) (old new : OutsideSeen) → session.connection.state.phase ≢ Down → HasTrace old new (λ notes. RunAndCut session.identity n (turn_of session) notes r (turn_seen to pending)) → (start : EndState) (before : List Act) → IsInStep start before old session → CanRestart start before new (seated session to pending stopped)
+run_trails n session r to pending stopped old new is_open g start before h =
+    trail start before old new session to pending stopped g.0 (After session.identity (run_end r) to) g.1 (after_numbers session.identity r to) h
+    (RunAndCut-lawful session.identity n (turn_of session) g.0 r (turn_seen to pending) g.2 h.to (beside_fits session.identity session.connection h.to is_open h.beside))
 
-begins_numbers : {T : Type 0} (id : Identity) (r : Result T BeginFault) (to : Live) (e : EndState) → AfterBegin id r to e → HasNumbers to.state e
+begins_numbers : {T : Type 0} (id : Identity) (r : Result T BeginFault) (to : ConnectionSeen) (e : EndState) → AfterBegin id r to e → HasNumbers to.state e
 begins_numbers id (Ok x) to e h = h.on.settled.numbers
 begins_numbers id (Err begins.OutOfMemory) to e h = h.numbers
 begins_numbers id (Err (begins.Stopped why)) to e h = absurd h
 
-begin_trails : {T : Type 0} (old : Seat) (to : Live) (stopped : Option StopCause) (r : Result T BeginFault) (a b : Seen) → Goes a b (IsLawfulBegin old r (seated old to old.hand stopped)) → (start : EndState) (before : List Act) → IsInStep start before a old → Trails start before b (seated old to old.hand stopped)
+begin_trails : {T : Type 0} (old : SessionSeen) (to : ConnectionSeen) (stopped : Option StopCause) (r : Result T BeginFault) (a b : OutsideSeen) → HasTrace a b (IsLawfulBegin old r (seated old to old.pending stopped)) → (start : EndState) (before : List Act) → IsInStep start before a old → CanRestart start before b (seated old to old.pending stopped)
 begin_trails old to stopped r a b g start before h =
-    trail start before a b old to old.hand stopped g.0 (AfterBegin old.identity r to) g.1 (begins_numbers old.identity r to) h
-    (g.2 h.to (beside_settled old.identity old.live h.to h.beside))
+    trail start before a b old to old.pending stopped g.0 (AfterBegin old.identity r to) g.1 (begins_numbers old.identity r to) h
+    (g.2 h.to (beside_settled old.identity old.connection h.to h.beside))
 
-pub opened_trails : (old : Seat) (t : ℕ) (a b : Seen) → Goes a b (Opens (Ok t)) → (start : EndState) (before : List Act) → IsInStep start before a old → Trails start before b (seated old (begun old.live t) old.hand None)
-opened_trails old t a b g = begin_trails {T = ⊤} old (begun old.live t) None (Ok tt) a b (opened_lawful old t a b g)
+pub opened_trails : (old : SessionSeen) (t : ℕ) (a b : OutsideSeen) → HasTrace a b (Opens (Ok t)) → (start : EndState) (before : List Act) → IsInStep start before a old → CanRestart start before b (seated old (begun old.connection t) old.pending None)
+opened_trails old t a b g = begin_trails {T = ⊤} old (begun old.connection t) None (Ok tt) a b (opened_lawful old t a b g)
 
-pub not_opened_trails : (old : Seat) (fault : BeginFault) (a b : Seen) → Goes a b (Opens (Err fault)) → (start : EndState) (before : List Act) → IsInStep start before a old → Trails start before b (stopped_for_memory old)
-not_opened_trails old fault a b g = begin_trails {T = ⊤} old old.live (Some stops.OutOfMemory) (Err fault) a b (not_opened_lawful old fault a b g)
+pub not_opened_trails : (old : SessionSeen) (fault : BeginFault) (a b : OutsideSeen) → HasTrace a b (Opens (Err fault)) → (start : EndState) (before : List Act) → IsInStep start before a old → CanRestart start before b (stopped_for_memory old)
+not_opened_trails old fault a b g = begin_trails {T = ⊤} old old.connection (Some stops.OutOfMemory) (Err fault) a b (not_opened_lawful old fault a b g)
 
-pub refused_trails : (old : Seat) (a : Seen) (start : EndState) (before : List Act) → IsInStep start before a old → Trails start before a (stopped_for_memory old)
-refused_trails old a = begin_trails {T = ⊤} old old.live (Some stops.OutOfMemory) (Err begins.OutOfMemory) a a (refused_lawful old a)
+pub refused_trails : (old : SessionSeen) (a : OutsideSeen) (start : EndState) (before : List Act) → IsInStep start before a old → CanRestart start before a (stopped_for_memory old)
+refused_trails old a = begin_trails {T = ⊤} old old.connection (Some stops.OutOfMemory) (Err begins.OutOfMemory) a a (refused_lawful old a)
 
 -- ---- a session whose store is opened again
 
 -- whatever a stop left, the session goes on in step
-pub again_in_step : (old : Seat) (stored : Stored) (a b : Seen) → IsLoaded stored a → Moves a b (Did act.Stop ∷ []) → b.open_at ≡ Some stored.last → (start : EndState) (before : List Act) (e : End) → a.Holds e → Trails start before a old → IsInStep start before b (seated_again old stored)
+pub again_in_step : (old : SessionSeen) (stored : Stored) (a b : OutsideSeen) → IsLoaded stored a → Trace a b (Did act.Stop ∷ []) → b.open_at ≡ Some stored.last → (start : EndState) (before : List Act) (e : End) → a.Holds e → CanRestart start before a old → IsInStep start before b (reopened_session old stored)
 again_in_step old stored a b loaded m opens start before e holds t =
     let r = restarts_at old.identity stored t.to e t.numbers.role (t.held e holds) (loaded.told e holds) in
     record {
@@ -441,7 +441,7 @@ again_in_step old stored a b loaded m opens start before e holds t =
       opens = opens;
     }
 
-pub again_stands : (old : Seat) (stored : Stored) (a b : Seen) → IsLoaded stored a → Moves a b (Did act.Stop ∷ []) → b.open_at ≡ Some stored.last → StandsInStep b (seated_again old stored)
+pub again_stands : (old : SessionSeen) (stored : Stored) (a b : OutsideSeen) → IsLoaded stored a → Trace a b (Did act.Stop ∷ []) → b.open_at ≡ Some stored.last → IsInStepSinceSome b (reopened_session old stored)
 again_stands old stored a b loaded m opens =
     let h = loaded_stands old.identity stored a b loaded m opens in
     record {
@@ -453,7 +453,7 @@ again_stands old stored a b loaded m opens =
           acts = x.2.acts;
           to = x.2.to;
           run = x.2.run;
-          beside = step.down refl (beside_settled old.identity (seated_at old.identity stored).live x.2.to x.2.beside);
+          beside = step.down refl (beside_settled old.identity (opened_session old.identity stored).connection x.2.to x.2.beside);
           tape = x.2.tape;
           stored = x.2.stored;
           opens = opens;
@@ -462,14 +462,14 @@ again_stands old stored a b loaded m opens =
     }
 
 -- a refusal leaves what was left
-pub refused_trail : (old : Seat) (fault : LoadFault) (stopped : Option StopCause) (a b : Seen) → Moves a b (loads {T = Stored} (Err fault)) → (start : EndState) (before : List Act) → Trails start before a old → Trails start before b (seated old old.live old.hand stopped)
+pub refused_trail : (old : SessionSeen) (fault : LoadFault) (stopped : Option StopCause) (a b : OutsideSeen) → Trace a b (loads {T = Stored} (Err fault)) → (start : EndState) (before : List Act) → CanRestart start before a old → CanRestart start before b (seated old old.connection old.pending stopped)
 refused_trail old fault stopped a b m start before t = record {
   acts = t.acts;
   to = t.to;
   run = t.run;
   numbers = t.numbers;
   tape = subst (λ acts. IsTape b acts) (append-nil (before ++ t.acts)) (tape_moves a.tape b.tape (before ++ t.acts) [] (m.tape ∙ ap (grown a.tape) (no_acts fault)) t.tape);
-  held = λ e h. (let had = still e h in subst (λ x. MayHold t.to.doubt t.to.end (Some x)) (sym had.2) (t.held had.0 had.1));
+  held = λ e h. (let had = still e h in subst (λ x. IsStoredOrInDoubt t.to.doubt t.to.end (Some x)) (sym had.2) (t.held had.0 had.1));
 }
   where
     no_acts : (f : LoadFault) → acts_of (loads {T = Stored} (Err f)) ≡ []

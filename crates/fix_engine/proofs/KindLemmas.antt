@@ -1,10 +1,6 @@
 -- The body of a message begins with its MsgType (35).
-<<<<<<< HEAD
-use Rattle.std.proofs.Common.{◌≡◌, ℕ, List, [], ◌∷◌, ◌++◌, codes, Some, if◌then◌else◌, sym, ap, subst, ◌∙◌, append_assoc}
-=======
 use Rattle.std.proofs.Common.{◌≡◌, ℕ, List, [], ◌∷◌, ◌++◌, codes, Some, if◌then◌else◌, sym, ap, subst, ◌∙◌}
 use Rattle.std.proofs.Common.{append_assoc}
->>>>>>> 96824219a17e0c1d58d40506ff6d577247a7c6f7
 use Rattle.std.specs.Fmt.{decimal}
 use Rattle.fix_base.specs.Lists.{IsPrefixOf}
 use Rattle.fix_base.specs.Fields.{Field}

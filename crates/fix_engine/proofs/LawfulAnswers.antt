@@ -9,17 +9,17 @@ use Rattle.fix_base.specs.Fields.{Field}
 use Rattle.fix_base.specs.Message as message
 use Rattle.fix_base.specs.Message.{Message}
 use Rattle.fix_base.specs.Says.{value_of, seq_num_of, is_admin_type, body_of, message_of, HasFields}
-use Rattle.fix_base.specs.Stream.{Ahead}
+use Rattle.fix_base.specs.Stream.{UnreadBytes}
 use Rattle.fix_base.specs.EndStep.{Connection, EndState, WasRead}
-use Rattle.fix_base.specs.Seen.{Note, acts_of}
+use Rattle.fix_base.specs.Trace.{Note, acts_of}
 use Rattle.fix_base.proofs.HandledLemmas.{test}
 use Rattle.fix_fields.specs.Header.{Header}
 use Rattle.fix_engine.specs.State.{State, Phase, Down, AwaitLogon, Up, Ending, Step, LoggedOut, Refused, NotLogon, Logon, Logout}
 use Rattle.fix_engine.specs.declared.state.Step.TheVariants as do_step
-use Rattle.fix_engine.specs.Inbound.{Inbound, IsInbound, IsLogon, IsWithoutReset}
-use Rattle.fix_engine.specs.Answer.{Carried, Handled, names, is_numbered, is_of_session, is_in_order, is_app_type, number_or_0, not_built, refused, logon_steps, logon_answer, logout_answer, app_answer, first_answer, up_answer, answer_in}
-use Rattle.fix_engine.specs.Turn.{live}
-use Rattle.fix_engine.specs.Lawful.{IsCertain, BeginsPlainly, IsBegunAt, IsOn, Fits, Leads}
+use Rattle.fix_engine.specs.Inbound.{InboundSeen, IsInbound, IsLogon, IsWithoutReset}
+use Rattle.fix_engine.specs.Answer.{Carried, AnswerFrame, names, is_numbered, is_of_session, is_in_order, is_app_type, number_or_0, not_built, refused, logon_steps, logon_answer, logout_answer, app_answer, first_answer, up_answer, answer_in}
+use Rattle.fix_engine.specs.Reading.{connection_seen}
+use Rattle.fix_engine.specs.Lawful.{IsCertain, BeginsPlainly, IsBegunAt, IsOn, MatchesConnected, LawfulRunTo}
 use Rattle.fix_frame.specs.Given.{GivesFrame}
 use Rattle.fix_engine.proofs.ReadLemmas.{has_same, read_frame, was_read, says_admin, says_app}
 use Rattle.fix_engine.proofs.LogonLemmas.{begun_frame, begun_up, unflagged_free}
@@ -28,7 +28,7 @@ use Rattle.fix_engine.proofs.LawfulSteps.{Behind, Triple, AdminDue, AppDue, AppG
 
 -- ---- the answers
 
-module _ (id : Identity) (frame : List ℕ) (b : Ahead) where
+module _ (id : Identity) (frame : List ℕ) (b : UnreadBytes) where
   -- nothing is done in the places that are left
   one_idle : Triple id itself (In id b) (λ s. Carried id frame s (do_step.Nothing ∷ [])) (In id b)
   one_idle = first_of id frame b (In id b) (In id b) (In id b) (certain_in id b) do_step.Nothing [] (nothing_leads id frame b (In id b)) (nowhere id frame b (In id b))
@@ -39,10 +39,10 @@ module _ (id : Identity) (frame : List ℕ) (b : Ahead) where
   three_idle : Triple id itself (In id b) (λ s. Carried id frame s (do_step.Nothing ∷ do_step.Nothing ∷ do_step.Nothing ∷ [])) (In id b)
   three_idle = first_of id frame b (In id b) (In id b) (In id b) (certain_in id b) do_step.Nothing (do_step.Nothing ∷ do_step.Nothing ∷ []) (nothing_leads id frame b (In id b)) two_idle
 
-  not_built_leads : (i : Inbound) → Triple id itself IsCertain (λ s. Carried id frame s (not_built i)) (In id b)
+  not_built_leads : (i : InboundSeen) → Triple id itself IsCertain (λ s. Carried id frame s (not_built i)) (In id b)
   not_built_leads i = first_of id frame b IsCertain (In id b) (In id b) (certain_in id b) (do_step.GiveUp (number_or_0 i.header.number)) (do_step.Nothing ∷ do_step.Nothing ∷ do_step.Nothing ∷ []) (give_up_leads id frame b (number_or_0 i.header.number) IsCertain (In id b) (λ s e h. h)) three_idle
 
-  refused_leads : (i : Inbound) → Triple id itself IsCertain (λ s. Carried id frame s (refused i)) (In id b)
+  refused_leads : (i : InboundSeen) → Triple id itself IsCertain (λ s. Carried id frame s (refused i)) (In id b)
   refused_leads i = first_of id frame b IsCertain (In id b) (In id b) (certain_in id b) (do_step.Close (Refused (number_or_0 i.header.number) NotLogon)) (do_step.Nothing ∷ do_step.Nothing ∷ do_step.Nothing ∷ []) (close_leads id frame b (Refused (number_or_0 i.header.number) NotLogon) IsCertain (In id b) (λ s e h. h)) three_idle
 
   logon_leads : (n heart : ℕ) → Triple id itself (AdminDue id b n) (λ s. Carried id frame s (logon_steps n heart)) (In id b)
@@ -59,7 +59,7 @@ module _ (id : Identity) (frame : List ℕ) (b : Ahead) where
 
   app_leads : (n : ℕ) (fs : List Field) → HasFields frame fs → Triple id itself (AppDue id b n (body_of fs)) (λ s. Carried id frame s (app_answer n)) (In id b)
   app_leads n fs has =
-      first_of id frame b (AppDue id b n (body_of fs)) (AppGiven id b n (body_of fs)) (In id b) (certain_given id b n (body_of fs)) (do_step.Hand n false) (do_step.Count n ∷ do_step.Nothing ∷ do_step.Nothing ∷ []) (hand_leads id frame b n fs has)
+      first_of id frame b (AppDue id b n (body_of fs)) (AppGiven id b n (body_of fs)) (In id b) (certain_given id b n (body_of fs)) (do_step.PendingDraft n false) (do_step.Count n ∷ do_step.Nothing ∷ do_step.Nothing ∷ []) (hand_leads id frame b n fs has)
       (first_of id frame b (AppGiven id b n (body_of fs)) (In id b) (In id b) (certain_in id b) (do_step.Count n) (do_step.Nothing ∷ do_step.Nothing ∷ []) (count_app_leads id frame b n (body_of fs)) two_idle)
 
 -- ---- the tests of a message
@@ -86,7 +86,7 @@ absent None h = refl
 absent (Some v) h = cc
 
 -- a message in order has the number that is expected
-in_order_number : (id : Identity) (s : State) (i : Inbound) → is_in_order id s i ≡ true → i.header.number ≡ Some s.expected
+in_order_number : (id : Identity) (s : State) (i : InboundSeen) → is_in_order id s i ≡ true → i.header.number ≡ Some s.expected
 in_order_number id s i h =
     let rest = (both_true (is_of_session id i.header) _ h).1 in
     numbered i.header.number s.expected (both_true (is_numbered i.header.number s.expected) _ rest).0
@@ -115,9 +115,9 @@ app_typed (Some type) h = let n = negated (is_admin_type type) h in record { typ
 -- ---- a message and its answer
 
 -- the frame was read: the end is in step behind it, and what its fields say was read
-record WasTaken (id : Identity) (b : Ahead) (fs : List Field) (s : State) (e : EndState) : Type 0 where
+record WasTaken (id : Identity) (b : UnreadBytes) (fs : List Field) (s : State) (e : EndState) : Type 0 where
   connection : Connection
-  on : IsOn id (live s b) connection e
+  on : IsOn id (connection_seen s b) connection e
   counted : (k : ℕ) → Among k connection.gave → k < s.expected
   first : IsWithoutReset fs → BeginsPlainly connection.read
   up : s.phase ≡ Up → BeginsPlainly connection.read
@@ -127,10 +127,10 @@ if_cases : {A : Type 0} (P : A → Type 0) (t : Bool) (x y : A) → (t ≡ true 
 if_cases P true x y h k = h refl
 if_cases P false x y h k = k refl
 
-module _ (id : Identity) (frame : List ℕ) (b : Ahead) (i : Inbound) (p : IsInbound frame i) (s : State) (e : EndState) (f : WasTaken id b p.fields s e) where
+module _ (id : Identity) (frame : List ℕ) (b : UnreadBytes) (i : InboundSeen) (p : IsInbound frame i) (s : State) (e : EndState) (f : WasTaken id b p.fields s e) where
   -- whatever these steps come to is a run
   abbrev Carries : List Step → Type 0
-  Carries xs = (notes : List Note) (r : Result ⊤ Ending) (s' : State) → Carried id frame s xs notes r s' → Leads id e (acts_of notes) (Behind (In id b s') r s')
+  Carries xs = (notes : List Note) (r : Result ⊤ Ending) (s' : State) → Carried id frame s xs notes r s' → LawfulRunTo id e (acts_of notes) (Behind (In id b s') r s')
 
   settled : IsCertain s e
   settled = f.on.settled
@@ -208,7 +208,7 @@ module _ (id : Identity) (frame : List ℕ) (b : Ahead) (i : Inbound) (p : IsInb
   in_phase Up is h = up_here (f.up is)
 
 -- a frame is taken, and answered
-pub handled_leads : (id : Identity) (s s' : State) (a b : Ahead) (frame : List ℕ) (notes : List Note) (r : Result ⊤ Ending) → GivesFrame a b frame → Handled id s frame notes r s' → (e : EndState) → Fits id (live s a) e → Leads id e (acts_of notes) (Behind (In id b s') r s')
+pub handled_leads : (id : Identity) (s s' : State) (a b : UnreadBytes) (frame : List ℕ) (notes : List Note) (r : Result ⊤ Ending) → GivesFrame a b frame → AnswerFrame id s frame notes r s' → (e : EndState) → MatchesConnected id (connection_seen s a) e → LawfulRunTo id e (acts_of notes) (Behind (In id b s') r s')
 handled_leads id s s' a b frame notes r gives h e f =
     let c = f.connection in
     let p = h.presents in

@@ -9,11 +9,11 @@ use Rattle.fix_base.specs.declared.act.Act.TheVariants as act
 use Rattle.fix_base.specs.Fields.{Field}
 use Rattle.fix_base.specs.Message as message
 use Rattle.fix_base.specs.Says.{HasFields, body_of}
-use Rattle.fix_base.specs.Stream.{Ahead}
+use Rattle.fix_base.specs.Stream.{UnreadBytes}
 use Rattle.fix_base.specs.EndStep as steps
 use Rattle.fix_base.specs.EndStep.{Connection, EndState, WasRead, Grew, MayHand, LogonRule}
 use Rattle.fix_base.specs.Wrote.{Wrote}
-use Rattle.fix_base.specs.Seen.{Note, Did, acts_of}
+use Rattle.fix_base.specs.Trace.{Note, Did, acts_of}
 use Rattle.fix_base.proofs.ListLemmas.{Among-cons_cases}
 use Rattle.fix_engine.specs.State.{State, Up, Down, Ending, Step, Say, Why, with_phase, with_last, with_expected}
 use Rattle.fix_engine.specs.declared.state.Ending.TheVariants as ending
@@ -21,9 +21,9 @@ use Rattle.fix_engine.specs.declared.state.Step.TheVariants as do_step
 use Rattle.fix_engine.specs.Fold.{none, ends, goes}
 use Rattle.fix_engine.specs.Answer as answer
 use Rattle.fix_engine.specs.Answer.{Performed, Carried, entry_of}
-use Rattle.fix_engine.specs.Turn.{live}
+use Rattle.fix_engine.specs.Reading.{connection_seen}
 use Rattle.fix_engine.specs.Lawful as lawful
-use Rattle.fix_engine.specs.Lawful.{HasNumbers, IsCertain, BeginsPlainly, plainly, IsOn, Fits, IsLost, IsInDoubt, Leads}
+use Rattle.fix_engine.specs.Lawful.{HasNumbers, IsCertain, BeginsPlainly, plainly, IsOn, MatchesConnected, IsLost, IsInDoubt, LawfulRunTo}
 use Rattle.fix_engine.proofs.LeadsLemmas.{leads_nowhere, leads_step, leads_lost, leads_move, leads_on}
 use Rattle.fix_engine.proofs.ReadLemmas.{has_same}
 use Rattle.fix_engine.proofs.LogonLemmas.{plain_free}
@@ -46,7 +46,7 @@ Behind Q (Err end) s e = BehindEnd end s e
 
 -- a part leads from P to Q
 abbrev pub Triple : {S : Type 0} → Identity → (S → State) → (S → EndState → Type 0) → (S → List Note → Result ⊤ Ending → S → Type 0) → (S → EndState → Type 0) → Type 0
-Triple {S} id state P R Q = (s : S) (notes : List Note) (r : Result ⊤ Ending) (s' : S) → R s notes r s' → (e : EndState) → P s e → Leads id e (acts_of notes) (Behind (Q s') r (state s'))
+Triple {S} id state P R Q = (s : S) (notes : List Note) (r : Result ⊤ Ending) (s' : S) → R s notes r s' → (e : EndState) → P s e → LawfulRunTo id e (acts_of notes) (Behind (Q s') r (state s'))
 
 abbrev pub itself : State → State
 itself s = s
@@ -60,67 +60,67 @@ abbrev pub IsSettledIn : (State → EndState → Type 0) → Type 0
 IsSettledIn P = (s : State) (e : EndState) → P s e → IsCertain s e
 
 -- the end is in step, and the administrative message of this number was read and is to be counted
-pub record AdminDue (id : Identity) (b : Ahead) (n : ℕ) (s : State) (e : EndState) : Type 0 where
+pub record AdminDue (id : Identity) (b : UnreadBytes) (n : ℕ) (s : State) (e : EndState) : Type 0 where
   pub connection : Connection
-  pub on : IsOn id (live s b) connection e
+  pub on : IsOn id (connection_seen s b) connection e
   pub counted : (k : ℕ) → Among k connection.gave → k < s.expected
   pub free : BeginsPlainly connection.read
   pub read : WasRead connection (message.Admin n)
   pub due : n ≡ s.expected
 
 -- the application message of this number was read, and is to be given
-pub record AppDue (id : Identity) (b : Ahead) (n : ℕ) (body : List ℕ) (s : State) (e : EndState) : Type 0 where
+pub record AppDue (id : Identity) (b : UnreadBytes) (n : ℕ) (body : List ℕ) (s : State) (e : EndState) : Type 0 where
   pub connection : Connection
-  pub on : IsOn id (live s b) connection e
+  pub on : IsOn id (connection_seen s b) connection e
   pub counted : (k : ℕ) → Among k connection.gave → k < s.expected
   pub free : BeginsPlainly connection.read
   pub read : WasRead connection (message.App n false body)
   pub due : n ≡ s.expected
 
 -- it was given, and is to be counted
-pub record AppGiven (id : Identity) (b : Ahead) (n : ℕ) (body : List ℕ) (s : State) (e : EndState) : Type 0 where
+pub record AppGiven (id : Identity) (b : UnreadBytes) (n : ℕ) (body : List ℕ) (s : State) (e : EndState) : Type 0 where
   pub connection : Connection
-  pub on : IsOn id (live s b) connection e
+  pub on : IsOn id (connection_seen s b) connection e
   pub counted : (k : ℕ) → Among k connection.gave → k ≤ s.expected
   pub free : BeginsPlainly connection.read
   pub read : WasRead connection (message.App n false body)
   pub due : n ≡ s.expected
   pub grew : Grew connection e.handled n
 
-abbrev pub In : Identity → Ahead → State → EndState → Type 0
-In id b s e = Fits id (live s b) e
+abbrev pub In : Identity → UnreadBytes → State → EndState → Type 0
+In id b s e = MatchesConnected id (connection_seen s b) e
 
-pub certain_in : (id : Identity) (b : Ahead) → HasNoDoubt (In id b)
+pub certain_in : (id : Identity) (b : UnreadBytes) → HasNoDoubt (In id b)
 certain_in id b s e f = f.on.settled.doubt
 
-pub certain_due : (id : Identity) (b : Ahead) (n : ℕ) → HasNoDoubt (AdminDue id b n)
+pub certain_due : (id : Identity) (b : UnreadBytes) (n : ℕ) → HasNoDoubt (AdminDue id b n)
 certain_due id b n s e f = f.on.settled.doubt
 
-pub certain_given : (id : Identity) (b : Ahead) (n : ℕ) (body : List ℕ) → HasNoDoubt (AppGiven id b n body)
+pub certain_given : (id : Identity) (b : UnreadBytes) (n : ℕ) (body : List ℕ) → HasNoDoubt (AppGiven id b n body)
 certain_given id b n body s e f = f.on.settled.doubt
 
 -- ---- an entry is kept
 
 module _ (id : Identity) where
   -- it is lost
-  pub push_lost : (s : State) (entry : Entry) (e : EndState) → IsLost s (Push entry) → IsCertain s e → Leads id e (act.KeepLost (Push entry) ∷ []) (IsInDoubt s)
+  pub push_lost : (s : State) (entry : Entry) (e : EndState) → IsLost s (Push entry) → IsCertain s e → LawfulRunTo id e (act.KeepLost (Push entry) ∷ []) (IsInDoubt s)
   push_lost s entry e lost h =
       let left : EndState = record e { doubt = Some (Push entry); connection = None } in
       leads_lost id e left (Push entry) (IsInDoubt s) (record { certain = h.doubt; row = steps.lost_push entry }) refl refl
       (record { numbers = record { expected = h.numbers.expected; stored = h.numbers.stored; out = h.numbers.out; role = h.numbers.role }; record_lost = Push entry; doubt = refl; is = lost; closed = refl })
 
   -- it is kept, and then more is done
-  pub push_kept : (entry : Entry) (e : EndState) (notes : List Note) (P : EndState → Type 0) → e.doubt ≡ None → Leads id (pushed e entry) (acts_of notes) P → Leads id e (act.Kept (Push entry) ∷ acts_of notes) P
+  pub push_kept : (entry : Entry) (e : EndState) (notes : List Note) (P : EndState → Type 0) → e.doubt ≡ None → LawfulRunTo id (pushed e entry) (acts_of notes) P → LawfulRunTo id e (act.Kept (Push entry) ∷ acts_of notes) P
   push_kept entry e notes P certain l = leads_step id e (pushed e entry) (act.Kept (Push entry)) (acts_of notes) P (record { certain = certain; row = steps.kept_push entry steps.adds }) (λ held h. h) l
 
   -- it is kept, these bytes are written, and then more is done
-  pub push_wrote : (s : State) (a : Ahead) (c : Connection) (entry : Entry) (e : EndState) (w : List ℕ) (notes : List Note) (P : EndState → Type 0) → IsOn id (live s a) c e → Wrote id c.opened (pushed e entry).end (c.written ++ w) → LogonRule id (pushed e entry) c w → Leads id (connected (pushed e entry) (writing c w)) (acts_of notes) P → Leads id e (act.Kept (Push entry) ∷ act.Wrote w ∷ acts_of notes) P
+  pub push_wrote : (s : State) (a : UnreadBytes) (c : Connection) (entry : Entry) (e : EndState) (w : List ℕ) (notes : List Note) (P : EndState → Type 0) → IsOn id (connection_seen s a) c e → Wrote id c.opened (pushed e entry).end (c.written ++ w) → LogonRule id (pushed e entry) c w → LawfulRunTo id (connected (pushed e entry) (writing c w)) (acts_of notes) P → LawfulRunTo id e (act.Kept (Push entry) ∷ act.Wrote w ∷ acts_of notes) P
   push_wrote s a c entry e w notes P h wrote rule l =
       push_kept entry e (Did (act.Wrote w) ∷ notes) P h.settled.doubt
       (leads_step id (pushed e entry) (connected (pushed e entry) (writing c w)) (act.Wrote w) (acts_of notes) P (record { certain = h.settled.doubt; row = steps.wrote w c h.is_open wrote rule }) (λ held k. k) l)
 
   -- it is kept, and memory is refused
-  pub push_alone : (s : State) (entry : Entry) (e : EndState) → IsCertain s e → Leads id e (act.Kept (Push entry) ∷ []) (IsCertain (with_last s (s.last + 1)))
+  pub push_alone : (s : State) (entry : Entry) (e : EndState) → IsCertain s e → LawfulRunTo id e (act.Kept (Push entry) ∷ []) (IsCertain (with_last s (s.last + 1)))
   push_alone s entry e h =
       push_kept entry e [] (IsCertain (with_last s (s.last + 1))) h.doubt (leads_nowhere id (pushed e entry) (IsCertain (with_last s (s.last + 1))) (settled_pushed s e entry h))
 
@@ -129,7 +129,7 @@ module _ (id : Identity) where
 
 -- ---- the steps
 
-module _ (id : Identity) (frame : List ℕ) (b : Ahead) where
+module _ (id : Identity) (frame : List ℕ) (b : UnreadBytes) where
   pub nowhere : (P : State → EndState → Type 0) → Triple id itself P (λ s. Carried id frame s []) P
   nowhere P s notes r s' none e h = leads_nowhere id e (P s) h
 
@@ -176,22 +176,22 @@ module _ (id : Identity) (frame : List ℕ) (b : Ahead) where
     unseen = λ m. (let low = f.counted n m in omega (arith, low, f.due));
   }
 
-  pub hand_leads : (n : ℕ) (fs : List Field) → HasFields frame fs → Triple id itself (AppDue id b n (body_of fs)) (λ s. Performed id frame s (do_step.Hand n false)) (AppGiven id b n (body_of fs))
+  pub hand_leads : (n : ℕ) (fs : List Field) → HasFields frame fs → Triple id itself (AppDue id b n (body_of fs)) (λ s. Performed id frame s (do_step.PendingDraft n false)) (AppGiven id b n (body_of fs))
   hand_leads n fs has s notes r s' (answer.taken k marked fields had) e f =
       let same : fields ≡ fs = has_same frame fields fs had has in
       let c = f.connection in
       let body = body_of fs in
       let may : MayHand e c n false body = may_hand n body s e f in
-      let l : Leads id e (act.Handed n false body ∷ []) (AppGiven id b n body s) = leads_step id e (given e c n body) (act.Handed n false body) [] (AppGiven id b n body s) (record { certain = f.on.settled.doubt; row = steps.handed c n false body (plain_free e c f.on.settled.numbers.role f.on.is_open f.free) may }) (λ held h. h) (leads_nowhere id (given e c n body) (AppGiven id b n body s) (record {
+      let l : LawfulRunTo id e (act.Handed n false body ∷ []) (AppGiven id b n body s) = leads_step id e (given e c n body) (act.Handed n false body) [] (AppGiven id b n body s) (record { certain = f.on.settled.doubt; row = steps.handed c n false body (plain_free e c f.on.settled.numbers.role f.on.is_open f.free) may }) (λ held h. h) (leads_nowhere id (given e c n body) (AppGiven id b n body s) (record {
         connection = giving c n;
-        on = on_given id (live s b) c e n body f.on;
+        on = on_given id (connection_seen s b) c e n body f.on;
         counted = λ k m. elim (Among-cons_cases m) as (λ _. k ≤ s.expected) [ inl same_one ↦ omega (arith, same_one, f.due) | inr earlier ↦ (let low = f.counted k earlier in omega arith) ];
         free = f.free;
         read = record { messages = f.read.messages; shows = f.read.shows; among = f.read.among };
         due = f.due;
-        grew = grew_given id (live s b) c e n body f.on;
+        grew = grew_given id (connection_seen s b) c e n body f.on;
       })) in
-      subst (λ (gs : List Field). Leads id e (act.Handed n false (body_of gs) ∷ []) (AppGiven id b n body s)) (sym same) l
+      subst (λ (gs : List Field). LawfulRunTo id e (act.Handed n false (body_of gs) ∷ []) (AppGiven id b n body s)) (sym same) l
   hand_leads n fs has s notes r s' (answer.hand_lost k marked fields had) e f =
       let same : fields ≡ fs = has_same frame fields fs had has in
       let c = f.connection in
@@ -199,8 +199,8 @@ module _ (id : Identity) (frame : List ℕ) (b : Ahead) where
       let may : MayHand e c n false body = may_hand n body s e f in
       let left : EndState = record e { connection = None } in
       let h = f.on.settled in
-      let l : Leads id e (act.HandLost n false body ∷ []) (IsCertain s) = leads_step id e left (act.HandLost n false body) [] (IsCertain s) (record { certain = h.doubt; row = steps.hand_lost c n false body (plain_free e c f.on.settled.numbers.role f.on.is_open f.free) may }) (λ held h. h) (leads_nowhere id left (IsCertain s) (record { doubt = h.doubt; numbers = record { expected = h.numbers.expected; stored = h.numbers.stored; out = h.numbers.out; role = h.numbers.role } })) in
-      subst (λ (gs : List Field). Leads id e (act.HandLost n false (body_of gs) ∷ []) (IsCertain s)) (sym same) l
+      let l : LawfulRunTo id e (act.HandLost n false body ∷ []) (IsCertain s) = leads_step id e left (act.HandLost n false body) [] (IsCertain s) (record { certain = h.doubt; row = steps.hand_lost c n false body (plain_free e c f.on.settled.numbers.role f.on.is_open f.free) may }) (λ held h. h) (leads_nowhere id left (IsCertain s) (record { doubt = h.doubt; numbers = record { expected = h.numbers.expected; stored = h.numbers.stored; out = h.numbers.out; role = h.numbers.role } })) in
+      subst (λ (gs : List Field). LawfulRunTo id e (act.HandLost n false (body_of gs) ∷ []) (IsCertain s)) (sym same) l
   hand_leads n fs has s notes r s' (answer.hand_memory k marked) e f = leads_nowhere id e (IsCertain s) f.on.settled
 
   -- a message is answered by another

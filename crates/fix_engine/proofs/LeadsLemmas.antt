@@ -7,12 +7,12 @@ use Rattle.fix_base.specs.declared.act.Act.{Act}
 use Rattle.fix_base.specs.declared.act.Act.TheVariants as act
 use Rattle.fix_base.specs.EndStep as steps
 use Rattle.fix_base.specs.EndStep.{EndState, EndStep, Move, EndRun}
-use Rattle.fix_base.specs.Seen.{ActStores, Stores, Note, acts_of}
+use Rattle.fix_base.specs.Trace.{ActStores, Stores, Note, acts_of}
 use Rattle.fix_base.proofs.SeenLemmas.{acts_of-append}
 use Rattle.fix_base.proofs.RunLemmas.{EndRun-append}
 use Rattle.fix_engine.specs.State.{State, Down, with_phase}
 use Rattle.fix_engine.specs.Lawful as lawful
-use Rattle.fix_engine.specs.Lawful.{IsCertain, IsLost, MayHold, Leads}
+use Rattle.fix_engine.specs.Lawful.{IsCertain, IsLost, IsStoredOrInDoubt, LawfulRunTo}
 
 pub certain_settled : (s : State) (e : EndState) → IsCertain s e → e.doubt ≡ None
 certain_settled s e h = h.doubt
@@ -28,17 +28,17 @@ lost_down s (lawful.draft d h) = lawful.draft d h
 lost_down s lawful.number = lawful.number
 
 -- where no record is in doubt a store holds the end
-pub holds_end : (doubt : Option Record) (end : End) (held : Option End) → doubt ≡ None → MayHold doubt end held → held ≡ Some end
+pub holds_end : (doubt : Option Record) (end : End) (held : Option End) → doubt ≡ None → IsStoredOrInDoubt doubt end held → held ≡ Some end
 holds_end None end held certain h = h
 holds_end (Some r) end held certain h = cc
 
 -- where this record was lost it holds the end with or without it
-holds_lost : (r : Record) (end : End) (held mid : Option End) → (mid ≡ Some end) ⊎ (mid ≡ Some (folded end r)) → held ≡ mid → MayHold (Some r) end held
+holds_lost : (r : Record) (end : End) (held mid : Option End) → (mid ≡ Some end) ⊎ (mid ≡ Some (folded end r)) → held ≡ mid → IsStoredOrInDoubt (Some r) end held
 holds_lost r end held mid (inl same) is = inl (is ∙ same)
 holds_lost r end held mid (inr added) is = inr (is ∙ added)
 
 -- a store that holds the end holds it in any doubt
-holds_any : (doubt : Option Record) (end : End) (held : Option End) → held ≡ Some end → MayHold doubt end held
+holds_any : (doubt : Option Record) (end : End) (held : Option End) → held ≡ Some end → IsStoredOrInDoubt doubt end held
 holds_any None end held h = h
 holds_any (Some r) end held h = inl h
 
@@ -48,11 +48,11 @@ Stores-split [] ys a c s = (a, refl, s)
 Stores-split (x ∷ xs) ys a c s = let t = Stores-split xs ys s.0 c s.2 in (t.0, (s.0, s.1, t.1), t.2)
 
 -- nothing is done
-pub leads_nowhere : (id : Identity) (e : EndState) (P : EndState → Type 0) → P e → Leads id e [] P
+pub leads_nowhere : (id : Identity) (e : EndState) (P : EndState → Type 0) → P e → LawfulRunTo id e [] P
 leads_nowhere id e P h = record { to = e; run = steps.stop; holds = h; store = λ held s. holds_any e.doubt e.end held s }
 
 -- one act, and then others
-pub leads_step : (id : Identity) (e mid : EndState) (x : Act) (acts : List Act) (P : EndState → Type 0) → EndStep id e x mid → ((held : Option End) → ActStores x (Some e.end) held → held ≡ Some mid.end) → Leads id mid acts P → Leads id e (x ∷ acts) P
+pub leads_step : (id : Identity) (e mid : EndState) (x : Act) (acts : List Act) (P : EndState → Type 0) → EndStep id e x mid → ((held : Option End) → ActStores x (Some e.end) held → held ≡ Some mid.end) → LawfulRunTo id mid acts P → LawfulRunTo id e (x ∷ acts) P
 leads_step id e mid x acts P one stores l = record {
   to = l.to;
   run = steps.step one l.run;
@@ -61,18 +61,18 @@ leads_step id e mid x acts P one stores l = record {
 }
 
 -- a record is lost, and nothing more is done
-pub leads_lost : (id : Identity) (e mid : EndState) (r : Record) (P : EndState → Type 0) → EndStep id e (act.KeepLost r) mid → mid.end ≡ e.end → mid.doubt ≡ Some r → P mid → Leads id e (act.KeepLost r ∷ []) P
+pub leads_lost : (id : Identity) (e mid : EndState) (r : Record) (P : EndState → Type 0) → EndStep id e (act.KeepLost r) mid → mid.end ≡ e.end → mid.doubt ≡ Some r → P mid → LawfulRunTo id e (act.KeepLost r ∷ []) P
 leads_lost id e mid r P one same doubt h = record {
   to = mid;
   run = steps.step one steps.stop;
   holds = h;
   store = λ held s.
-      subst (λ (d : Option Record). MayHold d mid.end held) (sym doubt)
-      (subst (λ (f : End). MayHold (Some r) f held) (sym same) (holds_lost r e.end held s.0 s.1 s.2));
+      subst (λ (d : Option Record). IsStoredOrInDoubt d mid.end held) (sym doubt)
+      (subst (λ (f : End). IsStoredOrInDoubt (Some r) f held) (sym same) (holds_lost r e.end held s.0 s.1 s.2));
 }
 
 -- a move that leaves the store as it is, and then acts
-pub leads_move : (id : Identity) (e mid : EndState) (acts : List Act) (P : EndState → Type 0) → Move e mid → mid.end ≡ e.end → Leads id mid acts P → Leads id e acts P
+pub leads_move : (id : Identity) (e mid : EndState) (acts : List Act) (P : EndState → Type 0) → Move e mid → mid.end ≡ e.end → LawfulRunTo id mid acts P → LawfulRunTo id e acts P
 leads_move id e mid acts P m same l = record {
   to = l.to;
   run = steps.move m l.run;
@@ -80,7 +80,7 @@ leads_move id e mid acts P m same l = record {
   store = λ held s. l.store held (subst (λ f. Stores acts (Some f) held) (sym same) s);
 }
 
-leads_then : (id : Identity) (e : EndState) (xs ys : List Act) (P Q : EndState → Type 0) → ((mid : EndState) → P mid → mid.doubt ≡ None) → Leads id e xs P → ((mid : EndState) → P mid → Leads id mid ys Q) → Leads id e (xs ++ ys) Q
+leads_then : (id : Identity) (e : EndState) (xs ys : List Act) (P Q : EndState → Type 0) → ((mid : EndState) → P mid → mid.doubt ≡ None) → LawfulRunTo id e xs P → ((mid : EndState) → P mid → LawfulRunTo id mid ys Q) → LawfulRunTo id e (xs ++ ys) Q
 leads_then id e xs ys P Q certain l k =
     let later = k l.to l.holds in
     record {
@@ -94,9 +94,9 @@ leads_then id e xs ys P Q certain l k =
     }
 
 -- one part, and then another from where nothing is in doubt
-pub leads_on : (id : Identity) (e : EndState) (xs ys : List Note) (P Q : EndState → Type 0) → ((mid : EndState) → P mid → mid.doubt ≡ None) → Leads id e (acts_of xs) P → ((mid : EndState) → P mid → Leads id mid (acts_of ys) Q) → Leads id e (acts_of (xs ++ ys)) Q
-leads_on id e xs ys P Q certain l k = subst (λ acts. Leads id e acts Q) (sym (acts_of-append xs ys)) (leads_then id e (acts_of xs) (acts_of ys) P Q certain l k)
+pub leads_on : (id : Identity) (e : EndState) (xs ys : List Note) (P Q : EndState → Type 0) → ((mid : EndState) → P mid → mid.doubt ≡ None) → LawfulRunTo id e (acts_of xs) P → ((mid : EndState) → P mid → LawfulRunTo id mid (acts_of ys) Q) → LawfulRunTo id e (acts_of (xs ++ ys)) Q
+leads_on id e xs ys P Q certain l k = subst (λ acts. LawfulRunTo id e acts Q) (sym (acts_of-append xs ys)) (leads_then id e (acts_of xs) (acts_of ys) P Q certain l k)
 
 -- where P is enough for Q
-pub leads_weaker : (id : Identity) (e : EndState) (acts : List Act) (P Q : EndState → Type 0) → ((mid : EndState) → P mid → Q mid) → Leads id e acts P → Leads id e acts Q
+pub leads_weaker : (id : Identity) (e : EndState) (acts : List Act) (P Q : EndState → Type 0) → ((mid : EndState) → P mid → Q mid) → LawfulRunTo id e acts P → LawfulRunTo id e acts Q
 leads_weaker id e acts P Q h l = record { to = l.to; run = l.run; holds = h l.to l.holds; store = l.store }

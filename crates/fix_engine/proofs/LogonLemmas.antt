@@ -10,7 +10,7 @@ use Rattle.fix_base.specs.declared.entry.Entry.TheVariants.{App}
 use Rattle.fix_base.specs.declared.entry.By.{By}
 use Rattle.fix_base.specs.Fields.{Field}
 use Rattle.fix_base.specs.Shape.{IsFrame}
-use Rattle.fix_base.specs.Stream.{Ahead, Item, Frame, Span, Byte, TakesAll, frames}
+use Rattle.fix_base.specs.Stream.{UnreadBytes, Item, Frame, Span, Byte, TakesAll, frames}
 use Rattle.fix_base.specs.Says.{value_of, is_admin_type, joined}
 use Rattle.fix_base.specs.Logon.{IsResetLogon, Begun}
 use Rattle.fix_base.specs.Payload.{IsEntryField}
@@ -58,7 +58,7 @@ plain_more bytes text frame free h = record {
 }
 
 -- none of the frames in a front of such bytes is such a Logon
-none_resets : (bytes front : List ℕ) → IsPlainly bytes → IsPrefixOf front bytes → (items : List Item) (rest : Ahead) → TakesAll (record { may_mark = true; bytes = front }) items rest → (text : List ℕ) → Among text (frames items) → IsResetLogon text → ⊥
+none_resets : (bytes front : List ℕ) → IsPlainly bytes → IsPrefixOf front bytes → (items : List Item) (rest : UnreadBytes) → TakesAll (record { may_mark = true; bytes = front }) items rest → (text : List ℕ) → Among text (frames items) → IsResetLogon text → ⊥
 none_resets bytes front h p items rest takes text m l =
     let among = front_frames h.texts front items rest (record { each = h.frames }) (subst (IsPrefixOf front) h.are p) takes in
     h.plain text (Among-prefix among m) l
@@ -73,7 +73,7 @@ plain_rule id s c b bytes role h p =
 -- ---- what was read
 
 -- two readings of the same bytes have one first frame
-first_frame : (a : Ahead) (xs ys : List Item) (b c : Ahead) (t u : List ℕ) (ts us : List (List ℕ)) → TakesAll a xs b → TakesAll a ys c → frames xs ≡ t ∷ ts → frames ys ≡ u ∷ us → t ≡ u
+first_frame : (a : UnreadBytes) (xs ys : List Item) (b c : UnreadBytes) (t u : List ℕ) (ts us : List (List ℕ)) → TakesAll a xs b → TakesAll a ys c → frames xs ≡ t ∷ ts → frames ys ≡ u ∷ us → t ≡ u
 first_frame a [] ys b c t u ts us p q e f = cc
 first_frame a (x ∷ xs) [] b c t u ts us p q e f = cc
 first_frame a (Frame v ∷ xs) (y ∷ ys) b c t u ts us p q e f =
@@ -95,19 +95,19 @@ plain_free s c role is_open h (steps.waits d o kept begun) =
     h.is (subst IsResetLogon (first_frame _ other.items h.items other.rest h.rest other.text h.text other.others h.others other.takes h.takes other.first h.first) other.is)
 
 -- more bytes come
-pub begun_bytes : (bytes more : List ℕ) (place : Ahead) (phase : Phase) → IsBegunAt bytes place phase → IsBegunAt (bytes ++ more) (with_more place more) phase
+pub begun_bytes : (bytes more : List ℕ) (place : UnreadBytes) (phase : Phase) → IsBegunAt bytes place phase → IsBegunAt (bytes ++ more) (with_more place more) phase
 begun_bytes bytes more place phase (lawful.plainly h) = lawful.plainly (begun_more (prefix_append bytes more) h)
 begun_bytes bytes more place phase (lawful.silent items takes none) = lawful.silent items (all_more (record { may_mark = true; bytes = bytes }) items place more takes) none
 
 -- no frame stands there, and items are skipped
-pub begun_none : (bytes : List ℕ) (a b : Ahead) (phase : Phase) → GivesNone a b → IsBegunAt bytes a phase → IsBegunAt bytes b phase
+pub begun_none : (bytes : List ℕ) (a b : UnreadBytes) (phase : Phase) → GivesNone a b → IsBegunAt bytes a phase → IsBegunAt bytes b phase
 begun_none bytes a b phase g (lawful.plainly h) = lawful.plainly h
 begun_none bytes a b phase g (lawful.silent items takes none) =
     lawful.silent (items ++ g.skips.items) (all_then (record { may_mark = true; bytes = bytes }) items a g.skips.items b takes g.skips.take)
     (frames-append items g.skips.items ∙ ap (λ w. w ++ frames g.skips.items) none ∙ g.skips.none)
 
 -- a frame is taken that is no such Logon
-pub begun_frame : (bytes : List ℕ) (a b : Ahead) (text : List ℕ) (phase : Phase) → GivesFrame a b text → (IsResetLogon text → ⊥) → IsBegunAt bytes a phase → BeginsPlainly bytes
+pub begun_frame : (bytes : List ℕ) (a b : UnreadBytes) (text : List ℕ) (phase : Phase) → GivesFrame a b text → (IsResetLogon text → ⊥) → IsBegunAt bytes a phase → BeginsPlainly bytes
 begun_frame bytes a b text phase g free (lawful.plainly h) = h
 begun_frame bytes a b text phase g free (lawful.silent items takes none) =
     let skipped = g.skips.items in
@@ -124,7 +124,7 @@ begun_frame bytes a b text phase g free (lawful.silent items takes none) =
     }
 
 -- a session that is up has read its first frame
-pub begun_up : {bytes : List ℕ} {place : Ahead} → IsBegunAt bytes place Up → BeginsPlainly bytes
+pub begun_up : {bytes : List ℕ} {place : UnreadBytes} → IsBegunAt bytes place Up → BeginsPlainly bytes
 begun_up (lawful.plainly h) = h
 
 -- ---- originals

@@ -6,7 +6,7 @@ use Rattle.fix_base.specs.declared.identity.Identity.{Identity}
 use Rattle.fix_base.specs.declared.act.Act.{Act}
 use Rattle.fix_base.specs.declared.act.Act.TheVariants as act
 use Rattle.fix_base.specs.Lists.{Among, here, there}
-use Rattle.fix_base.specs.Seen.{Note, Did, Failed, LinkPart, Seen, Goes, acts_of}
+use Rattle.fix_base.specs.Trace.{Note, Did, Failed, LinkPart, OutsideSeen, HasTrace, acts_of}
 use Rattle.fix_base.proofs.SeenLemmas.{acts_of-append}
 use Rattle.fix_fields.specs.Drafted.{DraftText}
 use Rattle.fix_engine.specs.State.{Ending, PeerEnd}
@@ -17,13 +17,13 @@ use Rattle.fix_engine.specs.declared.stop.SendFault.TheVariants as fault
 use Rattle.fix_engine.specs.declared.stop.StopCause.TheVariants as cause
 use Rattle.fix_engine.specs.Fold as fold
 use Rattle.fix_engine.specs.Fold.{Each, AndThen, first_ends, both}
-use Rattle.fix_engine.specs.Turn as turn
-use Rattle.fix_engine.specs.Turn.{Live, Taken, Fed, Heard, Clocked, KeptExpected}
-use Rattle.fix_engine.specs.Desk as desk
-use Rattle.fix_engine.specs.Desk.{Desk, Sends, Holding, Offered, beside, Met, Turn, OneTurn, Ran}
+use Rattle.fix_engine.specs.Reading as turn
+use Rattle.fix_engine.specs.Reading.{ConnectionSeen, AnswerFrames, Feed, ReadFrames, ReadClock, StoreExpected}
+use Rattle.fix_engine.specs.Turn as turn_seen
+use Rattle.fix_engine.specs.Turn.{TurnSeen, SendDraft, SendPending, OfferDraft, beside, SendReadClock, Turn, OneTurn, RunAndCut}
 use Rattle.fix_engine.specs.Faults.{sent_ending, run_end}
-use Rattle.fix_engine.specs.Turns.{reads_in, ShowsPeerEnd}
-use Rattle.fix_engine.proofs.Turns.{reads_in-append, Answers, Offered-once, Fed-answers, KeptExpected-answers}
+use Rattle.fix_engine.specs.Counts.{reads_in, ShowsPeerEnd}
+use Rattle.fix_engine.proofs.Turns.{reads_in-append, Answers, OfferDraft-once, Feed-answers, StoreExpected-answers}
 use Rattle.fix_engine.proofs.Shown.{among_before, among_behind, frame_not_over}
 
 among_reads : (acts : List Act) → Among act.Ended acts → 0 < reads_in acts
@@ -68,18 +68,18 @@ shows_none : (r : Result ⊤ Ending) (notes : List Note) → (run_end r ≡ run.
     (Among act.Ended (acts_of notes) → ⊥) → Shows r notes
 shows_none r notes h never = record { read = λ e. absurd (h e); only = λ a. absurd (never a) }
 
-Taken-not_over : (id : Identity) (l : Live) (notes : List Note) (r : Result ⊤ Ending) (to : Live) →
-    Taken id l notes r to → run_end r ≡ run.Closed PeerEnd → ⊥
-Taken-not_over id l notes r to (turn.no_more gives) h = cc
-Taken-not_over id l notes r to (turn.ends {s = s} {s' = s'} {e = e} frame gives d) h =
+AnswerFrames-not_over : (id : Identity) (l : ConnectionSeen) (notes : List Note) (r : Result ⊤ Ending) (to : ConnectionSeen) →
+    AnswerFrames id l notes r to → run_end r ≡ run.Closed PeerEnd → ⊥
+AnswerFrames-not_over id l notes r to (turn.no_more gives) h = cc
+AnswerFrames-not_over id l notes r to (turn.ends {s = s} {s' = s'} {e = e} frame gives d) h =
     frame_not_over id frame s s' notes e d h
-Taken-not_over id l notes r to (turn.goes {mid = mid} {b = b} {more = more} frame gives d k) h =
-    Taken-not_over id (turn.live mid b) more r to k h
+AnswerFrames-not_over id l notes r to (turn.goes {mid = mid} {b = b} {more = more} frame gives d k) h =
+    AnswerFrames-not_over id (turn.connection_seen mid b) more r to k h
 
-Fed-not_over : (id : Identity) (b : List ℕ) (l : Live) (notes : List Note) (r : Result ⊤ Ending) (to : Live) →
-    Fed id b l notes r to → run_end r ≡ run.Closed PeerEnd → ⊥
-Fed-not_over id b l notes r to (turn.fed_frames d) h = Taken-not_over id _ notes r to d h
-Fed-not_over id b l notes r to turn.fed_memory h = cc
+Feed-not_over : (id : Identity) (b : List ℕ) (l : ConnectionSeen) (notes : List Note) (r : Result ⊤ Ending) (to : ConnectionSeen) →
+    Feed id b l notes r to → run_end r ≡ run.Closed PeerEnd → ⊥
+Feed-not_over id b l notes r to (turn.fed_frames d) h = AnswerFrames-not_over id _ notes r to d h
+Feed-not_over id b l notes r to turn.fed_memory h = cc
 
 behind_read : (b : List ℕ) (notes : List Note) → Answers notes → Among act.Ended (act.Read b ∷ acts_of notes) → ⊥
 behind_read b notes t (there a) = no_end notes t.reads a
@@ -91,28 +91,28 @@ none_of_one x (there a) other = elim a [ ]
 none_of_none : Among act.Ended [] → ⊥
 none_of_none a = elim a [ ]
 
-Heard-shows : (id : Identity) (l : Live) (notes : List Note) (r : Result ⊤ Ending) (to : Live) →
-    Heard id l notes r to → Shows r notes
-Heard-shows id l notes r to (turn.bytes {more = more} b some fits d) =
-    shows_none r (Did (act.Read b) ∷ more) (Fed-not_over id b l more r to d)
-    (behind_read b more (Fed-answers id b l more r to d))
-Heard-shows id l notes r to turn.idle = shows_none (Ok tt) (Did act.Idle ∷ []) (λ h. cc)
+ReadFrames-shows : (id : Identity) (l : ConnectionSeen) (notes : List Note) (r : Result ⊤ Ending) (to : ConnectionSeen) →
+    ReadFrames id l notes r to → Shows r notes
+ReadFrames-shows id l notes r to (turn.bytes {more = more} b some fits d) =
+    shows_none r (Did (act.Read b) ∷ more) (Feed-not_over id b l more r to d)
+    (behind_read b more (Feed-answers id b l more r to d))
+ReadFrames-shows id l notes r to turn.idle = shows_none (Ok tt) (Did act.Idle ∷ []) (λ h. cc)
     (λ a. none_of_one act.Idle a (λ e. cc))
-Heard-shows id l notes r to turn.over = record { read = λ h. here; only = λ a. tt }
-Heard-shows id l notes r to turn.read_lost =
+ReadFrames-shows id l notes r to turn.over = record { read = λ h. here; only = λ a. tt }
+ReadFrames-shows id l notes r to turn.read_lost =
     shows_none (Err ending.LinkFault) (Failed (LinkPart 0) ∷ []) (λ h. cc) none_of_none
-Heard-shows id l notes r to turn.read_memory = shows_none (Err ending.OutOfMemory) [] (λ h. cc) none_of_none
+ReadFrames-shows id l notes r to turn.read_memory = shows_none (Err ending.OutOfMemory) [] (λ h. cc) none_of_none
 
-Clocked-shows : (l : Live) (notes : List Note) (r : Result ⊤ Ending) (to : Live) → Clocked l notes r to → Shows r notes
-Clocked-shows l notes r to (turn.now t) =
+ReadClock-shows : (l : ConnectionSeen) (notes : List Note) (r : Result ⊤ Ending) (to : ConnectionSeen) → ReadClock l notes r to → Shows r notes
+ReadClock-shows l notes r to (turn.now t) =
     shows_none (Ok tt) (Did (act.Now t) ∷ []) (λ h. cc) (λ a. none_of_one (act.Now t) a (λ e. cc))
-Clocked-shows l notes r to turn.now_memory = shows_none (Err ending.OutOfMemory) [] (λ h. cc) none_of_none
+ReadClock-shows l notes r to turn.now_memory = shows_none (Err ending.OutOfMemory) [] (λ h. cc) none_of_none
 
-Looked-shows : (id : Identity) (l : Live) (notes : List Note) (r : Result ⊤ Ending) (to : Live) →
-    AndThen (Heard id) Clocked l notes r to → Shows r notes
-Looked-shows id l notes r to (first_ends {e = e} d) = Heard-shows id l notes (Err e) to d
+Looked-shows : (id : Identity) (l : ConnectionSeen) (notes : List Note) (r : Result ⊤ Ending) (to : ConnectionSeen) →
+    AndThen (ReadFrames id) ReadClock l notes r to → Shows r notes
+Looked-shows id l notes r to (first_ends {e = e} d) = ReadFrames-shows id l notes (Err e) to d
 Looked-shows id l notes r to (both {mid = mid} {first = first} {more = more} d k) =
-    shows_then r first more (Heard-shows id l first (Ok tt) mid d) (Clocked-shows mid more r to k)
+    shows_then r first more (ReadFrames-shows id l first (Ok tt) mid d) (ReadClock-shows mid more r to k)
 
 -- the sending of a draft ends no connection
 sent_not_over : (r : Result ℕ SendFault) → run_end (sent_ending r) ≡ run.Closed PeerEnd → ⊥
@@ -125,63 +125,63 @@ sent_not_over (Err fault.OutOfMemory) h = cc
 sent_not_over (Err fault.StoreFault) h = cc
 sent_not_over (Err (fault.LinkFault n)) h = cc
 
-Sends-not_over : (id : Identity) (draft : DraftText) {d to : Desk} {notes : List Note} {r : Result ⊤ Ending} →
-    Sends id draft d notes r to → run_end r ≡ run.Closed PeerEnd → ⊥
-Sends-not_over id draft (desk.spent full) h = cc
-Sends-not_over id draft (desk.sends {r = x} small is k) h = sent_not_over x h
+SendDraft-not_over : (id : Identity) (draft : DraftText) {d to : TurnSeen} {notes : List Note} {r : Result ⊤ Ending} →
+    SendDraft id draft d notes r to → run_end r ≡ run.Closed PeerEnd → ⊥
+SendDraft-not_over id draft (turn_seen.spent full) h = cc
+SendDraft-not_over id draft (turn_seen.sends {r = x} small is k) h = sent_not_over x h
 
-Holding-not_over : (id : Identity) {d to : Desk} {notes : List Note} {r : Result ⊤ Ending} → Holding id d notes r to →
+SendPending-not_over : (id : Identity) {d to : TurnSeen} {notes : List Note} {r : Result ⊤ Ending} → SendPending id d notes r to →
     run_end r ≡ run.Closed PeerEnd → ⊥
-Holding-not_over id (desk.empty held_none) h = cc
-Holding-not_over id (desk.holds draft some k) h = Sends-not_over id draft k h
+SendPending-not_over id (turn_seen.empty held_none) h = cc
+SendPending-not_over id (turn_seen.holds draft some k) h = SendDraft-not_over id draft k h
 
-Offered-not_over : (id : Identity) {d to : Desk} {notes : List Note} {r : Result ⊤ Ending} → Offered id d notes r to →
+OfferDraft-not_over : (id : Identity) {d to : TurnSeen} {notes : List Note} {r : Result ⊤ Ending} → OfferDraft id d notes r to →
     run_end r ≡ run.Closed PeerEnd → ⊥
-Offered-not_over id (desk.not_up other) h = cc
-Offered-not_over id (desk.asked given up held_none k) h = Holding-not_over id k h
-Offered-not_over id (desk.was_in_hand draft up some k) h = Sends-not_over id draft k h
+OfferDraft-not_over id (turn_seen.not_up other) h = cc
+OfferDraft-not_over id (turn_seen.asked given up held_none k) h = SendPending-not_over id k h
+OfferDraft-not_over id (turn_seen.was_in_hand draft up some k) h = SendDraft-not_over id draft k h
 
-Offered-shows : (id : Identity) (d : Desk) (notes : List Note) (r : Result ⊤ Ending) (to : Desk) →
-    Offered id d notes r to → Shows r notes
-Offered-shows id d notes r to k =
-    let o = Offered-once id d notes r to k in
-    shows_none r notes (λ h. Offered-not_over id k h) (λ a. no_end notes o.tallies.reads a)
+OfferDraft-shows : (id : Identity) (d : TurnSeen) (notes : List Note) (r : Result ⊤ Ending) (to : TurnSeen) →
+    OfferDraft id d notes r to → Shows r notes
+OfferDraft-shows id d notes r to k =
+    let o = OfferDraft-once id d notes r to k in
+    shows_none r notes (λ h. OfferDraft-not_over id k h) (λ a. no_end notes o.tallies.reads a)
 
-Met-shows : (id : Identity) (d : Desk) (notes : List Note) (r : Result ⊤ Ending) (to : Desk) → Met id d notes r to →
+SendReadClock-shows : (id : Identity) (d : TurnSeen) (notes : List Note) (r : Result ⊤ Ending) (to : TurnSeen) → SendReadClock id d notes r to →
     Shows r notes
-Met-shows id d notes r to (first_ends {e = e} k) = Offered-shows id d notes (Err e) to k
-Met-shows id d notes r to (both {mid = mid} {first = first} {more = more} k (beside {to = end} h)) =
-    shows_then r first more (Offered-shows id d first (Ok tt) mid k) (Looked-shows id mid.live more r end h)
+SendReadClock-shows id d notes r to (first_ends {e = e} k) = OfferDraft-shows id d notes (Err e) to k
+SendReadClock-shows id d notes r to (both {mid = mid} {first = first} {more = more} k (beside {to = end} h)) =
+    shows_then r first more (OfferDraft-shows id d first (Ok tt) mid k) (Looked-shows id mid.connection more r end h)
 
-unkept : (l to : Live) (notes all : List Note) (e : Ending) → KeptExpected l notes (Err e) to → Shows (Err e) all
+unkept : (l to : ConnectionSeen) (notes all : List Note) (e : Ending) → StoreExpected l notes (Err e) to → Shows (Err e) all
 unkept l to notes all e (turn.expect_lost h) = record { read = λ h. absurd cc; only = λ a. tt }
 unkept l to notes all e (turn.expect_memory h) = record { read = λ h. absurd cc; only = λ a. tt }
 
-Turn-shows : (id : Identity) (d : Desk) (notes : List Note) (r : Result ⊤ Ending) (to : Desk) → Turn id d notes r to →
+Turn-shows : (id : Identity) (d : TurnSeen) (notes : List Note) (r : Result ⊤ Ending) (to : TurnSeen) → Turn id d notes r to →
     Shows r notes
-Turn-shows id d notes r to (desk.stops h k) = Met-shows id d notes r to k
-Turn-shows id d notes r to (desk.keeps {mid = mid} {first = first} {more = more} h k (beside {to = end} e)) =
-    shows_too r first more (Met-shows id d first r mid k) (KeptExpected-answers mid.live more (Ok tt) end e)
-Turn-shows id d notes r to (desk.keeps_not {mid = mid} {first = first} {more = more} {e = e} h k
-    (beside {to = end} lost)) = unkept mid.live end more (first ++ more) e lost
+Turn-shows id d notes r to (turn_seen.stops h k) = SendReadClock-shows id d notes r to k
+Turn-shows id d notes r to (turn_seen.keeps {mid = mid} {first = first} {more = more} h k (beside {to = end} e)) =
+    shows_too r first more (SendReadClock-shows id d first r mid k) (StoreExpected-answers mid.connection more (Ok tt) end e)
+Turn-shows id d notes r to (turn_seen.keeps_not {mid = mid} {first = first} {more = more} {e = e} h k
+    (beside {to = end} lost)) = unkept mid.connection end more (first ++ more) e lost
 
-Turns-show : (id : Identity) (us : List ⊤) (d : Desk) (notes : List Note) (r : Result ⊤ Ending) (to : Desk) →
+TakeTurns-show : (id : Identity) (us : List ⊤) (d : TurnSeen) (notes : List Note) (r : Result ⊤ Ending) (to : TurnSeen) →
     Each (OneTurn id) d us notes r to → Shows r notes
-Turns-show id [] d notes r to fold.none = shows_none (Ok tt) [] (λ h. cc) none_of_none
-Turns-show id (u ∷ us) d notes r to (fold.ends {e = e} k) = Turn-shows id d notes (Err e) to k
-Turns-show id (u ∷ us) d notes r to (fold.goes {mid = mid} {first = first} {more = more} k rest) =
-    shows_then r first more (Turn-shows id d first (Ok tt) mid k) (Turns-show id us mid more r to rest)
+TakeTurns-show id [] d notes r to fold.none = shows_none (Ok tt) [] (λ h. cc) none_of_none
+TakeTurns-show id (u ∷ us) d notes r to (fold.ends {e = e} k) = Turn-shows id d notes (Err e) to k
+TakeTurns-show id (u ∷ us) d notes r to (fold.goes {mid = mid} {first = first} {more = more} k rest) =
+    shows_then r first more (Turn-shows id d first (Ok tt) mid k) (TakeTurns-show id us mid more r to rest)
 
-Ran-shows : (id : Identity) (n : ℕ) (d : Desk) (notes : List Note) (r : Result ⊤ Ending) (to : Desk) →
-    Ran id n d notes r to → Shows r notes
-Ran-shows id n d notes r to (desk.all_turns k) = Turns-show id (replicate n tt) d notes (Ok tt) to k
-Ran-shows id n d notes r to (desk.cut {to = at} {notes = xs} {e = e} h k) =
-    shows_too (Err e) xs (Did act.Cut ∷ []) (Turns-show id (replicate n tt) d xs (Err e) at k)
+RunAndCut-shows : (id : Identity) (n : ℕ) (d : TurnSeen) (notes : List Note) (r : Result ⊤ Ending) (to : TurnSeen) →
+    RunAndCut id n d notes r to → Shows r notes
+RunAndCut-shows id n d notes r to (turn_seen.all_turns k) = TakeTurns-show id (replicate n tt) d notes (Ok tt) to k
+RunAndCut-shows id n d notes r to (turn_seen.cut {to = at} {notes = xs} {e = e} h k) =
+    shows_too (Err e) xs (Did act.Cut ∷ []) (TakeTurns-show id (replicate n tt) d xs (Err e) at k)
     (record { reads = refl; looks = refl; asks = refl })
-Ran-shows id n d notes r to (desk.cut_memory h k) = record { read = λ h. absurd cc; only = λ a. tt }
-Ran-shows id n d notes r to (desk.no_cut {to = at} {e = e} h k) = Turns-show id (replicate n tt) d notes (Err e) at k
+RunAndCut-shows id n d notes r to (turn_seen.cut_memory h k) = record { read = λ h. absurd cc; only = λ a. tt }
+RunAndCut-shows id n d notes r to (turn_seen.no_cut {to = at} {e = e} h k) = TakeTurns-show id (replicate n tt) d notes (Err e) at k
 
 -- a run answers the other side's end just where it read it
-pub shows_peer_end : (id : Identity) (n : ℕ) (d : Desk) (r : Result ⊤ Ending) (to : Desk) (old new : Seen) →
-    Goes old new (λ notes. Ran id n d notes r to) → Goes old new (λ notes. ShowsPeerEnd (run_end r) (acts_of notes))
-shows_peer_end id n d r to old new g = (g.0, g.1, Ran-shows id n d g.0 r to g.2)
+pub shows_peer_end : (id : Identity) (n : ℕ) (d : TurnSeen) (r : Result ⊤ Ending) (to : TurnSeen) (old new : OutsideSeen) →
+    HasTrace old new (λ notes. RunAndCut id n d notes r to) → HasTrace old new (λ notes. ShowsPeerEnd (run_end r) (acts_of notes))
+shows_peer_end id n d r to old new g = (g.0, g.1, RunAndCut-shows id n d g.0 r to g.2)

@@ -2,7 +2,7 @@
 use Rattle.std.proofs.Common.{◌≡◌, ◌≢◌, ℕ, List, Result, Ok, Err, refl, sym, ◌∙◌}
 use Rattle.std.specs.Prelude.{⊤}
 use Rattle.fix_base.specs.declared.identity.Identity.{Identity}
-use Rattle.fix_base.specs.Seen.{Note}
+use Rattle.fix_base.specs.Trace.{Note}
 use Rattle.fix_fields.specs.Drafted.{DraftText}
 use Rattle.fix_engine.specs.State.{State, Phase, Down, Ending, Step}
 use Rattle.fix_engine.specs.declared.state.Ending.TheVariants as ending
@@ -10,14 +10,14 @@ use Rattle.fix_engine.specs.declared.stop.SendFault.{SendFault}
 use Rattle.fix_engine.specs.Fold.{Each, none, ends, goes, AndThen, first_ends, both}
 use Rattle.fix_engine.specs.Answer.{Performed, nothing, count, go_up, close, give_up, taken, hand_lost, hand_memory}
 use Rattle.fix_engine.specs.Answer.{spent, keep_memory, keep_lost, sent, write_lost, write_memory}
-use Rattle.fix_engine.specs.Turn.{Live, Taken, no_more, ends as ends_at, goes as goes_on, fed_frames, fed_memory, Heard}
-use Rattle.fix_engine.specs.Turn.{bytes, idle, over, read_lost, read_memory, Clocked, now, now_memory, KeptExpected}
-use Rattle.fix_engine.specs.Turn.{same, kept, expect_lost, expect_memory}
+use Rattle.fix_engine.specs.Reading.{ConnectionSeen, AnswerFrames, no_more, ends as ends_at, goes as goes_on, fed_frames, fed_memory, ReadFrames}
+use Rattle.fix_engine.specs.Reading.{bytes, idle, over, read_lost, read_memory, ReadClock, now, now_memory, StoreExpected}
+use Rattle.fix_engine.specs.Reading.{same, kept, expect_lost, expect_memory}
 use Rattle.fix_engine.specs.Drafted as drafted
 use Rattle.fix_engine.specs.Drafted.{Drafting}
-use Rattle.fix_engine.specs.Desk as desk
-use Rattle.fix_engine.specs.Desk.{Desk, Sends, Holding, Offered, beside, Met, Turn, stops, keeps, keeps_not, Ran}
-use Rattle.fix_engine.specs.Desk.{all_turns, cut, cut_memory, no_cut}
+use Rattle.fix_engine.specs.Turn as turn_seen
+use Rattle.fix_engine.specs.Turn.{TurnSeen, SendDraft, SendPending, OfferDraft, beside, SendReadClock, Turn, stops, keeps, keeps_not, RunAndCut}
+use Rattle.fix_engine.specs.Turn.{all_turns, cut, cut_memory, no_cut}
 use Rattle.fix_engine.specs.Run.{IsDownUnlessSpent}
 use Rattle.fix_engine.specs.Faults.{sent_ending, run_end}
 use Rattle.fix_engine.proofs.SendLemmas.{drafting_phase}
@@ -56,33 +56,33 @@ Performed-open id frame s x notes r s' (sent say n text h said) = λ g. g
 Performed-open id frame s x notes r s' (write_lost say n text k h said) = tt
 Performed-open id frame s x notes r s' (write_memory say n h) = tt
 
-Taken-open : (id : Identity) (l : Live) (notes : List Note) (r : Result ⊤ Ending) (to : Live) →
-    Taken id l notes r to → StaysOpen r l.state.phase to.state.phase
-Taken-open id l notes r to (no_more gives) = λ h. h
-Taken-open id l notes r to (ends_at frame gives h) = tt
-Taken-open id l notes r to (goes_on frame gives h more) =
+AnswerFrames-open : (id : Identity) (l : ConnectionSeen) (notes : List Note) (r : Result ⊤ Ending) (to : ConnectionSeen) →
+    AnswerFrames id l notes r to → StaysOpen r l.state.phase to.state.phase
+AnswerFrames-open id l notes r to (no_more gives) = λ h. h
+AnswerFrames-open id l notes r to (ends_at frame gives h) = tt
+AnswerFrames-open id l notes r to (goes_on frame gives h more) =
     both_open r to.state.phase (Each-open (λ s. s.phase) (Ok tt) (Performed-open id frame) h.carried)
-    (Taken-open id _ _ r to more)
+    (AnswerFrames-open id _ _ r to more)
 
-Heard-open : (id : Identity) (l : Live) (notes : List Note) (r : Result ⊤ Ending) (to : Live) →
-    Heard id l notes r to → StaysOpen r l.state.phase to.state.phase
-Heard-open id l notes r to (bytes b some fits (fed_frames d)) = Taken-open id _ _ r to d
-Heard-open id l notes r to (bytes b some fits fed_memory) = tt
-Heard-open id l notes r to idle = λ h. h
-Heard-open id l notes r to over = tt
-Heard-open id l notes r to read_lost = tt
-Heard-open id l notes r to read_memory = tt
+ReadFrames-open : (id : Identity) (l : ConnectionSeen) (notes : List Note) (r : Result ⊤ Ending) (to : ConnectionSeen) →
+    ReadFrames id l notes r to → StaysOpen r l.state.phase to.state.phase
+ReadFrames-open id l notes r to (bytes b some fits (fed_frames d)) = AnswerFrames-open id _ _ r to d
+ReadFrames-open id l notes r to (bytes b some fits fed_memory) = tt
+ReadFrames-open id l notes r to idle = λ h. h
+ReadFrames-open id l notes r to over = tt
+ReadFrames-open id l notes r to read_lost = tt
+ReadFrames-open id l notes r to read_memory = tt
 
-Clocked-open : (l : Live) (notes : List Note) (r : Result ⊤ Ending) (to : Live) → Clocked l notes r to →
+ReadClock-open : (l : ConnectionSeen) (notes : List Note) (r : Result ⊤ Ending) (to : ConnectionSeen) → ReadClock l notes r to →
     StaysOpen r l.state.phase to.state.phase
-Clocked-open l notes r to (now t) = λ h. h
-Clocked-open l notes r to now_memory = tt
+ReadClock-open l notes r to (now t) = λ h. h
+ReadClock-open l notes r to now_memory = tt
 
-Looked-open : (id : Identity) (l to : Live) (notes : List Note) (r : Result ⊤ Ending) →
-    AndThen (Heard id) Clocked l notes r to → StaysOpen r l.state.phase to.state.phase
+Looked-open : (id : Identity) (l to : ConnectionSeen) (notes : List Note) (r : Result ⊤ Ending) →
+    AndThen (ReadFrames id) ReadClock l notes r to → StaysOpen r l.state.phase to.state.phase
 Looked-open id l to notes r (first_ends d) = tt
 Looked-open id l to notes r (both d more) =
-    both_open r to.state.phase (Heard-open id _ _ _ _ d) (Clocked-open _ _ r to more)
+    both_open r to.state.phase (ReadFrames-open id _ _ _ _ d) (ReadClock-open _ _ r to more)
 
 same_open : (a b : Phase) → b ≡ a → a ≢ Down → b ≢ Down
 same_open a b stays is_open = λ closed. is_open (sym stays ∙ closed)
@@ -98,48 +98,48 @@ Drafting-open id draft s s' notes r (drafted.sent {n = n} text up said k) =
 Drafting-open id draft s s' notes r (drafted.write_lost text many up said k) = tt
 Drafting-open id draft s s' notes r (drafted.write_memory up k) = tt
 
-Sends-open : (id : Identity) (draft : DraftText) (d to : Desk) (notes : List Note) (r : Result ⊤ Ending) →
-    Sends id draft d notes r to → StaysOpen r d.live.state.phase to.live.state.phase
-Sends-open id draft d to notes r (desk.spent full) = tt
-Sends-open id draft d to notes r (desk.sends {r = x} {s = s} small is k) =
-    Drafting-open id draft d.live.state s notes x k
+SendDraft-open : (id : Identity) (draft : DraftText) (d to : TurnSeen) (notes : List Note) (r : Result ⊤ Ending) →
+    SendDraft id draft d notes r to → StaysOpen r d.connection.state.phase to.connection.state.phase
+SendDraft-open id draft d to notes r (turn_seen.spent full) = tt
+SendDraft-open id draft d to notes r (turn_seen.sends {r = x} {s = s} small is k) =
+    Drafting-open id draft d.connection.state s notes x k
 
-Holding-open : (id : Identity) (d to : Desk) (notes : List Note) (r : Result ⊤ Ending) → Holding id d notes r to →
-    StaysOpen r d.live.state.phase to.live.state.phase
-Holding-open id d to notes r (desk.empty held_none) = λ h. h
-Holding-open id d to notes r (desk.holds draft some k) = Sends-open id draft d to notes r k
+SendPending-open : (id : Identity) (d to : TurnSeen) (notes : List Note) (r : Result ⊤ Ending) → SendPending id d notes r to →
+    StaysOpen r d.connection.state.phase to.connection.state.phase
+SendPending-open id d to notes r (turn_seen.empty held_none) = λ h. h
+SendPending-open id d to notes r (turn_seen.holds draft some k) = SendDraft-open id draft d to notes r k
 
-Offered-open : (id : Identity) (d to : Desk) (notes : List Note) (r : Result ⊤ Ending) → Offered id d notes r to →
-    StaysOpen r d.live.state.phase to.live.state.phase
-Offered-open id d to notes r (desk.not_up other) = λ h. h
-Offered-open id d to notes r (desk.asked {notes = more} given up held_none k) =
-    Holding-open id (desk.desk d.live (record { draft = given; tried = d.hand.tried })) to more r k
-Offered-open id d to notes r (desk.was_in_hand draft up some k) = Sends-open id draft d to notes r k
+OfferDraft-open : (id : Identity) (d to : TurnSeen) (notes : List Note) (r : Result ⊤ Ending) → OfferDraft id d notes r to →
+    StaysOpen r d.connection.state.phase to.connection.state.phase
+OfferDraft-open id d to notes r (turn_seen.not_up other) = λ h. h
+OfferDraft-open id d to notes r (turn_seen.asked {notes = more} given up held_none k) =
+    SendPending-open id (turn_seen.turn_seen d.connection (record { draft = given; store_failed = d.pending.store_failed })) to more r k
+OfferDraft-open id d to notes r (turn_seen.was_in_hand draft up some k) = SendDraft-open id draft d to notes r k
 
-Met-open : (id : Identity) (d to : Desk) (notes : List Note) (r : Result ⊤ Ending) → Met id d notes r to →
-    StaysOpen r d.live.state.phase to.live.state.phase
-Met-open id d to notes r (first_ends k) = tt
-Met-open id d to notes r (both {mid = mid} {first = first} {more = more} k (beside {to = end} h)) =
-    both_open r end.state.phase (Offered-open id d mid first (Ok tt) k) (Looked-open id mid.live end more r h)
+SendReadClock-open : (id : Identity) (d to : TurnSeen) (notes : List Note) (r : Result ⊤ Ending) → SendReadClock id d notes r to →
+    StaysOpen r d.connection.state.phase to.connection.state.phase
+SendReadClock-open id d to notes r (first_ends k) = tt
+SendReadClock-open id d to notes r (both {mid = mid} {first = first} {more = more} k (beside {to = end} h)) =
+    both_open r end.state.phase (OfferDraft-open id d mid first (Ok tt) k) (Looked-open id mid.connection end more r h)
 
-KeptExpected-open : (l : Live) (notes : List Note) (r : Result ⊤ Ending) (to : Live) → KeptExpected l notes r to →
+StoreExpected-open : (l : ConnectionSeen) (notes : List Note) (r : Result ⊤ Ending) (to : ConnectionSeen) → StoreExpected l notes r to →
     StaysOpen r l.state.phase to.state.phase
-KeptExpected-open l notes r to (same h) = λ g. g
-KeptExpected-open l notes r to (kept h) = λ g. g
-KeptExpected-open l notes r to (expect_lost h) = tt
-KeptExpected-open l notes r to (expect_memory h) = tt
+StoreExpected-open l notes r to (same h) = λ g. g
+StoreExpected-open l notes r to (kept h) = λ g. g
+StoreExpected-open l notes r to (expect_lost h) = tt
+StoreExpected-open l notes r to (expect_memory h) = tt
 
 -- what is met first, and then the keeping that went well
 then_kept : (r : Result ⊤ Ending) (a b c : Phase) → StaysOpen r a b → (b ≢ Down → c ≢ Down) → StaysOpen r a c
 then_kept (Ok x) a b c met later = λ h. later (met h)
 then_kept (Err e) a b c met later = tt
 
-Turn-open : (id : Identity) (d : Desk) (u : ⊤) (notes : List Note) (r : Result ⊤ Ending) (to : Desk) →
-    Turn id d notes r to → StaysOpen r d.live.state.phase to.live.state.phase
-Turn-open id d u notes r to (stops h k) = Met-open id d to notes r k
+Turn-open : (id : Identity) (d : TurnSeen) (u : ⊤) (notes : List Note) (r : Result ⊤ Ending) (to : TurnSeen) →
+    Turn id d notes r to → StaysOpen r d.connection.state.phase to.connection.state.phase
+Turn-open id d u notes r to (stops h k) = SendReadClock-open id d to notes r k
 Turn-open id d u notes r to (keeps {mid = mid} h k (beside {to = end} e)) =
-    then_kept r d.live.state.phase mid.live.state.phase end.state.phase (Met-open id d mid _ r k)
-    (KeptExpected-open mid.live _ (Ok tt) end e)
+    then_kept r d.connection.state.phase mid.connection.state.phase end.state.phase (SendReadClock-open id d mid _ r k)
+    (StoreExpected-open mid.connection _ (Ok tt) end e)
 Turn-open id d u notes r to (keeps_not h k e) = tt
 
 err_is_down : (e : Ending) (old : Phase) → IsDownUnlessSpent (run_end (Err e)) old Down
@@ -152,11 +152,11 @@ err_is_down ending.NumbersSpent old = refl
 err_is_down ending.OutOfMemory old = refl
 
 -- a run of an open connection
-pub Ran-phase : (id : Identity) (n : ℕ) (d : Desk) (notes : List Note) (r : Result ⊤ Ending) (to : Desk) →
-    d.live.state.phase ≢ Down → Ran id n d notes r to →
-    IsDownUnlessSpent (run_end r) d.live.state.phase to.live.state.phase
-Ran-phase id n d notes r to is_open (all_turns k) =
-    Each-open (λ (d : Desk). d.live.state.phase) (Ok tt) (Turn-open id) k is_open
-Ran-phase id n d notes r to is_open (cut {e = e} h k) = err_is_down e d.live.state.phase
-Ran-phase id n d notes r to is_open (cut_memory h k) = err_is_down ending.OutOfMemory d.live.state.phase
-Ran-phase id n d notes r to is_open (no_cut {e = e} h k) = err_is_down e d.live.state.phase
+pub RunAndCut-phase : (id : Identity) (n : ℕ) (d : TurnSeen) (notes : List Note) (r : Result ⊤ Ending) (to : TurnSeen) →
+    d.connection.state.phase ≢ Down → RunAndCut id n d notes r to →
+    IsDownUnlessSpent (run_end r) d.connection.state.phase to.connection.state.phase
+RunAndCut-phase id n d notes r to is_open (all_turns k) =
+    Each-open (λ (d : TurnSeen). d.connection.state.phase) (Ok tt) (Turn-open id) k is_open
+RunAndCut-phase id n d notes r to is_open (cut {e = e} h k) = err_is_down e d.connection.state.phase
+RunAndCut-phase id n d notes r to is_open (cut_memory h k) = err_is_down ending.OutOfMemory d.connection.state.phase
+RunAndCut-phase id n d notes r to is_open (no_cut {e = e} h k) = err_is_down e d.connection.state.phase

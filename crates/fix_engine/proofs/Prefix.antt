@@ -11,35 +11,35 @@ use Rattle.fix_base.specs.declared.identity.Identity.{Identity}
 use Rattle.fix_base.specs.Session.{IsValidIdentity}
 use Rattle.fix_base.specs.Payload.{LAST_TIME}
 use Rattle.fix_base.specs.Shape.{IsFrame}
-use Rattle.fix_base.specs.Stream.{Ahead}
+use Rattle.fix_base.specs.Stream.{UnreadBytes}
 use Rattle.fix_base.specs.Says.{fields_text, body_of}
 use Rattle.fix_base.specs.Sealed.{sealed}
 use Rattle.fix_base.specs.declared.act.Act.TheVariants as act
 use Rattle.fix_base.specs.declared.entry.Record.TheVariants.{Push, Expect}
-use Rattle.fix_base.specs.Seen.{Note, Did, Failed, Asked, StorePart, LinkPart, AppPart, Seen, Faults, Counts, NoneRose}
-use Rattle.fix_base.specs.Seen.{Goes}
+use Rattle.fix_base.specs.Trace.{Note, Did, Failed, Asked, StorePart, LinkPart, AppPart, OutsideSeen, Faults, Counts, NoneRose}
+use Rattle.fix_base.specs.Trace.{HasTrace}
 use Rattle.fix_fields.specs.Drafted.{DraftText, IsDraft, draft_body}
 use Rattle.fix_frame.specs.Sealable.{message_text}
 use Rattle.fix_frame.specs.Given.{GivesFrame}
-use Rattle.fix_engine.specs.State.{State, Phase, Down, AwaitLogon, Up, Ending, Say, Step, with_kept, with_last, counted}
+use Rattle.fix_engine.specs.State.{State, Phase, Down, AwaitLogon, Up, Ending, Say, Step, with_stored_expected, with_last, counted}
 use Rattle.fix_engine.specs.declared.state.Ending.TheVariants as ending
 use Rattle.fix_engine.specs.declared.state.Step.TheVariants as step
-use Rattle.fix_engine.specs.declared.hand.Hand.{Hand}
+use Rattle.fix_engine.specs.declared.pending.PendingDraft.{PendingDraft}
 use Rattle.fix_engine.specs.declared.stop.SendFault.{SendFault}
 use Rattle.fix_engine.specs.Fold.{Each, none, ends, goes, AndThen, first_ends, both}
-use Rattle.fix_engine.specs.Inbound.{Inbound, IsInbound, IsLogon}
+use Rattle.fix_engine.specs.Inbound.{InboundSeen, IsInbound, IsLogon}
 use Rattle.fix_engine.specs.Written.{header_fields}
 use Rattle.fix_engine.specs.Answer as answer
-use Rattle.fix_engine.specs.Answer.{Performed, Handled, IsSaid, IsSayable, kind_of, fields_of, entry_of, answer_to}
+use Rattle.fix_engine.specs.Answer.{Performed, AnswerFrame, IsSaid, IsSayable, kind_of, fields_of, entry_of, answer_to}
 use Rattle.fix_engine.specs.Answer.{answer_in, logon_answer, logout_answer, app_answer, not_built, refused, is_in_order}
 use Rattle.fix_engine.specs.Answer.{is_app_type, names}
-use Rattle.fix_engine.specs.Turn as turn
-use Rattle.fix_engine.specs.Turn.{Live, live, fed, Taken, Heard, Clocked, KeptExpected}
+use Rattle.fix_engine.specs.Reading as turn
+use Rattle.fix_engine.specs.Reading.{ConnectionSeen, connection_seen, fed, AnswerFrames, ReadFrames, ReadClock, StoreExpected}
 use Rattle.fix_engine.specs.Drafted as drafted
 use Rattle.fix_engine.specs.Drafted.{IsOfDraft, Drafting, entry_of_draft}
-use Rattle.fix_engine.specs.Desk as turns
-use Rattle.fix_engine.specs.Desk.{Desk, desk, put_down, Sends, Offered, Beside, beside, Met, Turn, OneTurn, Turns, Ran}
-use Rattle.fix_engine.specs.Desk.{hand_behind, no_draft, in_hand}
+use Rattle.fix_engine.specs.Turn as turns
+use Rattle.fix_engine.specs.Turn.{TurnSeen, turn_seen, put_down, SendDraft, OfferDraft, Beside, beside, SendReadClock, Turn, OneTurn, TakeTurns, RunAndCut}
+use Rattle.fix_engine.specs.Turn.{pending_after, no_draft, pending_draft}
 use Rattle.fix_engine.specs.Faults.{settles_of, is_cut_of, sent_ending, is_store_fault, run_end}
 use Rattle.fix_engine.specs.Stated.{IsFaultless, GoesOn, CanNotFail, IsAsStated}
 use Rattle.fix_engine.proofs.EachTime.{each_time}
@@ -232,7 +232,7 @@ IsTimely s = s.reading ≤ LAST_TIME
 -- what a step says can be said
 abbrev IsFit : Step → Type 0
 IsFit (step.Send say n) = IsSayable say
-IsFit (step.Hand n marked) = ⊤
+IsFit (step.PendingDraft n marked) = ⊤
 IsFit (step.Count n) = ⊤
 IsFit step.GoUp = ⊤
 IsFit (step.Close why) = ⊤
@@ -282,7 +282,7 @@ Performed-total id frame valid f (step.GiveUp n) fit s ok =
       whole = answer.give_up n;
       no_want = λ h. cc;
     }
-Performed-total id frame valid f (step.Hand n marked) fit s ok =
+Performed-total id frame valid f (step.PendingDraft n marked) fit s ok =
     record {
       more = Did (act.Handed n marked (body_of (fields_in f))) ∷ [];
       faultless = tt;
@@ -381,19 +381,19 @@ by-test : {A : Type 0} (P : A → Type 0) (t : Bool) (x y : A) → P x → P y �
 by-test P true x y h k = h
 by-test P false x y h k = k
 
-logon-fits : (n : ℕ) (heart : Option ℕ) (i : Inbound) → IfSome heart (λ h. h ≤ 86400) →
+logon-fits : (n : ℕ) (heart : Option ℕ) (i : InboundSeen) → IfSome heart (λ h. h ≤ 86400) →
     AllByRecursion IsFit (logon_answer n heart i)
 logon-fits n None i h = (tt, (tt, (tt, (tt, tt))))
 logon-fits n (Some heart) i h = (omega arith, (tt, (tt, (tt, tt))))
 
-heart_small : (frame : List ℕ) (i : Inbound) → IsInbound frame i → IfSome i.heart (λ h. h ≤ 86400)
+heart_small : (frame : List ℕ) (i : InboundSeen) → IsInbound frame i → IfSome i.heart (λ h. h ≤ 86400)
 heart_small frame i p = small i.heart p.heart.known
   where
     small : (heart : Option ℕ) → IfSome heart (λ h. IsLogon p.fields h) → IfSome heart (λ h. h ≤ 86400)
     small None h = tt
     small (Some heart) h = h.at_most_a_day
 
-answers-fit : (frame : List ℕ) (phase : Phase) (id : Identity) (s : State) (i : Inbound) → IsInbound frame i →
+answers-fit : (frame : List ℕ) (phase : Phase) (id : Identity) (s : State) (i : InboundSeen) → IsInbound frame i →
     AllByRecursion IsFit (answer_in phase id s i)
 answers-fit frame Down id s i p = (tt, (tt, (tt, (tt, tt))))
 answers-fit frame AwaitLogon id s i p =
@@ -410,9 +410,9 @@ answers-fit frame Up id s i p =
 
 -- ---- the frames
 
-Handled-total : (id : Identity) (frame : List ℕ) → IsValidIdentity id → IsFrame frame → (s : State) → IsTimely s →
-    CanNotFail (Onward IsTimely (λ s. Handled id s frame) s [])
-Handled-total id frame valid f s ok = λ hold. each_presents frame f (λ p.
+AnswerFrame-total : (id : Identity) (frame : List ℕ) → IsValidIdentity id → IsFrame frame → (s : State) → IsTimely s →
+    CanNotFail (Onward IsTimely (λ s. AnswerFrame id s frame) s [])
+AnswerFrame-total id frame valid f s ok = λ hold. each_presents frame f (λ p.
     let t = Each-total IsTimely (Performed id frame) IsFit (Performed-total id frame valid f) (answer_to id s p.0)
     (answers-fit frame s.phase id s p.0 p.1) s ok in
     hold (record {
@@ -425,9 +425,9 @@ Handled-total id frame valid f s ok = λ hold. each_presents frame f (λ p.
       no_want = t.no_want;
     }))
 
-Handled-resumes : (id : Identity) (frame : List ℕ) → IsValidIdentity id → IsFrame frame →
-    Resumes IsTimely (λ s. Handled id s frame)
-Handled-resumes id frame valid f s notes s' ok d = λ hold.
+AnswerFrame-resumes : (id : Identity) (frame : List ℕ) → IsValidIdentity id → IsFrame frame →
+    Resumes IsTimely (λ s. AnswerFrame id s frame)
+AnswerFrame-resumes id frame valid f s notes s' ok d = λ hold.
     Each-resumes IsTimely (Performed id frame) IsFit (Performed-total id frame valid f)
     (Performed-resumes id frame valid f) (λ x s notes r s' h. Performed-stays id frame x s notes r s')
     (answer_to id s d.inbound) (answers-fit frame s.phase id s d.inbound d.presents) s notes s' ok d.carried
@@ -442,29 +442,29 @@ Handled-resumes id frame valid f s notes s' ok d = λ hold.
       no_want = t.no_want;
     }))
 
-Handled-stays : (id : Identity) (frame : List ℕ) → Stays IsTimely (λ s. Handled id s frame)
-Handled-stays id frame s notes r s' ok d =
+AnswerFrame-stays : (id : Identity) (frame : List ℕ) → Stays IsTimely (λ s. AnswerFrame id s frame)
+AnswerFrame-stays id frame s notes r s' ok d =
     Each-stays IsTimely (Performed id frame) (Performed-stays id frame) (answer_to id s d.inbound) s notes r s' ok
     d.carried
 
 -- the state's reading has a text
-abbrev IsOnTime : Live → Type 0
+abbrev IsOnTime : ConnectionSeen → Type 0
 IsOnTime l = IsTimely l.state
 
-frame_onward : (id : Identity) (s : State) (from behind : Ahead) (frame : List ℕ) (notes : List Note) →
+frame_onward : (id : Identity) (s : State) (from behind : UnreadBytes) (frame : List ℕ) (notes : List Note) →
     GivesFrame from behind frame → ((mid : State) → IsTimely mid →
-    CanNotFail (Onward IsOnTime (Taken id) (live mid behind) [])) →
-    Onward IsTimely (λ s. Handled id s frame) s notes → CanNotFail (Onward IsOnTime (Taken id) (live s from) notes)
+    CanNotFail (Onward IsOnTime (AnswerFrames id) (connection_seen mid behind) [])) →
+    Onward IsTimely (λ s. AnswerFrame id s frame) s notes → CanNotFail (Onward IsOnTime (AnswerFrames id) (connection_seen s from) notes)
 frame_onward id s from behind frame notes gives total g = by-answer g.r g.to g.good g.whole g.no_want
   where
-    by-answer : (r : Result ⊤ Ending) (to : State) → IsTimely to → Handled id s frame (notes ++ g.more) r to →
-        r ≢ Err ending.OutOfMemory → CanNotFail (Onward IsOnTime (Taken id) (live s from) notes)
+    by-answer : (r : Result ⊤ Ending) (to : State) → IsTimely to → AnswerFrame id s frame (notes ++ g.more) r to →
+        r ≢ Err ending.OutOfMemory → CanNotFail (Onward IsOnTime (AnswerFrames id) (connection_seen s from) notes)
     by-answer (Err e) to ok d n = λ hold. hold
         (record {
           more = g.more;
           faultless = g.faultless;
           r = Err e;
-          to = live to behind;
+          to = connection_seen to behind;
           good = ok;
           whole = turn.ends frame gives d;
           no_want = n;
@@ -475,72 +475,72 @@ frame_onward id s from behind frame notes gives total g = by-answer g.r g.to g.g
       r = t.r;
       to = t.to;
       good = t.good;
-      whole = subst (λ l. Taken id (live s from) l t.r t.to) (append_assoc notes g.more t.more)
+      whole = subst (λ l. AnswerFrames id (connection_seen s from) l t.r t.to) (append_assoc notes g.more t.more)
           (turn.goes frame gives d t.whole);
       no_want = t.no_want;
     }))
 
 -- what stands next in the bytes, where the frames of fewer bytes are known
-next_onward : (id : Identity) → IsValidIdentity id → (s : State) (from : Ahead) → IsTimely s →
-    ((mid : State) (b : Ahead) → length b.bytes < length from.bytes → IsTimely mid →
-    CanNotFail (Onward IsOnTime (Taken id) (live mid b) [])) → Next from →
-    CanNotFail (Onward IsOnTime (Taken id) (live s from) [])
+next_onward : (id : Identity) → IsValidIdentity id → (s : State) (from : UnreadBytes) → IsTimely s →
+    ((mid : State) (b : UnreadBytes) → length b.bytes < length from.bytes → IsTimely mid →
+    CanNotFail (Onward IsOnTime (AnswerFrames id) (connection_seen mid b) [])) → Next from →
+    CanNotFail (Onward IsOnTime (AnswerFrames id) (connection_seen s from) [])
 next_onward id valid s from ok fewer (none_next b gives) =
     λ hold. hold
     (record {
       more = [];
       faultless = tt;
       r = Ok tt;
-      to = live s b;
+      to = connection_seen s b;
       good = ok;
       whole = turn.no_more gives;
       no_want = Ok-no_want;
     })
 next_onward id valid s from ok fewer (frame_next b frame gives) = λ hold.
-    Handled-total id frame valid gives.frame_there.is.1 s ok
+    AnswerFrame-total id frame valid gives.frame_there.is.1 s ok
     (λ g. frame_onward id s from b frame [] gives
     (λ mid timely. fewer mid b (frame_shortens from b frame gives) timely) g hold)
 
 -- the frames of fewer bytes than that
-Taken-few : (id : Identity) → IsValidIdentity id → (n : ℕ) (s : State) (from : Ahead) → length from.bytes < n →
-    IsTimely s → CanNotFail (Onward IsOnTime (Taken id) (live s from) [])
-Taken-few id valid zero s from few ok = absurd (omega arith)
-Taken-few id valid (suc n) s from few ok =
+AnswerFrames-few : (id : Identity) → IsValidIdentity id → (n : ℕ) (s : State) (from : UnreadBytes) → length from.bytes < n →
+    IsTimely s → CanNotFail (Onward IsOnTime (AnswerFrames id) (connection_seen s from) [])
+AnswerFrames-few id valid zero s from few ok = absurd (omega arith)
+AnswerFrames-few id valid (suc n) s from few ok =
     λ hold. each_next from (λ next. next_onward id valid s from ok
-    (λ mid b less timely. Taken-few id valid n mid b (omega arith) timely) next hold)
+    (λ mid b less timely. AnswerFrames-few id valid n mid b (omega arith) timely) next hold)
 
-Taken-total : (id : Identity) → IsValidIdentity id → (s : State) (from : Ahead) → IsTimely s →
-    CanNotFail (Onward IsOnTime (Taken id) (live s from) [])
-Taken-total id valid s from ok = Taken-few id valid (suc (length from.bytes)) s from (omega arith) ok
+AnswerFrames-total : (id : Identity) → IsValidIdentity id → (s : State) (from : UnreadBytes) → IsTimely s →
+    CanNotFail (Onward IsOnTime (AnswerFrames id) (connection_seen s from) [])
+AnswerFrames-total id valid s from ok = AnswerFrames-few id valid (suc (length from.bytes)) s from (omega arith) ok
 
-Taken-resumes : (id : Identity) → IsValidIdentity id → Resumes IsOnTime (Taken id)
-Taken-resumes id valid l notes to ok (turn.ends {s = s} {s' = s'} {a = from} {b = b} frame gives h) = λ hold.
-    Handled-resumes id frame valid gives.frame_there.is.1 s notes s' ok h
-    (λ g. frame_onward id s from b frame notes gives (λ mid timely. Taken-total id valid mid b timely) g hold)
-Taken-resumes id valid l notes to ok (turn.goes {s = s} {mid = mid} {a = from} {b = b} {first = first} {more = more}
+AnswerFrames-resumes : (id : Identity) → IsValidIdentity id → Resumes IsOnTime (AnswerFrames id)
+AnswerFrames-resumes id valid l notes to ok (turn.ends {s = s} {s' = s'} {a = from} {b = b} frame gives h) = λ hold.
+    AnswerFrame-resumes id frame valid gives.frame_there.is.1 s notes s' ok h
+    (λ g. frame_onward id s from b frame notes gives (λ mid timely. AnswerFrames-total id valid mid b timely) g hold)
+AnswerFrames-resumes id valid l notes to ok (turn.goes {s = s} {mid = mid} {a = from} {b = b} {first = first} {more = more}
     frame gives h k) = λ hold.
-    Taken-resumes id valid (live mid b) more to (Handled-stays id frame s first (Ok tt) mid ok h) k (λ t. hold (record {
+    AnswerFrames-resumes id valid (connection_seen mid b) more to (AnswerFrame-stays id frame s first (Ok tt) mid ok h) k (λ t. hold (record {
       more = t.more;
       faultless = t.faultless;
       r = t.r;
       to = t.to;
       good = t.good;
-      whole = subst (λ l. Taken id (live s from) l t.r t.to) (sym (append_assoc first more t.more))
+      whole = subst (λ l. AnswerFrames id (connection_seen s from) l t.r t.to) (sym (append_assoc first more t.more))
           (turn.goes frame gives h t.whole);
       no_want = t.no_want;
     }))
 
-Taken-stays : (id : Identity) → Stays IsOnTime (Taken id)
-Taken-stays id l notes r to ok (turn.no_more gives) = ok
-Taken-stays id l notes r to ok (turn.ends {s = s} {s' = s'} {e = e} frame gives h) =
-    Handled-stays id frame s notes (Err e) s' ok h
-Taken-stays id l notes r to ok (turn.goes {s = s} {mid = mid} {b = b} {first = first} {more = more} frame gives h k) =
-    Taken-stays id (live mid b) more r to (Handled-stays id frame s first (Ok tt) mid ok h) k
+AnswerFrames-stays : (id : Identity) → Stays IsOnTime (AnswerFrames id)
+AnswerFrames-stays id l notes r to ok (turn.no_more gives) = ok
+AnswerFrames-stays id l notes r to ok (turn.ends {s = s} {s' = s'} {e = e} frame gives h) =
+    AnswerFrame-stays id frame s notes (Err e) s' ok h
+AnswerFrames-stays id l notes r to ok (turn.goes {s = s} {mid = mid} {b = b} {first = first} {more = more} frame gives h k) =
+    AnswerFrames-stays id (connection_seen mid b) more r to (AnswerFrame-stays id frame s first (Ok tt) mid ok h) k
 
 -- ---- a turn
 
-Heard-total : (id : Identity) → Total IsOnTime (Heard id)
-Heard-total id l ok = record {
+ReadFrames-total : (id : Identity) → Total IsOnTime (ReadFrames id)
+ReadFrames-total id l ok = record {
   more = Did act.Idle ∷ [];
   faultless = tt;
   r = Ok tt;
@@ -550,9 +550,9 @@ Heard-total id l ok = record {
   no_want = Ok-no_want;
 }
 
-heard_onward : (id : Identity) (l : Live) (b : List ℕ) (notes : List Note) → 0 < length b → length b ≤ 65536 →
-    Onward IsOnTime (Taken id) (live l.state (fed l.ahead b)) notes →
-    Onward IsOnTime (Heard id) l (Did (act.Read b) ∷ notes)
+heard_onward : (id : Identity) (l : ConnectionSeen) (b : List ℕ) (notes : List Note) → 0 < length b → length b ≤ 65536 →
+    Onward IsOnTime (AnswerFrames id) (connection_seen l.state (fed l.unread b)) notes →
+    Onward IsOnTime (ReadFrames id) l (Did (act.Read b) ∷ notes)
 heard_onward id l b notes some fits t = record {
   more = t.more;
   faultless = t.faultless;
@@ -563,28 +563,28 @@ heard_onward id l b notes some fits t = record {
   no_want = t.no_want;
 }
 
-Heard-resumes : (id : Identity) → IsValidIdentity id → Resumes IsOnTime (Heard id)
-Heard-resumes id valid l notes to ok (turn.bytes {more = more} b some fits (turn.fed_frames d)) =
-    λ hold. Taken-resumes id valid (live l.state (fed l.ahead b)) more to ok d
+ReadFrames-resumes : (id : Identity) → IsValidIdentity id → Resumes IsOnTime (ReadFrames id)
+ReadFrames-resumes id valid l notes to ok (turn.bytes {more = more} b some fits (turn.fed_frames d)) =
+    λ hold. AnswerFrames-resumes id valid (connection_seen l.state (fed l.unread b)) more to ok d
     (λ t. hold (heard_onward id l b more some fits t))
-Heard-resumes id valid l notes to ok (turn.bytes b some fits turn.fed_memory) =
-    λ hold. Taken-total id valid l.state (fed l.ahead b) ok (λ t. hold (heard_onward id l b [] some fits t))
-Heard-resumes id valid l notes to ok turn.read_memory = λ hold. hold (Heard-total id l ok)
+ReadFrames-resumes id valid l notes to ok (turn.bytes b some fits turn.fed_memory) =
+    λ hold. AnswerFrames-total id valid l.state (fed l.unread b) ok (λ t. hold (heard_onward id l b [] some fits t))
+ReadFrames-resumes id valid l notes to ok turn.read_memory = λ hold. hold (ReadFrames-total id l ok)
 
-Heard-stays : (id : Identity) → Stays IsOnTime (Heard id)
-Heard-stays id l notes r to ok (turn.bytes {more = more} b some fits (turn.fed_frames d)) =
-    Taken-stays id (live l.state (fed l.ahead b)) more r to ok d
-Heard-stays id l notes r to ok (turn.bytes b some fits turn.fed_memory) = ok
-Heard-stays id l notes r to ok turn.idle = ok
-Heard-stays id l notes r to ok turn.over = ok
-Heard-stays id l notes r to ok turn.read_lost = ok
-Heard-stays id l notes r to ok turn.read_memory = ok
+ReadFrames-stays : (id : Identity) → Stays IsOnTime (ReadFrames id)
+ReadFrames-stays id l notes r to ok (turn.bytes {more = more} b some fits (turn.fed_frames d)) =
+    AnswerFrames-stays id (connection_seen l.state (fed l.unread b)) more r to ok d
+ReadFrames-stays id l notes r to ok (turn.bytes b some fits turn.fed_memory) = ok
+ReadFrames-stays id l notes r to ok turn.idle = ok
+ReadFrames-stays id l notes r to ok turn.over = ok
+ReadFrames-stays id l notes r to ok turn.read_lost = ok
+ReadFrames-stays id l notes r to ok turn.read_memory = ok
 
-Heard-settles : (id : Identity) → Settles IsOnTime (Heard id)
-Heard-settles id l notes r to h ok d = Heard-stays id l notes r to ok d
+ReadFrames-settles : (id : Identity) → Settles IsOnTime (ReadFrames id)
+ReadFrames-settles id l notes r to h ok d = ReadFrames-stays id l notes r to ok d
 
-Clocked-total : Total IsOnTime Clocked
-Clocked-total l ok = record {
+ReadClock-total : Total IsOnTime ReadClock
+ReadClock-total l ok = record {
   more = Did (act.Now 0) ∷ [];
   faultless = tt;
   r = Ok tt;
@@ -594,36 +594,36 @@ Clocked-total l ok = record {
   no_want = Ok-no_want;
 }
 
-Clocked-resumes : Resumes IsOnTime Clocked
-Clocked-resumes l notes to ok turn.now_memory = λ hold. hold (Clocked-total l ok)
+ReadClock-resumes : Resumes IsOnTime ReadClock
+ReadClock-resumes l notes to ok turn.now_memory = λ hold. hold (ReadClock-total l ok)
 
-Clocked-settles : Settles IsOnTime Clocked
-Clocked-settles l notes r to h ok (turn.now t) = omega arith
-Clocked-settles l notes r to h ok turn.now_memory = ok
+ReadClock-settles : Settles IsOnTime ReadClock
+ReadClock-settles l notes r to h ok (turn.now t) = omega arith
+ReadClock-settles l notes r to h ok turn.now_memory = ok
 
-abbrev Read : Identity → Live → List Note → Result ⊤ Ending → Live → Type 0
-Read id = AndThen (Heard id) Clocked
+abbrev Read : Identity → ConnectionSeen → List Note → Result ⊤ Ending → ConnectionSeen → Type 0
+Read id = AndThen (ReadFrames id) ReadClock
 
 Read-total : (id : Identity) → Total IsOnTime (Read id)
-Read-total id = both-total IsOnTime (Heard id) Clocked (Heard-total id) Clocked-total
+Read-total id = both-total IsOnTime (ReadFrames id) ReadClock (ReadFrames-total id) ReadClock-total
 
 Read-resumes : (id : Identity) → IsValidIdentity id → Resumes IsOnTime (Read id)
-Read-resumes id valid = both-resumes IsOnTime (Heard id) Clocked Clocked-total (Heard-resumes id valid)
-    Clocked-resumes (Heard-settles id)
+Read-resumes id valid = both-resumes IsOnTime (ReadFrames id) ReadClock ReadClock-total (ReadFrames-resumes id valid)
+    ReadClock-resumes (ReadFrames-settles id)
 
 Read-settles : (id : Identity) → Settles IsOnTime (Read id)
-Read-settles id = both-settles IsOnTime (Heard id) Clocked (Heard-settles id) Clocked-settles
+Read-settles id = both-settles IsOnTime (ReadFrames id) ReadClock (ReadFrames-settles id) ReadClock-settles
 
 -- ---- a draft
 
 -- what is in hand is a draft, if there is one
-abbrev IsOfDrafts : Hand → Type 0
+abbrev IsOfDrafts : PendingDraft → Type 0
 IsOfDrafts h = IfSome h.draft IsDraft
 
 -- and the state's reading has a text
-record IsReady (d : Desk) : Type 0 where
-  on_time : IsOnTime d.live
-  drafts : IsOfDrafts d.hand
+record IsReady (d : TurnSeen) : Type 0 where
+  on_time : IsOnTime d.connection
+  drafts : IsOfDrafts d.pending
 
 -- the frame of a draft
 abbrev Framed : Identity → State → DraftText → Type 0
@@ -640,71 +640,71 @@ framed id s draft valid few timely is =
     )
 
 behind_drafts : {T : Type 0} (draft : DraftText) (before last : ℕ) (r : Result T SendFault) → IsDraft draft →
-    IsOfDrafts (hand_behind draft before last r)
+    IsOfDrafts (pending_after draft before last r)
 behind_drafts draft before last r is = by-test IsOfDrafts (last == before)
-    (record { draft = Some draft; tried = is_store_fault r }) no_draft is tt
+    (record { draft = Some draft; store_failed = is_store_fault r }) no_draft is tt
 
 -- the draft is kept and written, of which this is noted so far
 abbrev draft_notes : State → DraftText → List ℕ → List Note
 draft_notes s draft text = Did (act.Kept (Push (entry_of_draft s draft))) ∷ Did (act.Wrote text) ∷ []
 
-draft_onward : (id : Identity) (draft : DraftText) (d : Desk) (notes more : List Note) (text : List ℕ) →
-    IsOnTime d.live → d.live.state.last < 999999999 → IsDraft draft → d.live.state.phase ≡ Up →
-    IsOfDraft id (d.live.state.last + 1) d.live.state.reading draft text → IsFaultless more →
-    notes ++ more ≡ draft_notes d.live.state draft text → Onward IsReady (Sends id draft) d notes
+draft_onward : (id : Identity) (draft : DraftText) (d : TurnSeen) (notes more : List Note) (text : List ℕ) →
+    IsOnTime d.connection → d.connection.state.last < 999999999 → IsDraft draft → d.connection.state.phase ≡ Up →
+    IsOfDraft id (d.connection.state.last + 1) d.connection.state.reading draft text → IsFaultless more →
+    notes ++ more ≡ draft_notes d.connection.state draft text → Onward IsReady (SendDraft id draft) d notes
 draft_onward id draft d notes more text ok few is up framed calm same =
-    let s = d.live.state in
+    let s = d.connection.state in
     let sent : Result ℕ SendFault = Ok (s.last + 1) in
-    let to = desk (live (with_last s (s.last + 1)) d.live.ahead) (hand_behind draft s.last (s.last + 1) sent) in
+    let to = turn_seen (connection_seen (with_last s (s.last + 1)) d.connection.unread) (pending_after draft s.last (s.last + 1) sent) in
     record {
       more = more;
       faultless = calm;
       r = Ok tt;
       to = to;
       good = record { on_time = ok; drafts = behind_drafts draft s.last (s.last + 1) sent is };
-      whole = subst (λ w. Sends id draft d w (Ok tt) to) (sym same)
+      whole = subst (λ w. SendDraft id draft d w (Ok tt) to) (sym same)
           (turns.sends few is (drafted.sent text up framed (drafted.was_kept is)));
       no_want = Ok-no_want;
     }
 
-Sends-total : (id : Identity) → IsValidIdentity id → (draft : DraftText) (d : Desk) → IsOnTime d.live →
-    IsDraft draft → d.live.state.phase ≡ Up → Onward IsReady (Sends id draft) d []
-Sends-total id valid draft d ok is up =
-    elim (cases_lt d.live.state.last 999999999) [
+SendDraft-total : (id : Identity) → IsValidIdentity id → (draft : DraftText) (d : TurnSeen) → IsOnTime d.connection →
+    IsDraft draft → d.connection.state.phase ≡ Up → Onward IsReady (SendDraft id draft) d []
+SendDraft-total id valid draft d ok is up =
+    elim (cases_lt d.connection.state.last 999999999) [
       | inr h ↦ record {
         more = [];
         faultless = tt;
         r = Err ending.NumbersSpent;
-        to = desk d.live (in_hand draft);
+        to = turn_seen d.connection (pending_draft draft);
         good = record { on_time = ok; drafts = is };
         whole = turns.spent h;
         no_want = λ h. cc;
       }
-      | inl h ↦ (let t = framed id d.live.state draft valid h ok is in
-          draft_onward id draft d [] (draft_notes d.live.state draft t.0) t.0 ok h is up t.1 tt refl)
+      | inl h ↦ (let t = framed id d.connection.state draft valid h ok is in
+          draft_onward id draft d [] (draft_notes d.connection.state draft t.0) t.0 ok h is up t.1 tt refl)
     ]
 
 draft_resumes : (id : Identity) → IsValidIdentity id →
-    (draft : DraftText) (d : Desk) (notes : List Note) (r : Result ℕ SendFault) (s' : State) → IsOnTime d.live →
-    d.live.state.last < 999999999 → IsDraft draft → d.live.state.phase ≡ Up → sent_ending r ≡ Err ending.OutOfMemory →
-    Drafting id draft d.live.state notes r s' → Onward IsReady (Sends id draft) d notes
+    (draft : DraftText) (d : TurnSeen) (notes : List Note) (r : Result ℕ SendFault) (s' : State) → IsOnTime d.connection →
+    d.connection.state.last < 999999999 → IsDraft draft → d.connection.state.phase ≡ Up → sent_ending r ≡ Err ending.OutOfMemory →
+    Drafting id draft d.connection.state notes r s' → Onward IsReady (SendDraft id draft) d notes
 draft_resumes id valid draft d notes r s' ok few is up want drafted.no_memory =
-    let t = framed id d.live.state draft valid few ok is in
-    draft_onward id draft d [] (draft_notes d.live.state draft t.0) t.0 ok few is up t.1 tt refl
+    let t = framed id d.connection.state draft valid few ok is in
+    draft_onward id draft d [] (draft_notes d.connection.state draft t.0) t.0 ok few is up t.1 tt refl
 draft_resumes id valid draft d notes r s' ok few is up want (drafted.write_memory up' (drafted.was_kept is')) =
-    let t = framed id d.live.state draft valid few ok is in
+    let t = framed id d.connection.state draft valid few ok is in
     draft_onward id draft d notes (Did (act.Wrote t.0) ∷ []) t.0 ok few is up t.1 tt refl
 draft_resumes id valid draft d notes r s' ok few is up want (drafted.lost k) = absurd cc
 draft_resumes id valid draft d notes r s' ok few is up want (drafted.stored other k) = absurd cc
 draft_resumes id valid draft d notes r s' ok few is up want (drafted.sent text up' said k) = absurd cc
 draft_resumes id valid draft d notes r s' ok few is up want (drafted.write_lost text n up' said k) = absurd cc
 
-Sends-resumes : (id : Identity) → IsValidIdentity id →
-    (draft : DraftText) (d : Desk) (notes : List Note) (r : Result ⊤ Ending) (to : Desk) → IsOnTime d.live →
-    d.live.state.phase ≡ Up → r ≡ Err ending.OutOfMemory → Sends id draft d notes r to →
-    Onward IsReady (Sends id draft) d notes
-Sends-resumes id valid draft d notes r to ok up want (turns.spent few) = absurd cc
-Sends-resumes id valid draft d notes r to ok up want (turns.sends {r = sent} {s = s} few is k) =
+SendDraft-resumes : (id : Identity) → IsValidIdentity id →
+    (draft : DraftText) (d : TurnSeen) (notes : List Note) (r : Result ⊤ Ending) (to : TurnSeen) → IsOnTime d.connection →
+    d.connection.state.phase ≡ Up → r ≡ Err ending.OutOfMemory → SendDraft id draft d notes r to →
+    Onward IsReady (SendDraft id draft) d notes
+SendDraft-resumes id valid draft d notes r to ok up want (turns.spent few) = absurd cc
+SendDraft-resumes id valid draft d notes r to ok up want (turns.sends {r = sent} {s = s} few is k) =
     draft_resumes id valid draft d notes sent s ok few is up want k
 
 -- a draft changes no reading
@@ -717,33 +717,33 @@ draft_timely id draft s notes r s' ok (drafted.sent text up said (drafted.was_ke
 draft_timely id draft s notes r s' ok (drafted.write_lost text n up said (drafted.was_kept is)) = ok
 draft_timely id draft s notes r s' ok (drafted.write_memory up (drafted.was_kept is)) = ok
 
-Sends-settles : (id : Identity) (draft : DraftText) (d : Desk) (notes : List Note) (r : Result ⊤ Ending) (to : Desk) →
-    settles_of r ≡ true → IsOnTime d.live → Sends id draft d notes r to → IsReady to
-Sends-settles id draft d notes r to h ok (turns.spent few) = absurd cc
-Sends-settles id draft d notes r to h ok (turns.sends {r = sent} {s = s} few is k) =
+SendDraft-settles : (id : Identity) (draft : DraftText) (d : TurnSeen) (notes : List Note) (r : Result ⊤ Ending) (to : TurnSeen) →
+    settles_of r ≡ true → IsOnTime d.connection → SendDraft id draft d notes r to → IsReady to
+SendDraft-settles id draft d notes r to h ok (turns.spent few) = absurd cc
+SendDraft-settles id draft d notes r to h ok (turns.sends {r = sent} {s = s} few is k) =
     record {
-      on_time = draft_timely id draft d.live.state notes sent s ok k;
-      drafts = behind_drafts draft d.live.state.last s.last sent is;
+      on_time = draft_timely id draft d.connection.state notes sent s ok k;
+      drafts = behind_drafts draft d.connection.state.last s.last sent is;
     }
 
-in_hand_is : (h : Hand) (draft : DraftText) → IsOfDrafts h → h.draft ≡ Some draft → IsDraft draft
+in_hand_is : (h : PendingDraft) (draft : DraftText) → IsOfDrafts h → h.draft ≡ Some draft → IsDraft draft
 in_hand_is h draft ok some = subst (λ (x : Option DraftText). IfSome x IsDraft) some ok
 
 -- the application was asked, and has none
-asked_none : (id : Identity) (d : Desk) → IsReady d → d.live.state.phase ≡ Up → d.hand.draft ≡ None →
-    Onward IsReady (Offered id) d []
+asked_none : (id : Identity) (d : TurnSeen) → IsReady d → d.connection.state.phase ≡ Up → d.pending.draft ≡ None →
+    Onward IsReady (OfferDraft id) d []
 asked_none id d ok up free = record {
   more = Asked None ∷ [];
   faultless = tt;
   r = Ok tt;
-  to = desk d.live (record { draft = None; tried = d.hand.tried });
+  to = turn_seen d.connection (record { draft = None; store_failed = d.pending.store_failed });
   good = record { on_time = ok.on_time; drafts = tt };
   whole = turns.asked None up free (turns.empty refl);
   no_want = Ok-no_want;
 }
 
-hand_onward : (id : Identity) (d : Desk) (draft : DraftText) (notes : List Note) → d.live.state.phase ≡ Up →
-    d.hand.draft ≡ Some draft → Onward IsReady (Sends id draft) d notes → Onward IsReady (Offered id) d notes
+hand_onward : (id : Identity) (d : TurnSeen) (draft : DraftText) (notes : List Note) → d.connection.state.phase ≡ Up →
+    d.pending.draft ≡ Some draft → Onward IsReady (SendDraft id draft) d notes → Onward IsReady (OfferDraft id) d notes
 hand_onward id d draft notes up some t =
     record {
       more = t.more;
@@ -755,19 +755,19 @@ hand_onward id d draft notes up some t =
       no_want = t.no_want;
     }
 
-Offered-up : (id : Identity) → IsValidIdentity id → (d : Desk) → IsReady d → d.live.state.phase ≡ Up →
-    Onward IsReady (Offered id) d []
-Offered-up id valid d ok up = by-hand d.hand.draft refl
+OfferDraft-up : (id : Identity) → IsValidIdentity id → (d : TurnSeen) → IsReady d → d.connection.state.phase ≡ Up →
+    Onward IsReady (OfferDraft id) d []
+OfferDraft-up id valid d ok up = by-hand d.pending.draft refl
   where
-    by-hand : (x : Option DraftText) → d.hand.draft ≡ x → Onward IsReady (Offered id) d []
+    by-hand : (x : Option DraftText) → d.pending.draft ≡ x → Onward IsReady (OfferDraft id) d []
     by-hand None free = asked_none id d ok up free
     by-hand (Some draft) some = hand_onward id d draft [] up some
-        (Sends-total id valid draft d ok.on_time (in_hand_is d.hand draft ok.drafts some) up)
+        (SendDraft-total id valid draft d ok.on_time (in_hand_is d.pending draft ok.drafts some) up)
 
-Offered-total : (id : Identity) → IsValidIdentity id → Total IsReady (Offered id)
-Offered-total id valid d ok = by-phase d.live.state.phase refl
+OfferDraft-total : (id : Identity) → IsValidIdentity id → Total IsReady (OfferDraft id)
+OfferDraft-total id valid d ok = by-phase d.connection.state.phase refl
   where
-    not_up : d.live.state.phase ≢ Up → Onward IsReady (Offered id) d []
+    not_up : d.connection.state.phase ≢ Up → Onward IsReady (OfferDraft id) d []
     not_up other = record {
       more = [];
       faultless = tt;
@@ -778,19 +778,19 @@ Offered-total id valid d ok = by-phase d.live.state.phase refl
       no_want = Ok-no_want;
     }
 
-    by-phase : (p : Phase) → d.live.state.phase ≡ p → Onward IsReady (Offered id) d []
+    by-phase : (p : Phase) → d.connection.state.phase ≡ p → Onward IsReady (OfferDraft id) d []
     by-phase Down is = not_up (λ h. cc)
     by-phase AwaitLogon is = not_up (λ h. cc)
-    by-phase Up is = Offered-up id valid d ok is
+    by-phase Up is = OfferDraft-up id valid d ok is
 
 -- the desk where the application gave this
-abbrev given_to : Desk → Option DraftText → Desk
-given_to d given = desk d.live (record { draft = given; tried = d.hand.tried })
+abbrev given_to : TurnSeen → Option DraftText → TurnSeen
+given_to d given = turn_seen d.connection (record { draft = given; store_failed = d.pending.store_failed })
 
-asked_onward : (id : Identity) (d : Desk) (given : Option DraftText) (draft : DraftText) (notes : List Note) →
-    d.live.state.phase ≡ Up → d.hand.draft ≡ None → given ≡ Some draft →
-    Onward IsReady (Sends id draft) (given_to d given) notes →
-    Onward IsReady (Offered id) d (Asked (option_map draft_body given) ∷ notes)
+asked_onward : (id : Identity) (d : TurnSeen) (given : Option DraftText) (draft : DraftText) (notes : List Note) →
+    d.connection.state.phase ≡ Up → d.pending.draft ≡ None → given ≡ Some draft →
+    Onward IsReady (SendDraft id draft) (given_to d given) notes →
+    Onward IsReady (OfferDraft id) d (Asked (option_map draft_body given) ∷ notes)
 asked_onward id d given draft notes up free some t =
     record {
       more = t.more;
@@ -802,85 +802,85 @@ asked_onward id d given draft notes up free some t =
       no_want = t.no_want;
     }
 
-Offered-resumes : (id : Identity) → IsValidIdentity id → Resumes IsReady (Offered id)
-Offered-resumes id valid d notes to ok (turns.asked given up free (turns.holds {notes = more} draft some k)) =
+OfferDraft-resumes : (id : Identity) → IsValidIdentity id → Resumes IsReady (OfferDraft id)
+OfferDraft-resumes id valid d notes to ok (turns.asked given up free (turns.holds {notes = more} draft some k)) =
     λ hold. hold (asked_onward id d given draft more up free some
-    (Sends-resumes id valid draft (given_to d given) more (Err ending.OutOfMemory) to ok.on_time up refl k))
-Offered-resumes id valid d notes to ok (turns.was_in_hand draft up some k) =
+    (SendDraft-resumes id valid draft (given_to d given) more (Err ending.OutOfMemory) to ok.on_time up refl k))
+OfferDraft-resumes id valid d notes to ok (turns.was_in_hand draft up some k) =
     λ hold. hold (hand_onward id d draft notes up some
-    (Sends-resumes id valid draft d notes (Err ending.OutOfMemory) to ok.on_time up refl k))
+    (SendDraft-resumes id valid draft d notes (Err ending.OutOfMemory) to ok.on_time up refl k))
 
-Offered-settles : (id : Identity) → Settles IsReady (Offered id)
-Offered-settles id d notes r to h ok (turns.not_up other) = ok
-Offered-settles id d notes r to h ok (turns.asked given up free (turns.empty nothing)) =
+OfferDraft-settles : (id : Identity) → Settles IsReady (OfferDraft id)
+OfferDraft-settles id d notes r to h ok (turns.not_up other) = ok
+OfferDraft-settles id d notes r to h ok (turns.asked given up free (turns.empty nothing)) =
     record { on_time = ok.on_time; drafts = subst (λ (x : Option DraftText). IfSome x IsDraft) (sym nothing) tt }
-Offered-settles id d notes r to h ok (turns.asked given up free (turns.holds {notes = more} draft some k)) =
-    Sends-settles id draft (given_to d given) more r to h ok.on_time k
-Offered-settles id d notes r to h ok (turns.was_in_hand draft up some k) =
-    Sends-settles id draft d notes r to h ok.on_time k
+OfferDraft-settles id d notes r to h ok (turns.asked given up free (turns.holds {notes = more} draft some k)) =
+    SendDraft-settles id draft (given_to d given) more r to h ok.on_time k
+OfferDraft-settles id d notes r to h ok (turns.was_in_hand draft up some k) =
+    SendDraft-settles id draft d notes r to h ok.on_time k
 
 -- ---- what leaves the draft in hand as it is
 
-module _ (R : Live → List Note → Result ⊤ Ending → Live → Type 0) where
-  beside_onward : (d : Desk) (notes : List Note) → IsReady d → Onward IsOnTime R d.live notes →
+module _ (R : ConnectionSeen → List Note → Result ⊤ Ending → ConnectionSeen → Type 0) where
+  beside_onward : (d : TurnSeen) (notes : List Note) → IsReady d → Onward IsOnTime R d.connection notes →
       Onward IsReady (Beside R) d notes
   beside_onward d notes ok t = record {
     more = t.more;
     faultless = t.faultless;
     r = t.r;
-    to = desk t.to d.hand;
+    to = turn_seen t.to d.pending;
     good = record { on_time = t.good; drafts = ok.drafts };
     whole = beside t.whole;
     no_want = t.no_want;
   }
 
   Beside-total : Total IsOnTime R → Total IsReady (Beside R)
-  Beside-total total d ok = beside_onward d [] ok (total d.live ok.on_time)
+  Beside-total total d ok = beside_onward d [] ok (total d.connection ok.on_time)
 
   Beside-resumes : Resumes IsOnTime R → Resumes IsReady (Beside R)
   Beside-resumes again d notes to ok (beside {to = at} k) =
-      λ hold. again d.live notes at ok.on_time k (λ t. hold (beside_onward d notes ok t))
+      λ hold. again d.connection notes at ok.on_time k (λ t. hold (beside_onward d notes ok t))
 
   Beside-settles : Settles IsOnTime R → Settles IsReady (Beside R)
   Beside-settles stays d notes r to h ok (beside {to = at} k) =
-      record { on_time = stays d.live notes r at h ok.on_time k; drafts = ok.drafts }
+      record { on_time = stays d.connection notes r at h ok.on_time k; drafts = ok.drafts }
 
 -- ---- a turn
 
-Met-total : (id : Identity) → IsValidIdentity id → Total IsReady (Met id)
-Met-total id valid = both-total IsReady (Offered id) (Beside (Read id)) (Offered-total id valid)
+SendReadClock-total : (id : Identity) → IsValidIdentity id → Total IsReady (SendReadClock id)
+SendReadClock-total id valid = both-total IsReady (OfferDraft id) (Beside (Read id)) (OfferDraft-total id valid)
     (Beside-total (Read id) (Read-total id))
 
-Met-resumes : (id : Identity) → IsValidIdentity id → Resumes IsReady (Met id)
-Met-resumes id valid = both-resumes IsReady (Offered id) (Beside (Read id)) (Beside-total (Read id) (Read-total id))
-    (Offered-resumes id valid) (Beside-resumes (Read id) (Read-resumes id valid)) (Offered-settles id)
+SendReadClock-resumes : (id : Identity) → IsValidIdentity id → Resumes IsReady (SendReadClock id)
+SendReadClock-resumes id valid = both-resumes IsReady (OfferDraft id) (Beside (Read id)) (Beside-total (Read id) (Read-total id))
+    (OfferDraft-resumes id valid) (Beside-resumes (Read id) (Read-resumes id valid)) (OfferDraft-settles id)
 
-Met-settles : (id : Identity) → Settles IsReady (Met id)
-Met-settles id = both-settles IsReady (Offered id) (Beside (Read id)) (Offered-settles id)
+SendReadClock-settles : (id : Identity) → Settles IsReady (SendReadClock id)
+SendReadClock-settles id = both-settles IsReady (OfferDraft id) (Beside (Read id)) (OfferDraft-settles id)
     (Beside-settles (Read id) (Read-settles id))
 
 -- the expected number can be kept
-record Keeps (l : Live) : Type 0 where
+record Keeps (l : ConnectionSeen) : Type 0 where
   more : List Note
   faultless : IsFaultless more
-  to : Live
+  to : ConnectionSeen
   good : IsOnTime l → IsOnTime to
-  whole : KeptExpected l more (Ok tt) to
+  whole : StoreExpected l more (Ok tt) to
 
-keeps-total : (l : Live) → Keeps l
+keeps-total : (l : ConnectionSeen) → Keeps l
 keeps-total l =
-    elim (eqb_tells l.state.kept l.state.expected) [
+    elim (eqb_tells l.state.stored_expected l.state.expected) [
       | inl h ↦ record { more = []; faultless = tt; to = l; good = λ ok. ok; whole = turn.same h.1 }
       | inr h ↦ record {
         more = Did (act.Kept (Expect l.state.expected)) ∷ [];
         faultless = tt;
-        to = live (with_kept l.state) l.ahead;
+        to = connection_seen (with_stored_expected l.state) l.unread;
         good = λ ok. ok;
         whole = turn.kept h.1;
       }
     ]
 
-turn_onward : (id : Identity) (d : Desk) (notes : List Note) → Onward IsReady (Met id) d notes →
+turn_onward : (id : Identity) (d : TurnSeen) (notes : List Note) → Onward IsReady (SendReadClock id) d notes →
     Onward IsReady (Turn id) d notes
 turn_onward id d notes g = by-answer (settles_of g.r) refl
   where
@@ -895,8 +895,8 @@ turn_onward id d notes g = by-answer (settles_of g.r) refl
       no_want = g.no_want;
     }
     by-answer true h =
-        let k = keeps-total g.to.live in
-        let to = desk k.to g.to.hand in
+        let k = keeps-total g.to.connection in
+        let to = turn_seen k.to g.to.pending in
         record {
           more = g.more ++ k.more;
           faultless = IsFaultless-append g.more k.more g.faultless k.faultless;
@@ -909,47 +909,47 @@ turn_onward id d notes g = by-answer (settles_of g.r) refl
         }
 
 Turn-total : (id : Identity) → IsValidIdentity id → Total IsReady (Turn id)
-Turn-total id valid d ok = turn_onward id d [] (Met-total id valid d ok)
+Turn-total id valid d ok = turn_onward id d [] (SendReadClock-total id valid d ok)
 
-KeptExpected-settles : Settles IsOnTime KeptExpected
-KeptExpected-settles l notes r to h ok (turn.same same) = ok
-KeptExpected-settles l notes r to h ok (turn.kept other) = ok
-KeptExpected-settles l notes r to h ok (turn.expect_lost other) = ok
-KeptExpected-settles l notes r to h ok (turn.expect_memory other) = ok
+StoreExpected-settles : Settles IsOnTime StoreExpected
+StoreExpected-settles l notes r to h ok (turn.same same) = ok
+StoreExpected-settles l notes r to h ok (turn.kept other) = ok
+StoreExpected-settles l notes r to h ok (turn.expect_lost other) = ok
+StoreExpected-settles l notes r to h ok (turn.expect_memory other) = ok
 
 Turn-settles : (id : Identity) → Settles IsReady (Turn id)
 Turn-settles id d notes r to h ok (turns.stops other m) = absurd cc
 Turn-settles id d notes r to h ok (turns.keeps {mid = mid} {met = met} {first = first} {more = more} same m k) =
-    Beside-settles KeptExpected KeptExpected-settles mid more (Ok tt) to refl
-    (Met-settles id d first met mid same ok m) k
+    Beside-settles StoreExpected StoreExpected-settles mid more (Ok tt) to refl
+    (SendReadClock-settles id d first met mid same ok m) k
 Turn-settles id d notes r to h ok (turns.keeps_not {mid = mid} {met = met} {first = first} {more = more} {e = e} same
-    m k) = Beside-settles KeptExpected KeptExpected-settles mid more (Err e) to h
-    (Met-settles id d first met mid same ok m) k
+    m k) = Beside-settles StoreExpected StoreExpected-settles mid more (Err e) to h
+    (SendReadClock-settles id d first met mid same ok m) k
 
 Turn-resumes : (id : Identity) → IsValidIdentity id → Resumes IsReady (Turn id)
 Turn-resumes id valid d notes to ok (turns.stops h m) =
-    λ hold. Met-resumes id valid d notes to ok m (λ g. hold (turn_onward id d notes g))
+    λ hold. SendReadClock-resumes id valid d notes to ok m (λ g. hold (turn_onward id d notes g))
 Turn-resumes id valid d notes to ok (turns.keeps h m k) = absurd cc
 Turn-resumes id valid d notes to ok (turns.keeps_not {mid = mid} {met = met} {first = first} h m
     (beside (turn.expect_memory n))) =
-    let good = Met-settles id d first met mid h ok m in
-    let kept = desk (live (with_kept mid.live.state) mid.live.ahead) mid.hand in
+    let good = SendReadClock-settles id d first met mid h ok m in
+    let kept = turn_seen (connection_seen (with_stored_expected mid.connection.state) mid.connection.unread) mid.pending in
     λ hold. hold (record {
-      more = Did (act.Kept (Expect mid.live.state.expected)) ∷ [];
+      more = Did (act.Kept (Expect mid.connection.state.expected)) ∷ [];
       faultless = tt;
       r = met;
       to = kept;
       good = record { on_time = good.on_time; drafts = good.drafts };
       whole = subst (λ w. Turn id d w met kept)
-          (ap (λ w. w ++ Did (act.Kept (Expect mid.live.state.expected)) ∷ []) (sym (append-nil first)))
+          (ap (λ w. w ++ Did (act.Kept (Expect mid.connection.state.expected)) ∷ []) (sym (append-nil first)))
           (turns.keeps h m (beside (turn.kept n)));
       no_want = λ e. (let t : settles_of (Err ending.OutOfMemory) ≡ true = subst (λ r. settles_of r ≡ true) e h in cc);
     })
 
 -- ---- a run
 
-Turns-resume : (id : Identity) → IsValidIdentity id → (n : ℕ) → Resumes IsReady (Turns id n)
-Turns-resume id valid n d notes to ok t =
+TakeTurns-resume : (id : Identity) → IsValidIdentity id → (n : ℕ) → Resumes IsReady (TakeTurns id n)
+TakeTurns-resume id valid n d notes to ok t =
     Each-resumes IsReady (OneTurn id) (λ u. ⊤) (λ u fit. Turn-total id valid) (λ u fit. Turn-resumes id valid)
     (λ u. Turn-settles id) (replicate n tt) (all_fit (replicate n tt)) d notes to ok t
   where
@@ -957,12 +957,12 @@ Turns-resume id valid n d notes to ok t =
     all_fit [] = tt
     all_fit (u ∷ us) = (tt, all_fit us)
 
-run_onward : (id : Identity) (n : ℕ) (d : Desk) (notes : List Note) → Onward IsReady (Turns id n) d notes →
-    GoesOn (Ran id n) d notes
+run_onward : (id : Identity) (n : ℕ) (d : TurnSeen) (notes : List Note) → Onward IsReady (TakeTurns id n) d notes →
+    GoesOn (RunAndCut id n) d notes
 run_onward id n d notes g = by-answer g.r g.to g.whole g.no_want
   where
-    by-cut : (e : Ending) (to : Desk) → Turns id n d (notes ++ g.more) (Err e) to →
-        failed e ≢ Err ending.OutOfMemory → (t : Bool) → is_cut_of e ≡ t → GoesOn (Ran id n) d notes
+    by-cut : (e : Ending) (to : TurnSeen) → TakeTurns id n d (notes ++ g.more) (Err e) to →
+        failed e ≢ Err ending.OutOfMemory → (t : Bool) → is_cut_of e ≡ t → GoesOn (RunAndCut id n) d notes
     by-cut e to k h false t = record {
       more = g.more;
       faultless = g.faultless;
@@ -977,13 +977,13 @@ run_onward id n d notes g = by-answer g.r g.to g.whole g.no_want
           faultless = IsFaultless-append g.more (Did act.Cut ∷ []) g.faultless tt;
           r = Err e;
           to = put_down to;
-          whole = subst (λ w. Ran id n d w (Err e) (put_down to)) (append_assoc notes g.more (Did act.Cut ∷ []))
+          whole = subst (λ w. RunAndCut id n d w (Err e) (put_down to)) (append_assoc notes g.more (Did act.Cut ∷ []))
               (turns.cut t k);
           no_want = h;
         }
 
-    by-answer : (r : Result ⊤ Ending) (to : Desk) → Turns id n d (notes ++ g.more) r to → r ≢ Err ending.OutOfMemory →
-        GoesOn (Ran id n) d notes
+    by-answer : (r : Result ⊤ Ending) (to : TurnSeen) → TakeTurns id n d (notes ++ g.more) r to → r ≢ Err ending.OutOfMemory →
+        GoesOn (RunAndCut id n) d notes
     by-answer (Ok x) to k h = record {
       more = g.more;
       faultless = g.faultless;
@@ -997,10 +997,10 @@ run_onward id n d notes g = by-answer g.r g.to g.whole g.no_want
 err_same : (e : Ending) → failed e ≡ Err ending.OutOfMemory → e ≡ ending.OutOfMemory
 err_same e k = cc
 
-Ran-resumes : (id : Identity) → IsValidIdentity id → (n : ℕ) (d : Desk) (notes : List Note) (to : Desk) → IsReady d →
-    Ran id n d notes (Err ending.OutOfMemory) to → CanNotFail (GoesOn (Ran id n) d notes)
-Ran-resumes id valid n d notes to ok (turns.cut h k) = absurd cc
-Ran-resumes id valid n d notes to ok (turns.cut_memory {to = at} {e = e} h k) =
+RunAndCut-resumes : (id : Identity) → IsValidIdentity id → (n : ℕ) (d : TurnSeen) (notes : List Note) (to : TurnSeen) → IsReady d →
+    RunAndCut id n d notes (Err ending.OutOfMemory) to → CanNotFail (GoesOn (RunAndCut id n) d notes)
+RunAndCut-resumes id valid n d notes to ok (turns.cut h k) = absurd cc
+RunAndCut-resumes id valid n d notes to ok (turns.cut_memory {to = at} {e = e} h k) =
     λ hold. hold (record {
       more = Did act.Cut ∷ [];
       faultless = tt;
@@ -1010,12 +1010,12 @@ Ran-resumes id valid n d notes to ok (turns.cut_memory {to = at} {e = e} h k) =
       no_want = λ k. (let t : is_cut_of ending.OutOfMemory ≡ true =
           subst (λ e. is_cut_of e ≡ true) (err_same e k) h in cc);
     })
-Ran-resumes id valid n d notes to ok (turns.no_cut {to = at} h k) =
-    λ hold. Turns-resume id valid n d notes at ok k (λ g. hold (run_onward id n d notes g))
+RunAndCut-resumes id valid n d notes to ok (turns.no_cut {to = at} h k) =
+    λ hold. TakeTurns-resume id valid n d notes at ok k (λ g. hold (run_onward id n d notes g))
 
 stated : (id : Identity) → IsValidIdentity id →
-    (n : ℕ) (d : Desk) (notes : List Note) (r : Result ⊤ Ending) (to : Desk) → IsReady d → IsFaultless notes →
-    Ran id n d notes r to → IsAsStated id n d (run_end r) to notes
+    (n : ℕ) (d : TurnSeen) (notes : List Note) (r : Result ⊤ Ending) (to : TurnSeen) → IsReady d → IsFaultless notes →
+    RunAndCut id n d notes r to → IsAsStated id n d (run_end r) to notes
 stated id valid n d notes (Ok x) to ok f k = (f, inl ((λ h. cc), record { r = Ok x; answered = refl; ran = k }))
 stated id valid n d notes (Err (ending.Closed why)) to ok f k =
     (f, inl ((λ h. cc), record { r = Err (ending.Closed why); answered = refl; ran = k }))
@@ -1029,13 +1029,13 @@ stated id valid n d notes (Err ending.AppFault) to ok f k =
     (f, inl ((λ h. cc), record { r = Err ending.AppFault; answered = refl; ran = k }))
 stated id valid n d notes (Err ending.NumbersSpent) to ok f k =
     (f, inl ((λ h. cc), record { r = Err ending.NumbersSpent; answered = refl; ran = k }))
-stated id valid n d notes (Err ending.OutOfMemory) to ok f k = (f, inr (refl, Ran-resumes id valid n d notes to ok k))
+stated id valid n d notes (Err ending.OutOfMemory) to ok f k = (f, inr (refl, RunAndCut-resumes id valid n d notes to ok k))
 
 -- where no count rose a run is as stated
 pub as_stated : (id : Identity) → IsValidIdentity id →
-    (n : ℕ) (d : Desk) (r : Result ⊤ Ending) (to : Desk) (old new : Seen) → d.live.state.reading ≤ LAST_TIME →
-    IfSome d.hand.draft IsDraft → Goes old new (λ notes. Ran id n d notes r to) → NoneRose old.faults new.faults →
-    Goes old new (IsAsStated id n d (run_end r) to)
+    (n : ℕ) (d : TurnSeen) (r : Result ⊤ Ending) (to : TurnSeen) (old new : OutsideSeen) → d.connection.state.reading ≤ LAST_TIME →
+    IfSome d.pending.draft IsDraft → HasTrace old new (λ notes. RunAndCut id n d notes r to) → NoneRose old.faults new.faults →
+    HasTrace old new (IsAsStated id n d (run_end r) to)
 as_stated id valid n d r to old new ok drafts g h = (
   g.0,
   g.1,

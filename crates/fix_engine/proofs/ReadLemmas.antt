@@ -4,7 +4,7 @@ use Rattle.std.proofs.Common.{ap, ◌∙◌, subst}
 use Rattle.fix_base.specs.Lists.{Among, here}
 use Rattle.fix_base.specs.Fields.{Field, FieldsAfter}
 use Rattle.fix_base.specs.Shape.{Parts}
-use Rattle.fix_base.specs.Stream.{Ahead, Frame, TakesAll, frames}
+use Rattle.fix_base.specs.Stream.{UnreadBytes, Frame, TakesAll, frames}
 use Rattle.fix_base.specs.Message as message
 use Rattle.fix_base.specs.Message.{Message}
 use Rattle.fix_base.specs.Says as says
@@ -48,7 +48,7 @@ pub read_nothing : IsReadUpTo [] (record { may_mark = true; bytes = [] })
 read_nothing = record { items = []; takes = refl; messages = []; says = says.none }
 
 -- more bytes come
-pub read_more : (bytes more : List ℕ) (place : Ahead) → IsReadUpTo bytes place →
+pub read_more : (bytes more : List ℕ) (place : UnreadBytes) → IsReadUpTo bytes place →
     IsReadUpTo (bytes ++ more) (with_more place more)
 read_more bytes more place h = record {
   items = h.items;
@@ -58,7 +58,7 @@ read_more bytes more place h = record {
 }
 
 -- no frame stands there, and items are skipped
-pub read_none : (bytes : List ℕ) (a b : Ahead) → GivesNone a b → IsReadUpTo bytes a → IsReadUpTo bytes b
+pub read_none : (bytes : List ℕ) (a b : UnreadBytes) → GivesNone a b → IsReadUpTo bytes a → IsReadUpTo bytes b
 read_none bytes a b g h =
     let skipped = g.skips.items in
     let texts : frames (h.items ++ skipped) ≡ frames h.items = frames-append h.items skipped ∙
@@ -71,14 +71,14 @@ read_none bytes a b g h =
     }
 
 -- the bytes are read up to behind a frame, which says this
-pub record HasTaken (bytes : List ℕ) (place : Ahead) (o : Option Message) : Type 0 where
+pub record HasTaken (bytes : List ℕ) (place : UnreadBytes) (o : Option Message) : Type 0 where
   pub read : IsReadUpTo bytes place
   pub says : (x : Message) → o ≡ Some x → Among x read.messages
 
-pub read_frame : (bytes : List ℕ) (a b : Ahead) (text : List ℕ) (fs : List Field) → GivesFrame a b text →
+pub read_frame : (bytes : List ℕ) (a b : UnreadBytes) (text : List ℕ) (fs : List Field) → GivesFrame a b text →
     HasFields text fs → IsReadUpTo bytes a → HasTaken bytes b (message_of fs)
 read_frame bytes a b text fs g has h =
-    let start : Ahead = record { may_mark = true; bytes = bytes } in
+    let start : UnreadBytes = record { may_mark = true; bytes = bytes } in
     let skipped = g.skips.items in
     let others = skipped ++ Frame text ∷ [] in
     let last : TakesAll g.at (Frame text ∷ []) b = (b, g.frame_there, refl) in
@@ -98,7 +98,7 @@ read_frame bytes a b text fs g has h =
     }
 
 -- what was taken was read
-pub was_read : (c : Connection) (place : Ahead) (o : Option Message) (x : Message) → HasTaken c.read place o →
+pub was_read : (c : Connection) (place : UnreadBytes) (o : Option Message) (x : Message) → HasTaken c.read place o →
     o ≡ Some x → WasRead c x
 was_read c place o x h e = record {
   messages = h.read.messages;

@@ -10,8 +10,8 @@ use Rattle.fix_base.specs.declared.entry.Stored.{Stored}
 use Rattle.fix_base.specs.End.{End, folded}
 use Rattle.fix_base.specs.EndStep as steps
 use Rattle.fix_base.specs.EndStep.{Acceptor, EndState, EndRun, handled_with, offered_with}
-use Rattle.fix_rim.specs.Outside.{IsStoredOf}
-use Rattle.fix_engine.specs.Lawful.{IsCertain, MayHold}
+use Rattle.fix_outside.specs.Outside.{IsStoredOf}
+use Rattle.fix_engine.specs.Lawful.{IsCertain, IsStoredOrInDoubt}
 use Rattle.fix_engine.specs.Run.{state_of}
 use Rattle.fix_engine.specs.Restart.{HasNumbersOf, StartsAt, Restarts, RestartsAt}
 
@@ -58,13 +58,13 @@ some_end : (a b : End) → Some a ≡ Some b → a ≡ b
 some_end a b e = cc
 
 -- of the end and the one with a further record, those with the same numbers are the same
-one_of_two : (stored : Stored) (e x : End) (r : Record) → e.withheld ≡ [] → ((n : ℕ) → r ≡ Withhold n → ⊥) → MayHold (Some r) e (Some x) → IsStoredOf stored x → IsStoredOf stored e → x ≡ e
+one_of_two : (stored : Stored) (e x : End) (r : Record) → e.withheld ≡ [] → ((n : ℕ) → r ≡ Withhold n → ⊥) → IsStoredOrInDoubt (Some r) e (Some x) → IsStoredOf stored x → IsStoredOf stored e → x ≡ e
 one_of_two stored e x r w never (inl is) numbers first = some_end x e is
 one_of_two stored e x r w never (inr is) numbers first =
     let other : x ≡ folded e r = some_end x (folded e r) is in
     other ∙ sym (same_numbers stored e r w never first (subst (IsStoredOf stored) other numbers))
 
-other_of_two : (stored : Stored) (e x : End) (r : Record) → e.withheld ≡ [] → ((n : ℕ) → r ≡ Withhold n → ⊥) → MayHold (Some r) e (Some x) → IsStoredOf stored x → IsStoredOf stored (folded e r) → x ≡ folded e r
+other_of_two : (stored : Stored) (e x : End) (r : Record) → e.withheld ≡ [] → ((n : ℕ) → r ≡ Withhold n → ⊥) → IsStoredOrInDoubt (Some r) e (Some x) → IsStoredOf stored x → IsStoredOf stored (folded e r) → x ≡ folded e r
 other_of_two stored e x r w never (inr is) numbers second = some_end x (folded e r) is
 other_of_two stored e x r w never (inl is) numbers second =
     let first : x ≡ e = some_end x e is in
@@ -96,23 +96,23 @@ restarts_by id stored start None role is numbers = record {
   to = again start;
   run = stops_at id start is;
   certain = is_certain stored start is role numbers;
-  held = λ tell e h k. some_end e start.end (subst (λ o. MayHold o start.end (Some e)) is h);
+  held = λ tell e h k. some_end e start.end (subst (λ o. IsStoredOrInDoubt o start.end (Some e)) is h);
 }
 restarts_by id stored start (Some r) role is (inl numbers) = record {
   to = again (without start);
   run = steps.move (steps.settles_without r is) (stops_at id (without start) refl);
   certain = is_certain stored (without start) refl role numbers;
-  held = λ tell e h k. one_of_two stored start.end e r tell.none (not_withheld start r is tell.not_in_doubt) (subst (λ o. MayHold o start.end (Some e)) is h) k numbers;
+  held = λ tell e h k. one_of_two stored start.end e r tell.none (not_withheld start r is tell.not_in_doubt) (subst (λ o. IsStoredOrInDoubt o start.end (Some e)) is h) k numbers;
 }
 restarts_by id stored start (Some r) role is (inr numbers) = record {
   to = again (with_it start r);
   run = steps.move (steps.settles_with r is) (stops_at id (with_it start r) refl);
   certain = is_certain stored (with_it start r) refl role numbers;
-  held = λ tell e h k. other_of_two stored start.end e r tell.none (not_withheld start r is tell.not_in_doubt) (subst (λ o. MayHold o start.end (Some e)) is h) k numbers;
+  held = λ tell e h k. other_of_two stored start.end e r tell.none (not_withheld start r is tell.not_in_doubt) (subst (λ o. IsStoredOrInDoubt o start.end (Some e)) is h) k numbers;
 }
 
 -- over a store that holds this end
-at_by : (id : Identity) (stored : Stored) (start : EndState) (e : End) (o : Option Record) → start.role ≡ Acceptor → start.doubt ≡ o → MayHold o start.end (Some e) → IsStoredOf stored e → RestartsAt id stored e start
+at_by : (id : Identity) (stored : Stored) (start : EndState) (e : End) (o : Option Record) → start.role ≡ Acceptor → start.doubt ≡ o → IsStoredOrInDoubt o start.end (Some e) → IsStoredOf stored e → RestartsAt id stored e start
 at_by id stored start e None role is held numbers =
     let same : e ≡ start.end = some_end e start.end held in
     record {
@@ -138,17 +138,17 @@ at_by id stored start e (Some r) role is (inr held) numbers =
       is = same;
     }
 
-pub restarts_at : (id : Identity) (stored : Stored) (start : EndState) (e : End) → start.role ≡ Acceptor → MayHold start.doubt start.end (Some e) → IsStoredOf stored e → RestartsAt id stored e start
+pub restarts_at : (id : Identity) (stored : Stored) (start : EndState) (e : End) → start.role ≡ Acceptor → IsStoredOrInDoubt start.doubt start.end (Some e) → IsStoredOf stored e → RestartsAt id stored e start
 restarts_at id stored start e role held numbers = at_by id stored start e start.doubt role refl held numbers
 
 pub restarts : (id : Identity) (stored : Stored) (start : EndState) → StartsAt stored start → Restarts id stored start
 restarts id stored start h = restarts_by id stored start start.doubt h.role refl h.numbers
 
 -- what a store holds has the numbers that it tells
-pub held_starts : (stored : Stored) (start : EndState) (e : End) → start.role ≡ Acceptor → MayHold start.doubt start.end (Some e) → IsStoredOf stored e → StartsAt stored start
+pub held_starts : (stored : Stored) (start : EndState) (e : End) → start.role ≡ Acceptor → IsStoredOrInDoubt start.doubt start.end (Some e) → IsStoredOf stored e → StartsAt stored start
 held_starts stored start e role h numbers = record { role = role; numbers = by_doubt start.doubt h }
   where
-    by_doubt : (o : Option Record) → MayHold o start.end (Some e) → HasNumbersOf o start.end stored
+    by_doubt : (o : Option Record) → IsStoredOrInDoubt o start.end (Some e) → HasNumbersOf o start.end stored
     by_doubt None is = subst (IsStoredOf stored) (some_end e start.end is) numbers
     by_doubt (Some r) (inl is) = inl (subst (IsStoredOf stored) (some_end e start.end is) numbers)
     by_doubt (Some r) (inr is) = inr (subst (IsStoredOf stored) (some_end e (folded start.end r) is) numbers)

@@ -7,7 +7,7 @@ use Rattle.fix_base.specs.declared.act.Act.{Act}
 use Rattle.fix_base.specs.declared.act.Act.TheVariants as act
 use Rattle.fix_base.specs.Reader.{AreOfOneConnection}
 use Rattle.fix_base.specs.Payload.{LAST_TIME, IsPersistentEntry}
-use Rattle.fix_base.specs.Seen.{Note, Did, acts_of}
+use Rattle.fix_base.specs.Trace.{Note, Did, acts_of}
 use Rattle.fix_base.proofs.SeenLemmas.{acts_of-append}
 use Rattle.fix_fields.specs.Drafted.{DraftText}
 use Rattle.fix_engine.specs.State.{State, Ending, Step, Say, Logon, Logout, with_last, counted}
@@ -18,11 +18,11 @@ use Rattle.fix_engine.specs.declared.stop.SendFault.{SendFault}
 use Rattle.fix_engine.specs.Drafted as drafted
 use Rattle.fix_engine.specs.Drafted.{KeepsDraft, Drafting}
 use Rattle.fix_engine.specs.InStep.{IsOfRun, AreOfRun}
-use Rattle.fix_engine.specs.Turn.{Live, Taken, no_more, ends as ends_at, goes as goes_on, fed_frames, fed_memory, Heard}
-use Rattle.fix_engine.specs.Turn.{bytes, idle, over, read_lost, read_memory, Clocked, now, now_memory, KeptExpected}
-use Rattle.fix_engine.specs.Turn.{same, kept, expect_lost, expect_memory}
-use Rattle.fix_engine.specs.Desk as turns
-use Rattle.fix_engine.specs.Desk.{Desk, Sends, Holding, Offered, Beside, Met, Turn, Ran}
+use Rattle.fix_engine.specs.Reading.{ConnectionSeen, AnswerFrames, no_more, ends as ends_at, goes as goes_on, fed_frames, fed_memory, ReadFrames}
+use Rattle.fix_engine.specs.Reading.{bytes, idle, over, read_lost, read_memory, ReadClock, now, now_memory, StoreExpected}
+use Rattle.fix_engine.specs.Reading.{same, kept, expect_lost, expect_memory}
+use Rattle.fix_engine.specs.Turn as turns
+use Rattle.fix_engine.specs.Turn.{TurnSeen, SendDraft, SendPending, OfferDraft, Beside, SendReadClock, Turn, RunAndCut}
 use Rattle.fix_engine.proofs.DraftFrames.{draft_persistent}
 
 pub of_run-append : (xs ys : List Act) → AreOfRun xs → AreOfRun ys → AreOfRun (xs ++ ys)
@@ -102,38 +102,38 @@ Performed-plainly id frame s x notes r s' (write_memory say n k) = λ h. ((said_
 abbrev reading_of : State → ℕ
 reading_of s = s.reading
 
-abbrev time_of : Live → ℕ
+abbrev time_of : ConnectionSeen → ℕ
 time_of l = l.state.reading
 
-Taken-plainly : (id : Identity) (l : Live) (notes : List Note) (r : Result ⊤ Ending) (to : Live) →
-    Taken id l notes r to → Plainly l.state.reading notes to.state.reading
-Taken-plainly id l notes r to (no_more gives) = λ h. (tt, h)
-Taken-plainly id l notes r to (ends_at frame gives h) = Each-plainly reading_of (Performed-plainly id frame) h.carried
-Taken-plainly id l notes r to (goes_on {s = s} {mid = mid} {first = first} {more = more} frame gives h others) =
+AnswerFrames-plainly : (id : Identity) (l : ConnectionSeen) (notes : List Note) (r : Result ⊤ Ending) (to : ConnectionSeen) →
+    AnswerFrames id l notes r to → Plainly l.state.reading notes to.state.reading
+AnswerFrames-plainly id l notes r to (no_more gives) = λ h. (tt, h)
+AnswerFrames-plainly id l notes r to (ends_at frame gives h) = Each-plainly reading_of (Performed-plainly id frame) h.carried
+AnswerFrames-plainly id l notes r to (goes_on {s = s} {mid = mid} {first = first} {more = more} frame gives h others) =
     plainly_then s.reading mid.reading to.state.reading first more
-    (Each-plainly reading_of (Performed-plainly id frame) h.carried) (Taken-plainly id _ _ _ _ others)
+    (Each-plainly reading_of (Performed-plainly id frame) h.carried) (AnswerFrames-plainly id _ _ _ _ others)
 
-Heard-plainly : (id : Identity) (l : Live) (notes : List Note) (r : Result ⊤ Ending) (to : Live) →
-    Heard id l notes r to → Plainly l.state.reading notes to.state.reading
-Heard-plainly id l notes r to (bytes b some fits (fed_frames d)) =
-    λ h. (let t = Taken-plainly id _ _ _ _ d h in ((tt, t.0), t.1))
-Heard-plainly id l notes r to (bytes b some fits fed_memory) = λ h. ((tt, tt), h)
-Heard-plainly id l notes r to idle = λ h. ((tt, tt), h)
-Heard-plainly id l notes r to over = λ h. ((tt, tt), h)
-Heard-plainly id l notes r to read_lost = λ h. (tt, h)
-Heard-plainly id l notes r to read_memory = λ h. (tt, h)
+ReadFrames-plainly : (id : Identity) (l : ConnectionSeen) (notes : List Note) (r : Result ⊤ Ending) (to : ConnectionSeen) →
+    ReadFrames id l notes r to → Plainly l.state.reading notes to.state.reading
+ReadFrames-plainly id l notes r to (bytes b some fits (fed_frames d)) =
+    λ h. (let t = AnswerFrames-plainly id _ _ _ _ d h in ((tt, t.0), t.1))
+ReadFrames-plainly id l notes r to (bytes b some fits fed_memory) = λ h. ((tt, tt), h)
+ReadFrames-plainly id l notes r to idle = λ h. ((tt, tt), h)
+ReadFrames-plainly id l notes r to over = λ h. ((tt, tt), h)
+ReadFrames-plainly id l notes r to read_lost = λ h. (tt, h)
+ReadFrames-plainly id l notes r to read_memory = λ h. (tt, h)
 
-Clocked-plainly : (l : Live) (notes : List Note) (r : Result ⊤ Ending) (to : Live) → Clocked l notes r to →
+ReadClock-plainly : (l : ConnectionSeen) (notes : List Note) (r : Result ⊤ Ending) (to : ConnectionSeen) → ReadClock l notes r to →
     Plainly l.state.reading notes to.state.reading
-Clocked-plainly l notes r to (now t) = λ h. ((tt, tt), omega arith)
-Clocked-plainly l notes r to now_memory = λ h. (tt, h)
+ReadClock-plainly l notes r to (now t) = λ h. ((tt, tt), omega arith)
+ReadClock-plainly l notes r to now_memory = λ h. (tt, h)
 
-KeptExpected-plainly : (l : Live) (notes : List Note) (r : Result ⊤ Ending) (to : Live) → KeptExpected l notes r to →
+StoreExpected-plainly : (l : ConnectionSeen) (notes : List Note) (r : Result ⊤ Ending) (to : ConnectionSeen) → StoreExpected l notes r to →
     Plainly l.state.reading notes to.state.reading
-KeptExpected-plainly l notes r to (same k) = λ h. (tt, h)
-KeptExpected-plainly l notes r to (kept k) = λ h. ((tt, tt), h)
-KeptExpected-plainly l notes r to (expect_lost k) = λ h. ((tt, tt), h)
-KeptExpected-plainly l notes r to (expect_memory k) = λ h. (tt, h)
+StoreExpected-plainly l notes r to (same k) = λ h. (tt, h)
+StoreExpected-plainly l notes r to (kept k) = λ h. ((tt, tt), h)
+StoreExpected-plainly l notes r to (expect_lost k) = λ h. ((tt, tt), h)
+StoreExpected-plainly l notes r to (expect_memory k) = λ h. (tt, h)
 
 -- one part, and then the other
 AndThen-plainly : {S : Type 0} (time : S → ℕ) {A B : S → List Note → Result ⊤ Ending → S → Type 0} {s s' : S}
@@ -165,58 +165,58 @@ Drafting-plainly id d s notes r s' (drafted.write_lost {notes = first} text many
     plainly_then s.reading s'.reading s'.reading first _ (KeepsDraft-plainly d s first _ s' k) (λ h. ((tt, tt), h))
 Drafting-plainly id d s notes r s' (drafted.write_memory up k) = KeepsDraft-plainly d s notes _ s' k
 
-Sends-plainly : (id : Identity) (draft : DraftText) (d : Desk) (notes : List Note) (r : Result ⊤ Ending) (to : Desk) →
-    Sends id draft d notes r to → Plainly d.live.state.reading notes to.live.state.reading
-Sends-plainly id draft d notes r to (turns.spent k) = λ h. (tt, h)
-Sends-plainly id draft d notes r to (turns.sends {s = s} small is k) =
-    Drafting-plainly id draft d.live.state notes _ s k
+SendDraft-plainly : (id : Identity) (draft : DraftText) (d : TurnSeen) (notes : List Note) (r : Result ⊤ Ending) (to : TurnSeen) →
+    SendDraft id draft d notes r to → Plainly d.connection.state.reading notes to.connection.state.reading
+SendDraft-plainly id draft d notes r to (turns.spent k) = λ h. (tt, h)
+SendDraft-plainly id draft d notes r to (turns.sends {s = s} small is k) =
+    Drafting-plainly id draft d.connection.state notes _ s k
 
-Holding-plainly : (id : Identity) (d : Desk) (notes : List Note) (r : Result ⊤ Ending) (to : Desk) →
-    Holding id d notes r to → Plainly d.live.state.reading notes to.live.state.reading
-Holding-plainly id d notes r to (turns.empty k) = λ h. (tt, h)
-Holding-plainly id d notes r to (turns.holds draft is k) = Sends-plainly id draft d notes r to k
+SendPending-plainly : (id : Identity) (d : TurnSeen) (notes : List Note) (r : Result ⊤ Ending) (to : TurnSeen) →
+    SendPending id d notes r to → Plainly d.connection.state.reading notes to.connection.state.reading
+SendPending-plainly id d notes r to (turns.empty k) = λ h. (tt, h)
+SendPending-plainly id d notes r to (turns.holds draft is k) = SendDraft-plainly id draft d notes r to k
 
-Offered-plainly : (id : Identity) (d : Desk) (notes : List Note) (r : Result ⊤ Ending) (to : Desk) →
-    Offered id d notes r to → Plainly d.live.state.reading notes to.live.state.reading
-Offered-plainly id d notes r to (turns.not_up k) = λ h. (tt, h)
-Offered-plainly id d notes r to (turns.asked {notes = more} given up empty k) = λ h. Holding-plainly id _ more r to k h
-Offered-plainly id d notes r to (turns.was_in_hand draft up is k) = Sends-plainly id draft d notes r to k
+OfferDraft-plainly : (id : Identity) (d : TurnSeen) (notes : List Note) (r : Result ⊤ Ending) (to : TurnSeen) →
+    OfferDraft id d notes r to → Plainly d.connection.state.reading notes to.connection.state.reading
+OfferDraft-plainly id d notes r to (turns.not_up k) = λ h. (tt, h)
+OfferDraft-plainly id d notes r to (turns.asked {notes = more} given up empty k) = λ h. SendPending-plainly id _ more r to k h
+OfferDraft-plainly id d notes r to (turns.was_in_hand draft up is k) = SendDraft-plainly id draft d notes r to k
 
 -- ---- a turn, and a run
 
-abbrev time_at : Desk → ℕ
-time_at d = d.live.state.reading
+abbrev time_at : TurnSeen → ℕ
+time_at d = d.connection.state.reading
 
-Beside-plainly : {R : Live → List Note → Result ⊤ Ending → Live → Type 0} →
-    ((l : Live) (notes : List Note) (r : Result ⊤ Ending) (to : Live) → R l notes r to →
+Beside-plainly : {R : ConnectionSeen → List Note → Result ⊤ Ending → ConnectionSeen → Type 0} →
+    ((l : ConnectionSeen) (notes : List Note) (r : Result ⊤ Ending) (to : ConnectionSeen) → R l notes r to →
     Plainly l.state.reading notes to.state.reading) →
-    (d : Desk) (notes : List Note) (r : Result ⊤ Ending) (to : Desk) → Beside R d notes r to →
-    Plainly d.live.state.reading notes to.live.state.reading
-Beside-plainly part d notes r to (turns.beside {to = mid} k) = part d.live notes r mid k
+    (d : TurnSeen) (notes : List Note) (r : Result ⊤ Ending) (to : TurnSeen) → Beside R d notes r to →
+    Plainly d.connection.state.reading notes to.connection.state.reading
+Beside-plainly part d notes r to (turns.beside {to = mid} k) = part d.connection notes r mid k
 
-HeardClocked-plainly : (id : Identity) (l : Live) (notes : List Note) (r : Result ⊤ Ending) (to : Live) →
-    AndThen (Heard id) Clocked l notes r to → Plainly l.state.reading notes to.state.reading
-HeardClocked-plainly id l notes r to = AndThen-plainly time_of (Heard-plainly id) Clocked-plainly
+HeardClocked-plainly : (id : Identity) (l : ConnectionSeen) (notes : List Note) (r : Result ⊤ Ending) (to : ConnectionSeen) →
+    AndThen (ReadFrames id) ReadClock l notes r to → Plainly l.state.reading notes to.state.reading
+HeardClocked-plainly id l notes r to = AndThen-plainly time_of (ReadFrames-plainly id) ReadClock-plainly
 
-Met-plainly : (id : Identity) {d to : Desk} {notes : List Note} {r : Result ⊤ Ending} → Met id d notes r to →
-    Plainly d.live.state.reading notes to.live.state.reading
-Met-plainly id = AndThen-plainly time_at (Offered-plainly id) (Beside-plainly (HeardClocked-plainly id))
+SendReadClock-plainly : (id : Identity) {d to : TurnSeen} {notes : List Note} {r : Result ⊤ Ending} → SendReadClock id d notes r to →
+    Plainly d.connection.state.reading notes to.connection.state.reading
+SendReadClock-plainly id = AndThen-plainly time_at (OfferDraft-plainly id) (Beside-plainly (HeardClocked-plainly id))
 
-Turn-plainly : (id : Identity) (d : Desk) (u : ⊤) (notes : List Note) (r : Result ⊤ Ending) (to : Desk) →
-    Turn id d notes r to → Plainly d.live.state.reading notes to.live.state.reading
-Turn-plainly id d u notes r to (turns.stops h k) = Met-plainly id k
+Turn-plainly : (id : Identity) (d : TurnSeen) (u : ⊤) (notes : List Note) (r : Result ⊤ Ending) (to : TurnSeen) →
+    Turn id d notes r to → Plainly d.connection.state.reading notes to.connection.state.reading
+Turn-plainly id d u notes r to (turns.stops h k) = SendReadClock-plainly id k
 Turn-plainly id d u notes r to (turns.keeps {mid = mid} {first = first} {more = more} h k last) =
-    plainly_then d.live.state.reading mid.live.state.reading to.live.state.reading first more (Met-plainly id k)
-    (Beside-plainly KeptExpected-plainly _ _ _ _ last)
+    plainly_then d.connection.state.reading mid.connection.state.reading to.connection.state.reading first more (SendReadClock-plainly id k)
+    (Beside-plainly StoreExpected-plainly _ _ _ _ last)
 Turn-plainly id d u notes r to (turns.keeps_not {mid = mid} {first = first} {more = more} h k last) =
-    plainly_then d.live.state.reading mid.live.state.reading to.live.state.reading first more (Met-plainly id k)
-    (Beside-plainly KeptExpected-plainly _ _ _ _ last)
+    plainly_then d.connection.state.reading mid.connection.state.reading to.connection.state.reading first more (SendReadClock-plainly id k)
+    (Beside-plainly StoreExpected-plainly _ _ _ _ last)
 
 -- the acts of a run, from a reading on that is before the end of 2099
-pub Ran-plainly : (id : Identity) (n : ℕ) (d : Desk) (notes : List Note) (r : Result ⊤ Ending) (to : Desk) →
-    Ran id n d notes r to → d.live.state.reading ≤ LAST_TIME → IsRun notes
-Ran-plainly id n d notes r to (turns.all_turns k) h = (Each-plainly time_at (Turn-plainly id) k h).0
-Ran-plainly id n d notes r to (turns.cut {notes = first} c k) h =
+pub RunAndCut-plainly : (id : Identity) (n : ℕ) (d : TurnSeen) (notes : List Note) (r : Result ⊤ Ending) (to : TurnSeen) →
+    RunAndCut id n d notes r to → d.connection.state.reading ≤ LAST_TIME → IsRun notes
+RunAndCut-plainly id n d notes r to (turns.all_turns k) h = (Each-plainly time_at (Turn-plainly id) k h).0
+RunAndCut-plainly id n d notes r to (turns.cut {notes = first} c k) h =
     IsRun-append first (Did act.Cut ∷ []) (Each-plainly time_at (Turn-plainly id) k h).0 (tt, tt)
-Ran-plainly id n d notes r to (turns.cut_memory c k) h = (Each-plainly time_at (Turn-plainly id) k h).0
-Ran-plainly id n d notes r to (turns.no_cut c k) h = (Each-plainly time_at (Turn-plainly id) k h).0
+RunAndCut-plainly id n d notes r to (turns.cut_memory c k) h = (Each-plainly time_at (Turn-plainly id) k h).0
+RunAndCut-plainly id n d notes r to (turns.no_cut c k) h = (Each-plainly time_at (Turn-plainly id) k h).0

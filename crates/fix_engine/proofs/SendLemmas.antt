@@ -4,11 +4,11 @@ use Rattle.std.specs.Prelude.{⊤, IfNone, OnOk}
 use Rattle.fix_base.specs.declared.identity.Identity.{Identity}
 use Rattle.fix_base.specs.declared.act.Act.{Act}
 use Rattle.fix_base.specs.declared.act.Act.TheVariants as act
-use Rattle.fix_base.specs.Stream.{Ahead}
+use Rattle.fix_base.specs.Stream.{UnreadBytes}
 use Rattle.fix_base.specs.Payload.{LAST_TIME}
 use Rattle.fix_base.specs.EndStep as steps
 use Rattle.fix_base.specs.EndStep.{EndState}
-use Rattle.fix_base.specs.Seen.{Note, Did, Failed, LinkPart, acts_of, Seen, Goes, store_failures, link_failures}
+use Rattle.fix_base.specs.Trace.{Note, Did, Failed, LinkPart, acts_of, OutsideSeen, HasTrace, store_failures, link_failures}
 use Rattle.fix_base.proofs.SeenLemmas.{store_failures-append, link_failures-append}
 use Rattle.fix_base.proofs.RunLemmas.{EndRun-append}
 use Rattle.fix_fields.specs.Drafted.{DraftText}
@@ -16,18 +16,14 @@ use Rattle.fix_engine.specs.State.{State, Down, Up, with_phase, with_last, with_
 use Rattle.fix_engine.specs.declared.stop.SendFault.{SendFault}
 use Rattle.fix_engine.specs.declared.stop.SendFault.TheVariants as fault
 use Rattle.fix_engine.specs.declared.stop.StopCause.{StopCause}
-use Rattle.fix_engine.specs.Turn.{Live, live}
-use Rattle.fix_engine.specs.Run.{Seat}
+use Rattle.fix_engine.specs.Reading.{ConnectionSeen, connection_seen}
+use Rattle.fix_engine.specs.Run.{SessionSeen}
 use Rattle.fix_engine.specs.Drafted as drafted
-<<<<<<< HEAD
-use Rattle.fix_engine.specs.Drafted.{KeepsDraft, Drafting, Drafted, SentTo, SendsTo, entry_of_draft, is_link_fault, open_sent, send_stop, SendHasCause}
-=======
 use Rattle.fix_engine.specs.Drafted.{KeepsDraft, Drafting, Drafted, SentTo, SendsTo, entry_of_draft, SendHasCause}
 use Rattle.fix_engine.specs.Faults.{is_link_fault, open_sent, send_stop}
->>>>>>> 96824219a17e0c1d58d40506ff6d577247a7c6f7
-use Rattle.fix_engine.specs.Lawful.{HasNumbers, IsCertain, Fits, HasLeft, Leads}
+use Rattle.fix_engine.specs.Lawful.{HasNumbers, IsCertain, MatchesConnected, MatchesDown, LawfulRunTo}
 use Rattle.fix_engine.specs.InStep as step
-use Rattle.fix_engine.specs.InStep.{IsBeside, IsTape, IsInStep, StandsInStep, Trails, IsConnected, AreOfRun}
+use Rattle.fix_engine.specs.InStep.{Matches, IsTape, IsInStep, IsInStepSinceSome, CanRestart, IsConnected, AreOfRun}
 use Rattle.fix_engine.specs.LawfulSend.{AfterSend, IsLawfulSend}
 use Rattle.fix_engine.proofs.LeadsLemmas.{certain_settled, settled_phase, lost_down, leads_nowhere, leads_step, leads_on, leads_weaker, holds_end}
 use Rattle.fix_engine.proofs.OnLemmas.{pushed, settled_pushed, on_state}
@@ -39,21 +35,21 @@ use Rattle.fix_engine.proofs.InStepLemmas.{seated, beside_settled, beside_fits, 
 -- ---- it is lawful
 
 -- behind a sending, before a connection is cut
-abbrev BehindSend : Identity → Ahead → Result ℕ SendFault → State → EndState → Type 0
-BehindSend id a r s e = BehindDraft (IsBeside id (live s a)) r s e
+abbrev BehindSend : Identity → UnreadBytes → Result ℕ SendFault → State → EndState → Type 0
+BehindSend id a r s e = BehindDraft (Matches id (connection_seen s a)) r s e
 
 never_both : (s : State) → s.phase ≡ Down → s.phase ≡ Up → ⊥
 never_both s p q = cc
 
-module _ (id : Identity) (a : Ahead) (d : DraftText) where
-  stored_down : (s s' : State) (n : ℕ) (notes : List Note) → KeepsDraft d s notes (Ok n) s' → (e : EndState) → s.phase ≡ Down → IsCertain s e → Leads id e (acts_of notes) (IsBeside id (live s' a))
+module _ (id : Identity) (a : UnreadBytes) (d : DraftText) where
+  stored_down : (s s' : State) (n : ℕ) (notes : List Note) → KeepsDraft d s notes (Ok n) s' → (e : EndState) → s.phase ≡ Down → IsCertain s e → LawfulRunTo id e (acts_of notes) (Matches id (connection_seen s' a))
   stored_down s s' n notes (drafted.was_kept is) e p h =
-      let end = live (with_last s (s.last + 1)) a in
-      push_kept id (entry_of_draft s d) e [] (IsBeside id end) h.doubt
-      (leads_nowhere id (pushed e (entry_of_draft s d)) (IsBeside id end) (step.down p (settled_pushed s e (entry_of_draft s d) h)))
+      let end = connection_seen (with_last s (s.last + 1)) a in
+      push_kept id (entry_of_draft s d) e [] (Matches id end) h.doubt
+      (leads_nowhere id (pushed e (entry_of_draft s d)) (Matches id end) (step.down p (settled_pushed s e (entry_of_draft s d) h)))
 
   -- where there is no connection
-  drafting_down : (s : State) (notes : List Note) (r : Result ℕ SendFault) (s' : State) → Drafting id d s notes r s' → (e : EndState) → s.phase ≡ Down → IsCertain s e → Leads id e (acts_of notes) (BehindSend id a r s')
+  drafting_down : (s : State) (notes : List Note) (r : Result ℕ SendFault) (s' : State) → Drafting id d s notes r s' → (e : EndState) → s.phase ≡ Down → IsCertain s e → LawfulRunTo id e (acts_of notes) (BehindSend id a r s')
   drafting_down s notes r s' drafted.no_memory e p h = leads_nowhere id e (IsCertain s) h
   drafting_down s notes r s' (drafted.lost k) e p h = lost_leads id a d s s' notes k e h
   drafting_down s notes r s' (drafted.stored {n = n} other k) e p h = stored_down s s' n notes k e p h
@@ -61,20 +57,20 @@ module _ (id : Identity) (a : Ahead) (d : DraftText) where
   drafting_down s notes r s' (drafted.write_lost text many up said k) e p h = absurd (never_both s p up)
   drafting_down s notes r s' (drafted.write_memory up k) e p h = absurd (never_both s p up)
 
-  drafting_leads : (s : State) (notes : List Note) (r : Result ℕ SendFault) (s' : State) → Drafting id d s notes r s' → s.last < 999999999 → (e : EndState) → IsBeside id (live s a) e → Leads id e (acts_of notes) (BehindSend id a r s')
+  drafting_leads : (s : State) (notes : List Note) (r : Result ℕ SendFault) (s' : State) → Drafting id d s notes r s' → s.last < 999999999 → (e : EndState) → Matches id (connection_seen s a) e → LawfulRunTo id e (acts_of notes) (BehindSend id a r s')
   drafting_leads s notes r s' k small e (step.connected f) =
-      leads_weaker id e (acts_of notes) (BehindDraft (Fits id (live s' a)) r s') (BehindSend id a r s') (λ m q. behind_weaker (Fits id (live s' a)) (IsBeside id (live s' a)) r s' m step.connected q) (drafting_fits id a d s notes r s' k small e f)
+      leads_weaker id e (acts_of notes) (BehindDraft (MatchesConnected id (connection_seen s' a)) r s') (BehindSend id a r s') (λ m q. behind_weaker (MatchesConnected id (connection_seen s' a)) (Matches id (connection_seen s' a)) r s' m step.connected q) (drafting_fits id a d s notes r s' k small e f)
   drafting_leads s notes r s' k small e (step.down p h) = drafting_down s notes r s' k e p h
 
   -- a look at the clock leaves the end in step
-  beside_reading : (s : State) (t : ℕ) (e : EndState) → IsBeside id (live s a) e → IsBeside id (live (with_reading s t) a) e
+  beside_reading : (s : State) (t : ℕ) (e : EndState) → Matches id (connection_seen s a) e → Matches id (connection_seen (with_reading s t) a) e
   beside_reading s t e (step.connected f) = step.connected (record { connection = f.connection; on = on_state id s (with_reading s t) a f.connection e f.on.phase refl refl refl f.on; begun = f.begun; counted = f.counted })
   beside_reading s t e (step.down p h) = step.down p (record { doubt = h.doubt; numbers = record { expected = h.numbers.expected; stored = h.numbers.stored; out = h.numbers.out; role = h.numbers.role } })
 
-  drafted_leads : (s : State) (notes : List Note) (r : Result ℕ SendFault) (s' : State) → Drafted id d s notes r s' → s.last < 999999999 → (e : EndState) → IsBeside id (live s a) e → Leads id e (acts_of notes) (BehindSend id a r s')
-  drafted_leads s notes r s' drafted.no_reading small e b = leads_nowhere id e (IsCertain s) (beside_settled id (live s a) e b)
+  drafted_leads : (s : State) (notes : List Note) (r : Result ℕ SendFault) (s' : State) → Drafted id d s notes r s' → s.last < 999999999 → (e : EndState) → Matches id (connection_seen s a) e → LawfulRunTo id e (acts_of notes) (BehindSend id a r s')
+  drafted_leads s notes r s' drafted.no_reading small e b = leads_nowhere id e (IsCertain s) (beside_settled id (connection_seen s a) e b)
   drafted_leads s notes r s' (drafted.at_time {notes = more} t k) small e b =
-      leads_step id e e (act.Now t) (acts_of more) (BehindSend id a r s') (record { certain = (beside_settled id (live s a) e b).doubt; row = steps.now t }) (λ held h. h)
+      leads_step id e e (act.Now t) (acts_of more) (BehindSend id a r s') (record { certain = (beside_settled id (connection_seen s a) e b).doubt; row = steps.now t }) (λ held h. h)
       (drafting_leads (with_reading s t) more r s' k small e (beside_reading s t e b))
 
   -- a fault of the connection leaves nothing in doubt
@@ -85,14 +81,14 @@ module _ (id : Identity) (a : Ahead) (d : DraftText) where
   link_settled fault.OutOfMemory s e t h = cc
   link_settled fault.StoreFault s e t h = cc
 
-  link_after : (why : SendFault) (s : State) (e : EndState) → is_link_fault why ≡ true → HasLeft s e → AfterSend {T = ℕ} id (Err why) (live s a) e
+  link_after : (why : SendFault) (s : State) (e : EndState) → is_link_fault why ≡ true → MatchesDown s e → AfterSend {T = ℕ} id (Err why) (connection_seen s a) e
   link_after (fault.LinkFault n) s e t h = h
   link_after (fault.Stopped why) s e t h = cc
   link_after fault.NumbersSpent s e t h = cc
   link_after fault.OutOfMemory s e t h = cc
   link_after fault.StoreFault s e t h = cc
 
-  not_link_after : (why : SendFault) (s : State) (e : EndState) → is_link_fault why ≡ false → BehindSend id a (Err why) s e → AfterSend {T = ℕ} id (Err why) (live (with_phase s Down) a) e
+  not_link_after : (why : SendFault) (s : State) (e : EndState) → is_link_fault why ≡ false → BehindSend id a (Err why) s e → AfterSend {T = ℕ} id (Err why) (connection_seen (with_phase s Down) a) e
   not_link_after (fault.LinkFault n) s e t h = cc
   not_link_after (fault.Stopped why) s e t h = absurd h
   not_link_after fault.NumbersSpent s e t h = absurd h
@@ -105,39 +101,39 @@ module _ (id : Identity) (a : Ahead) (d : DraftText) where
     closed = h.closed;
   }
 
-  cut_leads : (why : SendFault) (s : State) (e : EndState) → is_link_fault why ≡ true → IsCertain s e → Leads id e (act.Cut ∷ []) (AfterSend {T = ℕ} id (Err why) (live (with_phase s Down) a))
+  cut_leads : (why : SendFault) (s : State) (e : EndState) → is_link_fault why ≡ true → IsCertain s e → LawfulRunTo id e (act.Cut ∷ []) (AfterSend {T = ℕ} id (Err why) (connection_seen (with_phase s Down) a))
   cut_leads why s e t h =
       let left : EndState = record e { connection = None } in
-      let is_left : HasLeft (with_phase s Down) left = record { phase = refl; settled = record { doubt = h.doubt; numbers = record { expected = h.numbers.expected; stored = h.numbers.stored; out = h.numbers.out; role = h.numbers.role } }; closed = refl } in
-      let P = AfterSend {T = ℕ} id (Err why) (live (with_phase s Down) a) in
+      let is_left : MatchesDown (with_phase s Down) left = record { phase = refl; settled = record { doubt = h.doubt; numbers = record { expected = h.numbers.expected; stored = h.numbers.stored; out = h.numbers.out; role = h.numbers.role } }; closed = refl } in
+      let P = AfterSend {T = ℕ} id (Err why) (connection_seen (with_phase s Down) a) in
       leads_step id e left act.Cut [] P (record { certain = h.doubt; row = steps.cut }) (λ held k. k) (leads_nowhere id left P (link_after why (with_phase s Down) left t is_left))
 
-  sent_to_leads : (s : State) (notes : List Note) (r : Result ℕ SendFault) (s' : State) → SentTo id d s notes r s' → s.last < 999999999 → (e : EndState) → IsBeside id (live s a) e → Leads id e (acts_of notes) (AfterSend id r (live s' a))
+  sent_to_leads : (s : State) (notes : List Note) (r : Result ℕ SendFault) (s' : State) → SentTo id d s notes r s' → s.last < 999999999 → (e : EndState) → Matches id (connection_seen s a) e → LawfulRunTo id e (acts_of notes) (AfterSend id r (connection_seen s' a))
   sent_to_leads s notes r s' (drafted.went {n = n} k) small e b = drafted_leads s notes (Ok n) s' k small e b
   sent_to_leads s notes r s' (drafted.cut {notes = first} {why = why} {s' = behind} t k) small e b =
-      leads_on id e first (Did act.Cut ∷ []) (IsCertain behind) (AfterSend {T = ℕ} id (Err why) (live (with_phase behind Down) a)) (certain_settled behind)
+      leads_on id e first (Did act.Cut ∷ []) (IsCertain behind) (AfterSend {T = ℕ} id (Err why) (connection_seen (with_phase behind Down) a)) (certain_settled behind)
       (leads_weaker id e (acts_of first) (BehindSend id a (Err why) behind) (IsCertain behind) (λ m q. link_settled why behind m t q) (drafted_leads s first (Err why) behind k small e b))
       (λ m q. cut_leads why behind m t q)
   sent_to_leads s notes r s' (drafted.cut_memory {why = why} {s' = behind} t k) small e b =
       leads_weaker id e (acts_of notes) (BehindSend id a (Err why) behind) (IsCertain (with_phase behind Down)) (λ m q. settled_phase behind m (link_settled why behind m t q)) (drafted_leads s notes (Err why) behind k small e b)
   sent_to_leads s notes r s' (drafted.no_cut {why = why} {s' = behind} t k) small e b =
-      leads_weaker id e (acts_of notes) (BehindSend id a (Err why) behind) (AfterSend {T = ℕ} id (Err why) (live (with_phase behind Down) a)) (λ m q. not_link_after why behind m t q) (drafted_leads s notes (Err why) behind k small e b)
+      leads_weaker id e (acts_of notes) (BehindSend id a (Err why) behind) (AfterSend {T = ℕ} id (Err why) (connection_seen (with_phase behind Down) a)) (λ m q. not_link_after why behind m t q) (drafted_leads s notes (Err why) behind k small e b)
 
 -- what a session comes to that has a number left
-pub sent_goes : (id : Identity) (d : DraftText) (s : State) (a : Ahead) (r : Result ℕ SendFault) (s' : State) (old new : Seen) → s.last < 999999999 → Goes old new (λ notes. SentTo id d s notes r s') → Goes old new (SendsTo id d (live s a) r (live s' a))
+pub sent_goes : (id : Identity) (d : DraftText) (s : State) (a : UnreadBytes) (r : Result ℕ SendFault) (s' : State) (old new : OutsideSeen) → s.last < 999999999 → HasTrace old new (λ notes. SentTo id d s notes r s') → HasTrace old new (SendsTo id d (connection_seen s a) r (connection_seen s' a))
 sent_goes id d s a r s' old new small g = (g.0, g.1, drafted.sends small g.2)
 
 -- every `send` is a run of a lawful end
-pub Sends-lawful : (id : Identity) (d : DraftText) (l : Live) (r : Result ℕ SendFault) (to : Live) (notes : List Note) → SendsTo id d l r to notes → IsLawfulSend id l r to notes
-Sends-lawful id d l r to notes (drafted.spent h) e b = leads_nowhere id e (IsBeside id l) b
-Sends-lawful id d l r to notes (drafted.sends {s = s} small k) e b = sent_to_leads id l.ahead d l.state notes r s k small e b
+pub SendDraft-lawful : (id : Identity) (d : DraftText) (l : ConnectionSeen) (r : Result ℕ SendFault) (to : ConnectionSeen) (notes : List Note) → SendsTo id d l r to notes → IsLawfulSend id l r to notes
+SendDraft-lawful id d l r to notes (drafted.spent h) e b = leads_nowhere id e (Matches id l) b
+SendDraft-lawful id d l r to notes (drafted.sends {s = s} small k) e b = sent_to_leads id l.unread d l.state notes r s k small e b
 
-pub send_lawful : (id : Identity) (d : DraftText) (l : Live) (r : Result ℕ SendFault) (to : Live) (old new : Seen) → Goes old new (SendsTo id d l r to) → Goes old new (IsLawfulSend id l r to)
-send_lawful id d l r to old new g = (g.0, g.1, Sends-lawful id d l r to g.0 g.2)
+pub send_lawful : (id : Identity) (d : DraftText) (l : ConnectionSeen) (r : Result ℕ SendFault) (to : ConnectionSeen) (old new : OutsideSeen) → HasTrace old new (SendsTo id d l r to) → HasTrace old new (IsLawfulSend id l r to)
+send_lawful id d l r to old new g = (g.0, g.1, SendDraft-lawful id d l r to g.0 g.2)
 
 -- ---- the session stays in step
 
-send_beside : (id : Identity) (r : Result ℕ SendFault) (to : Live) (e : EndState) → send_stop r ≡ None → AfterSend id r to e → IsBeside id to e
+send_beside : (id : Identity) (r : Result ℕ SendFault) (to : ConnectionSeen) (e : EndState) → send_stop r ≡ None → AfterSend id r to e → Matches id to e
 send_beside id (Ok n) to e none h = h
 send_beside id (Err fault.NumbersSpent) to e none h = h
 send_beside id (Err (fault.LinkFault n)) to e none h = step.down h.phase h.settled
@@ -145,7 +141,7 @@ send_beside id (Err (fault.Stopped why)) to e none h = absurd h
 send_beside id (Err fault.OutOfMemory) to e none h = cc
 send_beside id (Err fault.StoreFault) to e none h = cc
 
-send_numbers : (id : Identity) (r : Result ℕ SendFault) (to : Live) (e : EndState) → AfterSend id r to e → HasNumbers to.state e
+send_numbers : (id : Identity) (r : Result ℕ SendFault) (to : ConnectionSeen) (e : EndState) → AfterSend id r to e → HasNumbers to.state e
 send_numbers id (Ok n) to e h = (beside_settled id to e h).numbers
 send_numbers id (Err fault.NumbersSpent) to e h = (beside_settled id to e h).numbers
 send_numbers id (Err (fault.LinkFault n)) to e h = h.settled.numbers
@@ -161,26 +157,26 @@ open_unstopped (Err (fault.Stopped why)) s none = refl
 open_unstopped (Err fault.OutOfMemory) s none = refl
 open_unstopped (Err fault.StoreFault) s none = cc
 
-send_moved : (d : DraftText) (seat : Seat) (r : Result ℕ SendFault) (to : Live) (old new : Seen) → new.open_at ≡ open_sent r to.state → Goes old new (SendsTo seat.identity d seat.live r to) → send_stop r ≡ None → (start : EndState) (before : List Act) → IsInStep start before old seat → IsInStep start before new (seated seat to seat.hand (send_stop r))
-send_moved d seat r to old new opens g none start before h =
-    moved start before old new seat to seat.hand (send_stop r) g.0 (AfterSend seat.identity r to) g.1 (opens ∙ open_unstopped r to.state none) (λ e k. send_beside seat.identity r to e none k) h
-    (Sends-lawful seat.identity d seat.live r to g.0 g.2 h.to h.beside)
+send_moved : (d : DraftText) (session : SessionSeen) (r : Result ℕ SendFault) (to : ConnectionSeen) (old new : OutsideSeen) → new.open_at ≡ open_sent r to.state → HasTrace old new (SendsTo session.identity d session.connection r to) → send_stop r ≡ None → (start : EndState) (before : List Act) → IsInStep start before old session → IsInStep start before new (seated session to session.pending (send_stop r))
+send_moved d session r to old new opens g none start before h =
+    moved start before old new session to session.pending (send_stop r) g.0 (AfterSend session.identity r to) g.1 (opens ∙ open_unstopped r to.state none) (λ e k. send_beside session.identity r to e none k) h
+    (SendDraft-lawful session.identity d session.connection r to g.0 g.2 h.to h.beside)
 
-pub send_in_step : (d : DraftText) (seat : Seat) (r : Result ℕ SendFault) (to : Live) (old new : Seen) → new.open_at ≡ open_sent r to.state → Goes old new (SendsTo seat.identity d seat.live r to) → IfNone (send_stop r) ((start : EndState) (before : List Act) → IsInStep start before old seat → IsInStep start before new (seated seat to seat.hand (send_stop r)))
-send_in_step d seat r to old new opens g =
-    if_none (send_stop r) ((start : EndState) (before : List Act) → IsInStep start before old seat → IsInStep start before new (seated seat to seat.hand (send_stop r)))
-    (λ none. send_moved d seat r to old new opens g none)
+pub send_in_step : (d : DraftText) (session : SessionSeen) (r : Result ℕ SendFault) (to : ConnectionSeen) (old new : OutsideSeen) → new.open_at ≡ open_sent r to.state → HasTrace old new (SendsTo session.identity d session.connection r to) → IfNone (send_stop r) ((start : EndState) (before : List Act) → IsInStep start before old session → IsInStep start before new (seated session to session.pending (send_stop r)))
+send_in_step d session r to old new opens g =
+    if_none (send_stop r) ((start : EndState) (before : List Act) → IsInStep start before old session → IsInStep start before new (seated session to session.pending (send_stop r)))
+    (λ none. send_moved d session r to old new opens g none)
 
-pub send_stands : (d : DraftText) (seat : Seat) (r : Result ℕ SendFault) (to : Live) (old new : Seen) → new.open_at ≡ open_sent r to.state → Goes old new (SendsTo seat.identity d seat.live r to) → StandsInStep old seat → IfNone (send_stop r) (StandsInStep new (seated seat to seat.hand (send_stop r)))
-send_stands d seat r to old new opens g h =
-    if_none (send_stop r) (StandsInStep new (seated seat to seat.hand (send_stop r)))
-    (λ none. stands_on old new seat (seated seat to seat.hand (send_stop r)) (opens ∙ open_unstopped r to.state none) (send_moved d seat r to old new opens g none) h)
+pub send_stands : (d : DraftText) (session : SessionSeen) (r : Result ℕ SendFault) (to : ConnectionSeen) (old new : OutsideSeen) → new.open_at ≡ open_sent r to.state → HasTrace old new (SendsTo session.identity d session.connection r to) → IsInStepSinceSome old session → IfNone (send_stop r) (IsInStepSinceSome new (seated session to session.pending (send_stop r)))
+send_stands d session r to old new opens g h =
+    if_none (send_stop r) (IsInStepSinceSome new (seated session to session.pending (send_stop r)))
+    (λ none. stands_on old new session (seated session to session.pending (send_stop r)) (opens ∙ open_unstopped r to.state none) (send_moved d session r to old new opens g none) h)
 
 -- whatever it answers, an end trails
-pub send_trails : (d : DraftText) (seat : Seat) (r : Result ℕ SendFault) (to : Live) (stopped : Option StopCause) (old new : Seen) → Goes old new (SendsTo seat.identity d seat.live r to) → (start : EndState) (before : List Act) → IsInStep start before old seat → Trails start before new (seated seat to seat.hand stopped)
-send_trails d seat r to stopped old new g start before h =
-    trail start before old new seat to seat.hand stopped g.0 (AfterSend seat.identity r to) g.1 (send_numbers seat.identity r to) h
-    (Sends-lawful seat.identity d seat.live r to g.0 g.2 h.to h.beside)
+pub send_trails : (d : DraftText) (session : SessionSeen) (r : Result ℕ SendFault) (to : ConnectionSeen) (stopped : Option StopCause) (old new : OutsideSeen) → HasTrace old new (SendsTo session.identity d session.connection r to) → (start : EndState) (before : List Act) → IsInStep start before old session → CanRestart start before new (seated session to session.pending stopped)
+send_trails d session r to stopped old new g start before h =
+    trail start before old new session to session.pending stopped g.0 (AfterSend session.identity r to) g.1 (send_numbers session.identity r to) h
+    (SendDraft-lawful session.identity d session.connection r to g.0 g.2 h.to h.beside)
 
 -- ---- it stays connected
 
@@ -191,7 +187,7 @@ drafted_of_run : (id : Identity) (d : DraftText) (s s' : State) (notes : List No
 drafted_of_run id d s s' notes r drafted.no_reading = tt
 drafted_of_run id d s s' notes r (drafted.at_time {notes = more} t k) = (tt, (Drafting-plainly id d (with_reading s t) more r s' k (capped s t)).0)
 
-sends_of_run : (id : Identity) (d : DraftText) (l to : Live) (n : ℕ) (notes : List Note) → SendsTo id d l (Ok n) to notes → AreOfRun (acts_of notes)
+sends_of_run : (id : Identity) (d : DraftText) (l to : ConnectionSeen) (n : ℕ) (notes : List Note) → SendsTo id d l (Ok n) to notes → AreOfRun (acts_of notes)
 sends_of_run id d l to n notes (drafted.sends {s = s} small (drafted.went k)) = drafted_of_run id d l.state s notes (Ok n) k
 
 keeps_phase : (d : DraftText) (s s' : State) (n : ℕ) (notes : List Note) → KeepsDraft d s notes (Ok n) s' → s'.phase ≡ s.phase
@@ -202,32 +198,32 @@ drafting_phase id d s s' n notes (drafted.stored other k) = keeps_phase d s s' n
 drafting_phase id d s s' n notes (drafted.sent {notes = first} text up said k) = keeps_phase d s s' n first k
 
 -- a `send` that answers a number leaves the phase
-sends_phase : (id : Identity) (d : DraftText) (l to : Live) (n : ℕ) (notes : List Note) → SendsTo id d l (Ok n) to notes → to.state.phase ≡ l.state.phase
+sends_phase : (id : Identity) (d : DraftText) (l to : ConnectionSeen) (n : ℕ) (notes : List Note) → SendsTo id d l (Ok n) to notes → to.state.phase ≡ l.state.phase
 sends_phase id d l to n notes (drafted.sends {s = s} small (drafted.went (drafted.at_time {notes = more} t k))) = drafting_phase id d (with_reading l.state t) s n more k
 
-connected_on : (d : DraftText) (seat : Seat) (n : ℕ) (to : Live) (stopped : Option StopCause) (old new : Seen) → new.open_at ≡ Some to.state.last → Goes old new (SendsTo seat.identity d seat.live (Ok n) to) → (start : EndState) (before : List Act) → IsConnected start before old seat → IsConnected start before new (seated seat to seat.hand stopped)
-connected_on d seat n to stopped old new opens g start before h =
+connected_on : (d : DraftText) (session : SessionSeen) (n : ℕ) (to : ConnectionSeen) (stopped : Option StopCause) (old new : OutsideSeen) → new.open_at ≡ Some to.state.last → HasTrace old new (SendsTo session.identity d session.connection (Ok n) to) → (start : EndState) (before : List Act) → IsConnected start before old session → IsConnected start before new (seated session to session.pending stopped)
+connected_on d session n to stopped old new opens g start before h =
     let acts = acts_of g.0 in
-    let l = Sends-lawful seat.identity d seat.live (Ok n) to g.0 g.2 h.to (step.connected h.fits) in
-    let certain = beside_settled seat.identity to l.to l.holds in
-    let same = sends_phase seat.identity d seat.live to n g.0 g.2 in
+    let l = SendDraft-lawful session.identity d session.connection (Ok n) to g.0 g.2 h.to (step.connected h.fits) in
+    let certain = beside_settled session.identity to l.to l.holds in
+    let same = sends_phase session.identity d session.connection to n g.0 g.2 in
     record {
       opened = h.opened;
       opens = h.opens;
       acts = h.acts ++ acts;
-      ran = of_run-append h.acts acts h.ran (sends_of_run seat.identity d seat.live to n g.0 g.2);
+      ran = of_run-append h.acts acts h.ran (sends_of_run session.identity d session.connection to n g.0 g.2);
       to = l.to;
       run = EndRun-append h.run l.run;
-      fits = beside_fits seat.identity to l.to (λ p. h.fits.on.phase (sym same ∙ p)) l.holds;
+      fits = beside_fits session.identity to l.to (λ p. h.fits.on.phase (sym same ∙ p)) l.holds;
       tape = subst (λ (w : List Act). IsTape new w) (append_assoc before (act.Opened ∷ h.acts) acts) (tape_moves old.tape new.tape (before ++ act.Opened ∷ h.acts) acts g.1.tape h.tape);
       stored = store_moves old.Holds new.Holds acts h.to.end l.to.end g.1.stored (λ held s. holds_end l.to.doubt l.to.end held certain.doubt (l.store held s)) h.stored;
       store_open = opens;
       store = λ held s. holds_end l.to.doubt l.to.end held certain.doubt (stored_on h.opened.end h.to.end h.acts acts l.to.doubt l.to.end h.store l.store held s);
     }
 
-pub send_connected : (d : DraftText) (seat : Seat) (r : Result ℕ SendFault) (to : Live) (stopped : Option StopCause) (old new : Seen) → new.open_at ≡ open_sent r to.state → Goes old new (SendsTo seat.identity d seat.live r to) → OnOk r ((start : EndState) (before : List Act) → IsConnected start before old seat → IsConnected start before new (seated seat to seat.hand stopped))
-send_connected d seat (Ok n) to stopped old new opens g = connected_on d seat n to stopped old new opens g
-send_connected d seat (Err why) to stopped old new opens g = tt
+pub send_connected : (d : DraftText) (session : SessionSeen) (r : Result ℕ SendFault) (to : ConnectionSeen) (stopped : Option StopCause) (old new : OutsideSeen) → new.open_at ≡ open_sent r to.state → HasTrace old new (SendsTo session.identity d session.connection r to) → OnOk r ((start : EndState) (before : List Act) → IsConnected start before old session → IsConnected start before new (seated session to session.pending stopped))
+send_connected d session (Ok n) to stopped old new opens g = connected_on d session n to stopped old new opens g
+send_connected d session (Err why) to stopped old new opens g = tt
 
 -- ---- a fault has its cause
 
@@ -276,12 +272,12 @@ sent_to_blames id d s s' notes r (drafted.cut {notes = first} {why = why} t k) =
 sent_to_blames id d s s' notes r (drafted.cut_memory t k) = tt
 sent_to_blames id d s s' notes r (drafted.no_cut {why = why} t k) = drafted_blames id d s _ notes (Err why) k
 
-sends_blames : (id : Identity) (d : DraftText) (l to : Live) (notes : List Note) (r : Result ℕ SendFault) → SendsTo id d l r to notes → Blames r notes
+sends_blames : (id : Identity) (d : DraftText) (l to : ConnectionSeen) (notes : List Note) (r : Result ℕ SendFault) → SendsTo id d l r to notes → Blames r notes
 sends_blames id d l to notes r (drafted.spent h) = tt
 sends_blames id d l to notes r (drafted.sends {s = s} small k) = sent_to_blames id d l.state s notes r k
 
 -- a `send` that answers a fault has its cause
-pub send_has_cause : (id : Identity) (d : DraftText) (l : Live) (r : Result ℕ SendFault) (to : Live) (old new : Seen) → Goes old new (SendsTo id d l r to) → SendHasCause r old.faults new.faults
+pub send_has_cause : (id : Identity) (d : DraftText) (l : ConnectionSeen) (r : Result ℕ SendFault) (to : ConnectionSeen) (old new : OutsideSeen) → HasTrace old new (SendsTo id d l r to) → SendHasCause r old.faults new.faults
 send_has_cause id d l r to old new g = caused r (sends_blames id d l to g.0 r g.2)
   where
     caused : (x : Result ℕ SendFault) → Blames x g.0 → SendHasCause x old.faults new.faults

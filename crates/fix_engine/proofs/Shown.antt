@@ -5,7 +5,7 @@ use Rattle.fix_base.specs.declared.identity.Identity.{Identity}
 use Rattle.fix_base.specs.declared.act.Act.{Act}
 use Rattle.fix_base.specs.declared.act.Act.TheVariants as act
 use Rattle.fix_base.specs.Lists.{Among, here, there}
-use Rattle.fix_base.specs.Seen.{Note, acts_of}
+use Rattle.fix_base.specs.Trace.{Note, acts_of}
 use Rattle.fix_base.proofs.SeenLemmas.{acts_of-append}
 use Rattle.fix_engine.specs.State.{State, Phase, Down, AwaitLogon, Up, Ending, Say, PeerEnd, LoggedOut, Refused}
 use Rattle.fix_engine.specs.State.{NotLogon}
@@ -13,9 +13,9 @@ use Rattle.fix_engine.specs.declared.state.Step.TheVariants as step
 use Rattle.fix_engine.specs.declared.stop.RunEnd.{RunEnd}
 use Rattle.fix_engine.specs.declared.stop.RunEnd.TheVariants as run
 use Rattle.fix_engine.specs.Fold.{Each, ends, goes}
-use Rattle.fix_engine.specs.Inbound.{Inbound, IsInbound}
+use Rattle.fix_engine.specs.Inbound.{InboundSeen, IsInbound}
 use Rattle.fix_engine.specs.Answer.{Performed, close, give_up, hand_lost, hand_memory, spent, keep_memory, keep_lost}
-use Rattle.fix_engine.specs.Answer.{write_lost, write_memory, Handled, answer_in, logon_answer, logon_steps}
+use Rattle.fix_engine.specs.Answer.{write_lost, write_memory, AnswerFrame, answer_in, logon_answer, logon_steps}
 use Rattle.fix_engine.specs.Answer.{logout_answer, app_answer, not_built, refused, first_answer, up_answer, names}
 use Rattle.fix_engine.specs.Answer.{is_in_order, is_app_type, number_or_0}
 use Rattle.fix_engine.specs.Faults.{run_end}
@@ -88,13 +88,13 @@ module _ (id : Identity) (frame : List ℕ) (answered : List (List ℕ)) (acts :
   send_shown s s' say n notes e (write_lost say' n' text k h is) = tt
   send_shown s s' say n notes e (write_memory say' n' h) = tt
 
-  not_built_shown : (s s' : State) (i : Inbound) (notes : List Note) (e : Ending) →
+  not_built_shown : (s s' : State) (i : InboundSeen) (notes : List Note) (e : Ending) →
       IsLast (IsOfNumber (number_or_0 i.header.number)) answered →
       Each (Performed id frame) s (not_built i) notes (Err e) s' → IsShown (run_end (Err e)) answered acts
   not_built_shown s s' i notes e is (ends (give_up n)) = is
   not_built_shown s s' i notes e is (goes d k) = elim d [ ]
 
-  refused_shown : (s s' : State) (i : Inbound) (notes : List Note) (e : Ending) → (f : List ℕ) × (answered ≡ f ∷ []) ×
+  refused_shown : (s s' : State) (i : InboundSeen) (notes : List Note) (e : Ending) → (f : List ℕ) × (answered ≡ f ∷ []) ×
       IsNoLogon (number_or_0 i.header.number) f → Each (Performed id frame) s (refused i) notes (Err e) s' →
       IsShown (run_end (Err e)) answered acts
   refused_shown s s' i notes e is (ends (close why)) = is
@@ -125,7 +125,7 @@ module _ (id : Identity) (frame : List ℕ) (answered : List (List ℕ)) (acts :
   app_shown s s' n notes e (goes a (goes b (goes c (goes f d)))) = elim d [ ]
 
 -- why a frame ended the run
-module _ (id : Identity) (frame : List ℕ) (i : Inbound) (p : IsInbound frame i) where
+module _ (id : Identity) (frame : List ℕ) (i : InboundSeen) (p : IsInbound frame i) where
   of_number : (answered : List (List ℕ)) → IsLast (IsOfNumber (number_or_0 i.header.number)) (answered ++ frame ∷ [])
   of_number answered = record {
     before = answered;
@@ -184,7 +184,7 @@ module _ (id : Identity) (frame : List ℕ) (i : Inbound) (p : IsInbound frame i
 
 pub frame_shown : (id : Identity) (start : State) (answered : List (List ℕ)) (before acts : List Act) (frame : List ℕ)
     (notes : List Note) (e : Ending) (s' : State) →
-    Handled id (state_at start answered before) frame notes (Err e) s' →
+    AnswerFrame id (state_at start answered before) frame notes (Err e) s' →
     IsShown (run_end (Err e)) (answered ++ frame ∷ []) acts
 frame_shown id start [] before acts frame notes e s' h =
     first_shown id frame h.inbound h.presents (state_at start [] before) s' acts notes e h.carried
@@ -195,7 +195,7 @@ frame_shown id start (a ∷ answered) before acts frame notes e s' h =
 -- ---- no frame is the end of the connection
 
 -- neither in this phase nor in another
-no_peer_end : (id : Identity) (frame : List ℕ) (phase : Phase) (s s' : State) (i : Inbound) (notes : List Note)
+no_peer_end : (id : Identity) (frame : List ℕ) (phase : Phase) (s s' : State) (i : InboundSeen) (notes : List Note)
     (e : Ending) → IsInbound frame i → Each (Performed id frame) s (answer_in phase id s i) notes (Err e) s' →
     IsShown (run_end (Err e)) (frame ∷ []) []
 no_peer_end id frame AwaitLogon s s' i notes e p d = first_shown id frame i p s s' [] notes e d
@@ -210,7 +210,7 @@ nothing_among : Among act.Ended [] → ⊥
 nothing_among a = elim a [ ]
 
 pub frame_not_over : (id : Identity) (frame : List ℕ) (s s' : State) (notes : List Note) (e : Ending) →
-    Handled id s frame notes (Err e) s' → run_end (Err e) ≡ run.Closed PeerEnd → ⊥
+    AnswerFrame id s frame notes (Err e) s' → run_end (Err e) ≡ run.Closed PeerEnd → ⊥
 frame_not_over id frame s s' notes e h over =
     nothing_among (subst (λ r. IsShown r (frame ∷ []) []) over
     (no_peer_end id frame s.phase s s' h.inbound notes e h.presents h.carried))

@@ -5,7 +5,7 @@ use Rattle.std.proofs.lemmas.List.{length-replicate}
 use Rattle.fix_base.specs.declared.identity.Identity.{Identity}
 use Rattle.fix_base.specs.declared.act.Act.TheVariants as act
 use Rattle.fix_base.specs.declared.act.Act.{Act}
-use Rattle.fix_base.specs.Seen.{Note, Did, Failed, Asked, Seen, Goes, acts_of}
+use Rattle.fix_base.specs.Trace.{Note, Did, Failed, Asked, OutsideSeen, HasTrace, acts_of}
 use Rattle.fix_base.proofs.SeenLemmas.{acts_of-append}
 use Rattle.fix_fields.specs.Drafted.{DraftText}
 use Rattle.fix_engine.specs.State.{State, Ending, Step}
@@ -14,13 +14,13 @@ use Rattle.fix_engine.specs.declared.stop.RunEnd.TheVariants as run
 use Rattle.fix_engine.specs.declared.stop.SendFault.{SendFault}
 use Rattle.fix_engine.specs.Fold.{Each, none, ends, goes, AndThen, first_ends, both}
 use Rattle.fix_engine.specs.Answer.{Performed, nothing, count, go_up, close, give_up, taken, hand_lost, hand_memory, spent, keep_memory, keep_lost, sent, write_lost, write_memory}
-use Rattle.fix_engine.specs.Turn.{Live, Taken, no_more, ends as ends_at, goes as goes_on, Fed, fed_frames, fed_memory, Heard, bytes, idle, over, read_lost, read_memory, Clocked, now, now_memory, KeptExpected, same, kept, expect_lost, expect_memory}
+use Rattle.fix_engine.specs.Reading.{ConnectionSeen, AnswerFrames, no_more, ends as ends_at, goes as goes_on, Feed, fed_frames, fed_memory, ReadFrames, bytes, idle, over, read_lost, read_memory, ReadClock, now, now_memory, StoreExpected, same, kept, expect_lost, expect_memory}
 use Rattle.fix_engine.specs.Drafted as drafted
 use Rattle.fix_engine.specs.Drafted.{KeepsDraft, Drafting}
-use Rattle.fix_engine.specs.Desk as desk
-use Rattle.fix_engine.specs.Desk.{Desk, Sends, Holding, Offered, beside, Met, Turn, OneTurn, stops, keeps, keeps_not, Ran, all_turns, cut, cut_memory, no_cut}
+use Rattle.fix_engine.specs.Turn as turn_seen
+use Rattle.fix_engine.specs.Turn.{TurnSeen, SendDraft, SendPending, OfferDraft, beside, SendReadClock, Turn, OneTurn, stops, keeps, keeps_not, RunAndCut, all_turns, cut, cut_memory, no_cut}
 use Rattle.fix_engine.specs.Faults.{run_end}
-use Rattle.fix_engine.specs.Turns.{reads_in, looks_in, asks_in, IsMadeOf, HasTurns}
+use Rattle.fix_engine.specs.Counts.{reads_in, looks_in, asks_in, IsMadeOf, HasTurns}
 
 pub reads_in-append : (xs ys : List Act) → reads_in (xs ++ ys) ≡ reads_in xs + reads_in ys
 reads_in-append [] ys = omega arith
@@ -100,14 +100,14 @@ Carried-answers id frame [] s notes r s' none = record { reads = refl; looks = r
 Carried-answers id frame (x ∷ xs) s notes r s' (ends d) = Performed-answers id frame s x notes r s' d
 Carried-answers id frame (x ∷ xs) s notes r s' (goes {first = a} {more = b} d k) = tallies-append a b 0 0 0 0 0 0 (Performed-answers id frame s x a _ _ d) (Carried-answers id frame xs _ b r s' k)
 
-Taken-answers : (id : Identity) (l : Live) (notes : List Note) (r : Result ⊤ Ending) (to : Live) → Taken id l notes r to → Answers notes
-Taken-answers id l notes r to (no_more gives) = record { reads = refl; looks = refl; asks = refl }
-Taken-answers id l notes r to (ends_at frame gives h) = Carried-answers id frame _ _ _ _ _ h.carried
-Taken-answers id l notes r to (goes_on {first = a} {more = b} frame gives h more) = tallies-append a b 0 0 0 0 0 0 (Carried-answers id frame _ _ a _ _ h.carried) (Taken-answers id _ b r to more)
+AnswerFrames-answers : (id : Identity) (l : ConnectionSeen) (notes : List Note) (r : Result ⊤ Ending) (to : ConnectionSeen) → AnswerFrames id l notes r to → Answers notes
+AnswerFrames-answers id l notes r to (no_more gives) = record { reads = refl; looks = refl; asks = refl }
+AnswerFrames-answers id l notes r to (ends_at frame gives h) = Carried-answers id frame _ _ _ _ _ h.carried
+AnswerFrames-answers id l notes r to (goes_on {first = a} {more = b} frame gives h more) = tallies-append a b 0 0 0 0 0 0 (Carried-answers id frame _ _ a _ _ h.carried) (AnswerFrames-answers id _ b r to more)
 
-pub Fed-answers : (id : Identity) (b : List ℕ) (l : Live) (notes : List Note) (r : Result ⊤ Ending) (to : Live) → Fed id b l notes r to → Answers notes
-Fed-answers id b l notes r to (fed_frames d) = Taken-answers id _ notes r to d
-Fed-answers id b l notes r to fed_memory = record { reads = refl; looks = refl; asks = refl }
+pub Feed-answers : (id : Identity) (b : List ℕ) (l : ConnectionSeen) (notes : List Note) (r : Result ⊤ Ending) (to : ConnectionSeen) → Feed id b l notes r to → Answers notes
+Feed-answers id b l notes r to (fed_frames d) = AnswerFrames-answers id _ notes r to d
+Feed-answers id b l notes r to fed_memory = record { reads = refl; looks = refl; asks = refl }
 
 -- so many of n turns were made up to their look, where they ended so
 abbrev IsMade : Result ⊤ Ending → ℕ → ℕ → Type 0
@@ -164,17 +164,17 @@ ends_unasked : (e : Ending) (notes : List Note) (a : ℕ) → a ≤ 1 → Tallie
 ends_unasked e notes a le t = record { makes = makes_none e notes a 0 le (omega arith) t; asks = t.asks }
 
 -- a read that went well, or one that ended the turn
-Heard-reads : (id : Identity) (l : Live) (notes : List Note) (to : Live) → Heard id l notes (Ok tt) to → Tallies notes 1 0 0
-Heard-reads id l notes to (bytes {more = b} text some fits d) = tallies-append (Did (act.Read text) ∷ []) b 1 0 0 0 0 0 (record { reads = refl; looks = refl; asks = refl }) (Fed-answers id text l b _ to d)
-Heard-reads id l notes to idle = record { reads = refl; looks = refl; asks = refl }
+ReadFrames-reads : (id : Identity) (l : ConnectionSeen) (notes : List Note) (to : ConnectionSeen) → ReadFrames id l notes (Ok tt) to → Tallies notes 1 0 0
+ReadFrames-reads id l notes to (bytes {more = b} text some fits d) = tallies-append (Did (act.Read text) ∷ []) b 1 0 0 0 0 0 (record { reads = refl; looks = refl; asks = refl }) (Feed-answers id text l b _ to d)
+ReadFrames-reads id l notes to idle = record { reads = refl; looks = refl; asks = refl }
 
-Heard-ends : (id : Identity) (l : Live) (notes : List Note) (e : Ending) (to : Live) → Heard id l notes (Err e) to → MakesUnasked (Err e) notes
-Heard-ends id l notes e to (bytes {more = b} text some fits d) = ends_unasked e _ 1 (omega arith) (tallies-append (Did (act.Read text) ∷ []) b 1 0 0 0 0 0 (record { reads = refl; looks = refl; asks = refl }) (Fed-answers id text l b _ to d))
-Heard-ends id l notes e to over = ends_unasked e _ 1 (omega arith) (record { reads = refl; looks = refl; asks = refl })
-Heard-ends id l notes e to read_lost = ends_unasked e _ 0 (omega arith) (record { reads = refl; looks = refl; asks = refl })
-Heard-ends id l notes e to read_memory = ends_unasked e _ 0 (omega arith) (record { reads = refl; looks = refl; asks = refl })
+ReadFrames-ends : (id : Identity) (l : ConnectionSeen) (notes : List Note) (e : Ending) (to : ConnectionSeen) → ReadFrames id l notes (Err e) to → MakesUnasked (Err e) notes
+ReadFrames-ends id l notes e to (bytes {more = b} text some fits d) = ends_unasked e _ 1 (omega arith) (tallies-append (Did (act.Read text) ∷ []) b 1 0 0 0 0 0 (record { reads = refl; looks = refl; asks = refl }) (Feed-answers id text l b _ to d))
+ReadFrames-ends id l notes e to over = ends_unasked e _ 1 (omega arith) (record { reads = refl; looks = refl; asks = refl })
+ReadFrames-ends id l notes e to read_lost = ends_unasked e _ 0 (omega arith) (record { reads = refl; looks = refl; asks = refl })
+ReadFrames-ends id l notes e to read_memory = ends_unasked e _ 0 (omega arith) (record { reads = refl; looks = refl; asks = refl })
 
-looked : (l : Live) (first more : List Note) (r : Result ⊤ Ending) (to : Live) → Tallies first 1 0 0 → Clocked l more r to → MakesUnasked r (first ++ more)
+looked : (l : ConnectionSeen) (first more : List Note) (r : Result ⊤ Ending) (to : ConnectionSeen) → Tallies first 1 0 0 → ReadClock l more r to → MakesUnasked r (first ++ more)
 looked l first more r to t (now reading) =
     let u = tallies-append first (Did (act.Now reading) ∷ []) 1 0 0 0 1 0 t (record { reads = refl; looks = refl; asks = refl }) in
     record {
@@ -183,9 +183,9 @@ looked l first more r to t (now reading) =
     }
 looked l first more r to t now_memory = ends_unasked ending.OutOfMemory (first ++ []) 1 (omega arith) (tallies-append first [] 1 0 0 0 0 0 t (record { reads = refl; looks = refl; asks = refl }))
 
-Looked-makes : (id : Identity) (l : Live) (notes : List Note) (r : Result ⊤ Ending) (to : Live) → AndThen (Heard id) Clocked l notes r to → MakesUnasked r notes
-Looked-makes id l notes r to (first_ends {e = e} d) = Heard-ends id l notes e to d
-Looked-makes id l notes r to (both {mid = mid} {first = a} {more = b} d k) = looked mid a b r to (Heard-reads id l a mid d) k
+Looked-makes : (id : Identity) (l : ConnectionSeen) (notes : List Note) (r : Result ⊤ Ending) (to : ConnectionSeen) → AndThen (ReadFrames id) ReadClock l notes r to → MakesUnasked r notes
+Looked-makes id l notes r to (first_ends {e = e} d) = ReadFrames-ends id l notes e to d
+Looked-makes id l notes r to (both {mid = mid} {first = a} {more = b} d k) = looked mid a b r to (ReadFrames-reads id l a mid d) k
 
 KeepsDraft-answers : (d : DraftText) (s s' : State) (notes : List Note) (r : Result ℕ SendFault) → KeepsDraft d s notes r s' → Answers notes
 KeepsDraft-answers d s s' notes r drafted.unkept = record { reads = refl; looks = refl; asks = refl }
@@ -200,13 +200,13 @@ Drafting-answers id d s s' notes r (drafted.sent {notes = a} text up said k) = t
 Drafting-answers id d s s' notes r (drafted.write_lost {notes = a} text many up said k) = tallies-append a _ 0 0 0 0 0 0 (KeepsDraft-answers d s s' a _ k) (record { reads = refl; looks = refl; asks = refl })
 Drafting-answers id d s s' notes r (drafted.write_memory up k) = KeepsDraft-answers d s s' notes _ k
 
-Sends-answers : (id : Identity) (draft : DraftText) (d : Desk) (notes : List Note) (r : Result ⊤ Ending) (to : Desk) → Sends id draft d notes r to → Answers notes
-Sends-answers id draft d notes r to (desk.spent full) = record { reads = refl; looks = refl; asks = refl }
-Sends-answers id draft d notes r to (desk.sends {r = x} {s = s} small is k) = Drafting-answers id draft d.live.state s notes x k
+SendDraft-answers : (id : Identity) (draft : DraftText) (d : TurnSeen) (notes : List Note) (r : Result ⊤ Ending) (to : TurnSeen) → SendDraft id draft d notes r to → Answers notes
+SendDraft-answers id draft d notes r to (turn_seen.spent full) = record { reads = refl; looks = refl; asks = refl }
+SendDraft-answers id draft d notes r to (turn_seen.sends {r = x} {s = s} small is k) = Drafting-answers id draft d.connection.state s notes x k
 
-Holding-answers : (id : Identity) (d : Desk) (notes : List Note) (r : Result ⊤ Ending) (to : Desk) → Holding id d notes r to → Answers notes
-Holding-answers id d notes r to (desk.empty held_none) = record { reads = refl; looks = refl; asks = refl }
-Holding-answers id d notes r to (desk.holds draft some k) = Sends-answers id draft d notes r to k
+SendPending-answers : (id : Identity) (d : TurnSeen) (notes : List Note) (r : Result ⊤ Ending) (to : TurnSeen) → SendPending id d notes r to → Answers notes
+SendPending-answers id d notes r to (turn_seen.empty held_none) = record { reads = refl; looks = refl; asks = refl }
+SendPending-answers id d notes r to (turn_seen.holds draft some k) = SendDraft-answers id draft d notes r to k
 
 -- no read and no look, and at most one asking
 pub record OffersOnce (notes : List Note) : Type 0 where
@@ -214,14 +214,14 @@ pub record OffersOnce (notes : List Note) : Type 0 where
   pub once : asked ≤ 1
   pub tallies : Tallies notes 0 0 asked
 
-pub Offered-once : (id : Identity) (d : Desk) (notes : List Note) (r : Result ⊤ Ending) (to : Desk) → Offered id d notes r to → OffersOnce notes
-Offered-once id d notes r to (desk.not_up other) = record { asked = 0; once = omega arith; tallies = record { reads = refl; looks = refl; asks = refl } }
-Offered-once id d notes r to (desk.asked {notes = more} given up held_none k) = record {
+pub OfferDraft-once : (id : Identity) (d : TurnSeen) (notes : List Note) (r : Result ⊤ Ending) (to : TurnSeen) → OfferDraft id d notes r to → OffersOnce notes
+OfferDraft-once id d notes r to (turn_seen.not_up other) = record { asked = 0; once = omega arith; tallies = record { reads = refl; looks = refl; asks = refl } }
+OfferDraft-once id d notes r to (turn_seen.asked {notes = more} given up held_none k) = record {
   asked = 1;
   once = omega arith;
-  tallies = tallies-append (_ ∷ []) more 0 0 1 0 0 0 (record { reads = refl; looks = refl; asks = refl }) (Holding-answers id (desk.desk d.live (record { draft = given; tried = d.hand.tried })) more r to k);
+  tallies = tallies-append (_ ∷ []) more 0 0 1 0 0 0 (record { reads = refl; looks = refl; asks = refl }) (SendPending-answers id (turn_seen.turn_seen d.connection (record { draft = given; store_failed = d.pending.store_failed })) more r to k);
 }
-Offered-once id d notes r to (desk.was_in_hand draft up some k) = record { asked = 0; once = omega arith; tallies = Sends-answers id draft d notes r to k }
+OfferDraft-once id d notes r to (turn_seen.was_in_hand draft up some k) = record { asked = 0; once = omega arith; tallies = SendDraft-answers id draft d notes r to k }
 
 -- a draft was offered at most once, and the rest of the turn follows
 offered_then : (r : Result ⊤ Ending) (xs ys : List Note) → OffersOnce xs → MakesUnasked r ys → Makes 1 r (xs ++ ys)
@@ -238,17 +238,17 @@ offered_then r xs ys o m =
       asks_at_most = omega (arith, u.asks, o.once);
     }
 
-Met-makes : (id : Identity) (d : Desk) (notes : List Note) (r : Result ⊤ Ending) (to : Desk) → Met id d notes r to → Makes 1 r notes
-Met-makes id d notes r to (first_ends {e = e} k) =
-    let o = Offered-once id d notes (Err e) to k in
+SendReadClock-makes : (id : Identity) (d : TurnSeen) (notes : List Note) (r : Result ⊤ Ending) (to : TurnSeen) → SendReadClock id d notes r to → Makes 1 r notes
+SendReadClock-makes id d notes r to (first_ends {e = e} k) =
+    let o = OfferDraft-once id d notes (Err e) to k in
     makes_none e notes 0 o.asked (omega arith) o.once o.tallies
-Met-makes id d notes r to (both {mid = mid} {first = a} {more = b} k (beside {to = end} h)) = offered_then r a b (Offered-once id d a (Ok tt) mid k) (Looked-makes id mid.live b r end h)
+SendReadClock-makes id d notes r to (both {mid = mid} {first = a} {more = b} k (beside {to = end} h)) = offered_then r a b (OfferDraft-once id d a (Ok tt) mid k) (Looked-makes id mid.connection b r end h)
 
-pub KeptExpected-answers : (l : Live) (notes : List Note) (r : Result ⊤ Ending) (to : Live) → KeptExpected l notes r to → Answers notes
-KeptExpected-answers l notes r to (same h) = record { reads = refl; looks = refl; asks = refl }
-KeptExpected-answers l notes r to (kept h) = record { reads = refl; looks = refl; asks = refl }
-KeptExpected-answers l notes r to (expect_lost h) = record { reads = refl; looks = refl; asks = refl }
-KeptExpected-answers l notes r to (expect_memory h) = record { reads = refl; looks = refl; asks = refl }
+pub StoreExpected-answers : (l : ConnectionSeen) (notes : List Note) (r : Result ⊤ Ending) (to : ConnectionSeen) → StoreExpected l notes r to → Answers notes
+StoreExpected-answers l notes r to (same h) = record { reads = refl; looks = refl; asks = refl }
+StoreExpected-answers l notes r to (kept h) = record { reads = refl; looks = refl; asks = refl }
+StoreExpected-answers l notes r to (expect_lost h) = record { reads = refl; looks = refl; asks = refl }
+StoreExpected-answers l notes r to (expect_memory h) = record { reads = refl; looks = refl; asks = refl }
 
 -- notes without a read, a look or an asking change nothing
 makes_too : (n : ℕ) (r : Result ⊤ Ending) (xs ys : List Note) → Makes n r xs → Answers ys → Makes n r (xs ++ ys)
@@ -276,14 +276,14 @@ most_made (Err ending.NumbersSpent) n made h = omega arith
 most_made (Err ending.OutOfMemory) n made h = omega arith
 
 -- the store failed, or memory was refused, behind what was met
-unkept : (l to : Live) (met : Result ⊤ Ending) (xs ys : List Note) (e : Ending) → Makes 1 met xs → KeptExpected l ys (Err e) to → Makes 1 (Err e) (xs ++ ys)
+unkept : (l to : ConnectionSeen) (met : Result ⊤ Ending) (xs ys : List Note) (e : Ending) → Makes 1 met xs → StoreExpected l ys (Err e) to → Makes 1 (Err e) (xs ++ ys)
 unkept l to met xs ys e m (expect_lost h) = makes_too 1 (Err ending.StoreFault) xs _ (record { made = most_made met 1 _ m.made; reads_first = m.reads_first; reads_once = m.reads_once; at_most = m.at_most; all = λ h. cc; asks_once = m.asks_once; asks_at_most = m.asks_at_most }) (record { reads = refl; looks = refl; asks = refl })
 unkept l to met xs ys e m (expect_memory h) = makes_too 1 (Err ending.OutOfMemory) xs _ (record { made = most_made met 1 _ m.made; reads_first = m.reads_first; reads_once = m.reads_once; at_most = m.at_most; all = λ h. cc; asks_once = m.asks_once; asks_at_most = m.asks_at_most }) (record { reads = refl; looks = refl; asks = refl })
 
-Turn-makes : (id : Identity) (d : Desk) (notes : List Note) (r : Result ⊤ Ending) (to : Desk) → Turn id d notes r to → Makes 1 r notes
-Turn-makes id d notes r to (stops h k) = Met-makes id d notes r to k
-Turn-makes id d notes r to (keeps {mid = mid} {first = a} {more = b} h k (beside {to = end} e)) = makes_too 1 r a b (Met-makes id d a r mid k) (KeptExpected-answers mid.live b _ end e)
-Turn-makes id d notes r to (keeps_not {mid = mid} {met = met} {first = a} {more = b} {e = e} h k (beside {to = end} lost)) = unkept mid.live end met a b e (Met-makes id d a met mid k) lost
+Turn-makes : (id : Identity) (d : TurnSeen) (notes : List Note) (r : Result ⊤ Ending) (to : TurnSeen) → Turn id d notes r to → Makes 1 r notes
+Turn-makes id d notes r to (stops h k) = SendReadClock-makes id d notes r to k
+Turn-makes id d notes r to (keeps {mid = mid} {first = a} {more = b} h k (beside {to = end} e)) = makes_too 1 r a b (SendReadClock-makes id d a r mid k) (StoreExpected-answers mid.connection b _ end e)
+Turn-makes id d notes r to (keeps_not {mid = mid} {met = met} {first = a} {more = b} {e = e} h k (beside {to = end} lost)) = unkept mid.connection end met a b e (SendReadClock-makes id d a met mid k) lost
 
 -- one turn was made, and n more are left
 made_more : (r : Result ⊤ Ending) (n made : ℕ) → IsMade r n made → IsMade r (suc n) (1 + made)
@@ -320,9 +320,9 @@ ended_early ending.AppFault n made h = omega arith
 ended_early ending.NumbersSpent n made h = omega arith
 ended_early ending.OutOfMemory n made h = omega arith
 
-Turns-make : (id : Identity) (us : List ⊤) (d : Desk) (notes : List Note) (r : Result ⊤ Ending) (to : Desk) → Each (OneTurn id) d us notes r to → Makes (length us) r notes
-Turns-make id [] d notes r to none = record { made = refl; reads_first = omega arith; reads_once = omega arith; at_most = omega arith; all = λ h. refl; asks_once = omega arith; asks_at_most = omega arith }
-Turns-make id (u ∷ us) d notes r to (ends {e = e} k) =
+TakeTurns-make : (id : Identity) (us : List ⊤) (d : TurnSeen) (notes : List Note) (r : Result ⊤ Ending) (to : TurnSeen) → Each (OneTurn id) d us notes r to → Makes (length us) r notes
+TakeTurns-make id [] d notes r to none = record { made = refl; reads_first = omega arith; reads_once = omega arith; at_most = omega arith; all = λ h. refl; asks_once = omega arith; asks_at_most = omega arith }
+TakeTurns-make id (u ∷ us) d notes r to (ends {e = e} k) =
     let m = Turn-makes id d notes (Err e) to k in
     record {
       made = ended_early e (length us) _ m.made;
@@ -333,7 +333,7 @@ Turns-make id (u ∷ us) d notes r to (ends {e = e} k) =
       asks_once = m.asks_once;
       asks_at_most = omega (arith, m.asks_at_most);
     }
-Turns-make id (u ∷ us) d notes r to (goes {mid = mid} {first = a} {more = b} k more) = makes_more (length us) r a b (Turn-makes id d a (Ok tt) mid k) (Turns-make id us mid b r to more)
+TakeTurns-make id (u ∷ us) d notes r to (goes {mid = mid} {first = a} {more = b} k more) = makes_more (length us) r a b (Turn-makes id d a (Ok tt) mid k) (TakeTurns-make id us mid b r to more)
 
 has_turns : (n : ℕ) (r : Result ⊤ Ending) (notes : List Note) → Makes (length (replicate {A = ⊤} n tt)) r notes → HasTurns n (run_end r) notes
 has_turns n r notes m =
@@ -361,11 +361,11 @@ for_memory n r notes m = record {
 }
 
 -- the turns of a run
-pub Ran-turns : (id : Identity) (n : ℕ) (d : Desk) (notes : List Note) (r : Result ⊤ Ending) (to : Desk) → Ran id n d notes r to → HasTurns n (run_end r) notes
-Ran-turns id n d notes r to (all_turns k) = has_turns n r notes (Turns-make id (replicate n tt) d notes r to k)
-Ran-turns id n d notes r to (cut {to = at} {notes = a} {e = e} h k) = has_turns n (Err e) _ (makes_too _ (Err e) a _ (Turns-make id (replicate n tt) d a (Err e) at k) (record { reads = refl; looks = refl; asks = refl }))
-Ran-turns id n d notes r to (cut_memory {to = at} {e = e} h k) = has_turns n (Err ending.OutOfMemory) notes (for_memory _ (Err e) notes (Turns-make id (replicate n tt) d notes (Err e) at k))
-Ran-turns id n d notes r to (no_cut {to = at} {e = e} h k) = has_turns n (Err e) notes (Turns-make id (replicate n tt) d notes (Err e) at k)
+pub RunAndCut-turns : (id : Identity) (n : ℕ) (d : TurnSeen) (notes : List Note) (r : Result ⊤ Ending) (to : TurnSeen) → RunAndCut id n d notes r to → HasTurns n (run_end r) notes
+RunAndCut-turns id n d notes r to (all_turns k) = has_turns n r notes (TakeTurns-make id (replicate n tt) d notes r to k)
+RunAndCut-turns id n d notes r to (cut {to = at} {notes = a} {e = e} h k) = has_turns n (Err e) _ (makes_too _ (Err e) a _ (TakeTurns-make id (replicate n tt) d a (Err e) at k) (record { reads = refl; looks = refl; asks = refl }))
+RunAndCut-turns id n d notes r to (cut_memory {to = at} {e = e} h k) = has_turns n (Err ending.OutOfMemory) notes (for_memory _ (Err e) notes (TakeTurns-make id (replicate n tt) d notes (Err e) at k))
+RunAndCut-turns id n d notes r to (no_cut {to = at} {e = e} h k) = has_turns n (Err e) notes (TakeTurns-make id (replicate n tt) d notes (Err e) at k)
 
-pub Ran-has_turns : (id : Identity) (n : ℕ) (d : Desk) (r : Result ⊤ Ending) (to : Desk) (old new : Seen) → Goes old new (λ notes. Ran id n d notes r to) → Goes old new (HasTurns n (run_end r))
-Ran-has_turns id n d r to old new g = (g.0, g.1, Ran-turns id n d g.0 r to g.2)
+pub RunAndCut-has_turns : (id : Identity) (n : ℕ) (d : TurnSeen) (r : Result ⊤ Ending) (to : TurnSeen) (old new : OutsideSeen) → HasTrace old new (λ notes. RunAndCut id n d notes r to) → HasTrace old new (HasTurns n (run_end r))
+RunAndCut-has_turns id n d r to old new g = (g.0, g.1, RunAndCut-turns id n d g.0 r to g.2)

@@ -10,16 +10,13 @@ use Rattle.fix_base.specs.declared.entry.Record.TheVariants.{Push}
 use Rattle.fix_base.specs.Times.{IsTimeTextOf}
 use Rattle.fix_base.specs.Wrote.{IsSealed, original_fields}
 use Rattle.fix_base.specs.declared.act.Act.TheVariants as act
-use Rattle.fix_base.specs.Seen.{Faults, Note, Did, Failed, StorePart, LinkPart, Rises}
+use Rattle.fix_base.specs.Trace.{Faults, Note, Did, Failed, StorePart, LinkPart, Rises}
 use Rattle.fix_fields.specs.Drafted.{DraftText, IsDraft, draft_body}
 use Rattle.fix_engine.specs.State.{State, Down, Up, with_phase, with_last, with_reading}
 use Rattle.fix_engine.specs.declared.stop.SendFault.{SendFault}
 use Rattle.fix_engine.specs.declared.stop.SendFault.TheVariants as fault
-<<<<<<< HEAD
-=======
 use Rattle.fix_engine.specs.Faults.{is_link_fault}
->>>>>>> 96824219a17e0c1d58d40506ff6d577247a7c6f7
-use Rattle.fix_engine.specs.Turn.{Live, live}
+use Rattle.fix_engine.specs.Reading.{ConnectionSeen, connection_seen}
 
 -- the entry that is kept of a draft
 abbrev pub entry_of_draft : State → DraftText → Entry
@@ -34,14 +31,14 @@ pub record IsOfDraft (id : Identity) (n time : ℕ) (d : DraftText) (text : List
 
 -- a draft takes the next number, and is kept
 pub data KeepsDraft (d : DraftText) (s : State) : List Note → Result ℕ SendFault → State → Type 0 where
-  -- memory was refused before the entry was kept
+  -- out of memory before the entry was kept
   unkept : KeepsDraft d s [] (Err fault.OutOfMemory) s
   kept_lost : IsDraft d → KeepsDraft d s (Did (act.KeepLost (Push (entry_of_draft s d))) ∷ Failed StorePart ∷ [])
       (Err fault.StoreFault) s
   was_kept : IsDraft d → KeepsDraft d s (Did (act.Kept (Push (entry_of_draft s d))) ∷ []) (Ok (s.last + 1))
       (with_last s (s.last + 1))
 
--- A draft takes the next number and is kept, and in phase Up its original is written behind this. In another phase
+-- A draft takes the next number and is kept, and in phase Up its original is written after this. In another phase
 -- nothing is written.
 pub data Drafting (id : Identity) (d : DraftText) (s : State) : List Note → Result ℕ SendFault → State → Type 0 where
   no_memory : Drafting id d s [] (Err fault.OutOfMemory) s
@@ -65,7 +62,7 @@ pub data Drafted (id : Identity) (d : DraftText) (s : State) : List Note → Res
   at_time : {notes : List Note} {r : Result ℕ SendFault} {s' : State} (t : ℕ) →
       Drafting id d (with_reading s t) notes r s' → Drafted id d s (Did (act.Now t) ∷ notes) r s'
 
--- the same, and what is noted behind its end: a session that sent is as it was, and one that didn't is Down
+-- the same, and what is noted after its end: a session that sent is as it was, and one that didn't is Down
 pub data SentTo (id : Identity) (d : DraftText) (s : State) : List Note → Result ℕ SendFault → State → Type 0 where
   went : {notes : List Note} {n : ℕ} {s' : State} → Drafted id d s notes (Ok n) s' → SentTo id d s notes (Ok n) s'
   cut : {notes : List Note} {why : SendFault} {s' : State} → is_link_fault why ≡ true →
@@ -76,10 +73,11 @@ pub data SentTo (id : Identity) (d : DraftText) (s : State) : List Note → Resu
       Drafted id d s notes (Err why) s' → SentTo id d s notes (Err why) (with_phase s' Down)
 
 -- what comes of `send` on a session that goes on
-pub data SendsTo (id : Identity) (d : DraftText) (l : Live) : Result ℕ SendFault → Live → List Note → Type 0 where
+pub data SendsTo (id : Identity) (d : DraftText) (l : ConnectionSeen) : Result ℕ SendFault → ConnectionSeen
+    → List Note → Type 0 where
   spent : 999999999 ≤ l.state.last → SendsTo id d l (Err fault.NumbersSpent) l []
   sends : {notes : List Note} {r : Result ℕ SendFault} {s : State} → l.state.last < 999999999 →
-      SentTo id d l.state notes r s → SendsTo id d l r (live s l.ahead) notes
+      SentTo id d l.state notes r s → SendsTo id d l r (connection_seen s l.unread) notes
 
 -- a part is blamed only where its count rose
 abbrev pub SendHasCause : {T : Type 0} → Result T SendFault → Faults → Faults → Type 0

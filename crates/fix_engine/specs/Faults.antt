@@ -10,13 +10,13 @@
 --   StoreFault    Down      yes      no            no             not said     store
 --   OutOfMemory   Down      yes      no            yes            not said     -
 --
--- The columns: `IsDownUnlessSpent` of Run, `stop_cause`, `is_cut_of`, `open_behind`, `IsSettled` of Turns (with no turn
--- asked for, as it was before), `RunHasCause` of Run. Where noting the Cut or keeping the number is itself refused, the
--- answer is that of the refusal: OutOfMemory or StoreFault. A session that was stopped before answers Stopped, calls
--- nothing and stays as it is.
+-- The columns: `IsDownUnlessSpent` of Run, `stop_cause`, `is_cut_of`, `open_behind`, `IsSettled` of Turns
+-- (with no turn asked for, as it was before), `RunHasCause` of Run. Where noting the Cut or keeping the
+-- number is itself refused, the answer is that of the refusal: OutOfMemory or StoreFault. A session that was
+-- stopped before answers Stopped, calls nothing and stays as it is.
 use Rattle.std.specs.Prelude.{ℕ, Bool, true, false, Option, Some, None, Result, Ok, Err, ⊤}
-use Rattle.fix_rim.specs.declared.outside.LoadFault.{LoadFault}
-use Rattle.fix_rim.specs.declared.outside.LoadFault.TheVariants as load
+use Rattle.fix_outside.specs.declared.outside.LoadFault.{LoadFault}
+use Rattle.fix_outside.specs.declared.outside.LoadFault.TheVariants as load
 use Rattle.fix_engine.specs.State.{State, Ending}
 use Rattle.fix_engine.specs.declared.state.Ending.TheVariants as ending
 use Rattle.fix_engine.specs.declared.stop.RunEnd.{RunEnd}

@@ -1,7 +1,7 @@
 -- What the parts of the engine do, put together: one thing after another, until one ends the whole. A
--- doing relates a state, the notes of the calls, the answer and the state behind them.
+-- doing relates a state, the notes of the calls, the answer and the state after them.
 use Rattle.std.specs.Prelude.{List, [], ◌∷◌, ◌++◌, Result, Ok, Err, ⊤}
-use Rattle.fix_base.specs.Seen.{Note}
+use Rattle.fix_base.specs.Trace.{Note}
 use Rattle.fix_engine.specs.State.{Ending}
 
 -- each item in turn, until one ends the whole

@@ -6,7 +6,7 @@ use Rattle.fix_base.specs.Times.{IsUtcTimestamp}
 use Rattle.fix_fields.specs.Header.{Header, HasBegin, header_of_fields}
 use Rattle.fix_fields.specs.Value.{IsInt}
 
-pub record Inbound : Type 0 where
+pub record InboundSeen : Type 0 where
   pub header : Header
   pub sent : Option ℤ  -- SendingTime (52), where it is a UTCTimestamp
   pub heart : Option ℕ  -- HeartBtInt (108), where the fields are those of a Logon that can be taken
@@ -48,7 +48,7 @@ pub record IsLogon (fields : List Field) (heart : ℕ) : Type 0 where
   pub at_most_a_day : heart ≤ 86400
 
 -- the frame presents this
-pub record IsInbound (frame : List ℕ) (i : Inbound) : Type 0 where
+pub record IsInbound (frame : List ℕ) (i : InboundSeen) : Type 0 where
   pub fields : List Field
   pub has : HasFields frame fields
   pub begins : HasBegin frame i.header.begin

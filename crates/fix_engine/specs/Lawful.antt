@@ -2,7 +2,7 @@
 use Rattle.std.specs.Prelude.{◌≡◌, ◌≢◌, ◌⊎◌, ℕ, ◌<◌, ◌≤◌, List, [], length, true, Option, Some, None, Result, Ok, Err}
 use Rattle.fix_base.specs.Lists.{Among}
 use Rattle.fix_base.specs.declared.identity.Identity.{Identity}
-use Rattle.fix_base.specs.Stream.{Ahead, Item, TakesAll, frames}
+use Rattle.fix_base.specs.Stream.{UnreadBytes, Item, TakesAll, frames}
 use Rattle.fix_base.specs.Message.{Message}
 use Rattle.fix_base.specs.Shape.{IsFrame}
 use Rattle.fix_base.specs.Says.{SaysAll, joined}
@@ -13,23 +13,23 @@ use Rattle.fix_base.specs.End.{End, folded}
 use Rattle.fix_base.specs.declared.act.Act.{Act}
 use Rattle.fix_base.specs.Wrote.{WroteWhole}
 use Rattle.fix_base.specs.EndStep.{Acceptor, Connection, EndState, EndRun}
-use Rattle.fix_base.specs.Seen.{Stores, Note, acts_of}
+use Rattle.fix_base.specs.Trace.{Stores, Note, acts_of}
 use Rattle.fix_fields.specs.Drafted.{DraftText, IsDraft}
 use Rattle.fix_engine.specs.State.{State, Phase, Down, AwaitLogon, Say}
 use Rattle.fix_engine.specs.Answer.{entry_of}
-use Rattle.fix_engine.specs.Turn.{Live}
+use Rattle.fix_engine.specs.Reading.{ConnectionSeen}
 use Rattle.fix_engine.specs.Drafted.{entry_of_draft}
 use Rattle.fix_engine.specs.declared.stop.RunEnd.{RunEnd}
 use Rattle.fix_engine.specs.declared.stop.RunEnd.TheVariants as run
 use Rattle.fix_engine.specs.declared.stop.BeginFault.{BeginFault}
 use Rattle.fix_engine.specs.declared.stop.BeginFault.TheVariants as begins
-use Rattle.fix_engine.specs.Run.{Seat}
+use Rattle.fix_engine.specs.Run.{SessionSeen}
 
--- the end's numbers are the session's: the running expected number, the one that is kept, and how many entries there are.
--- It is the end of an acceptor
+-- the end's numbers are the session's: the running expected number, the one that is kept, and how many
+-- entries there are. It is the end of an acceptor
 pub record HasNumbers (s : State) (e : EndState) : Type 0 where
   pub expected : e.expected ≡ s.expected
-  pub stored : e.end.stored ≡ s.kept
+  pub stored : e.end.stored ≡ s.stored_expected
   pub out : length e.end.out ≡ s.last
   pub role : e.role ≡ Acceptor
 
@@ -39,7 +39,7 @@ pub record IsCertain (s : State) (e : EndState) : Type 0 where
   pub numbers : HasNumbers s e
 
 -- the bytes are read up to this place, and the frames before it say some messages
-pub record IsReadUpTo (bytes : List ℕ) (place : Ahead) : Type 0 where
+pub record IsReadUpTo (bytes : List ℕ) (place : UnreadBytes) : Type 0 where
   pub items : List Item
   pub takes : TakesAll (record { may_mark = true; bytes = bytes }) items place
   pub messages : List Message
@@ -57,33 +57,35 @@ abbrev pub BeginsPlainly : List ℕ → Type 0
 BeginsPlainly bytes = Begun (λ text. IsResetLogon text → ⊥) bytes
 
 -- in this phase, at this place of the bytes: while a session waits for its Logon no frame may be read yet
-pub data IsBegunAt (bytes : List ℕ) (place : Ahead) : Phase → Type 0 where
+pub data IsBegunAt (bytes : List ℕ) (place : UnreadBytes) : Phase → Type 0 where
   plainly : {phase : Phase} → BeginsPlainly bytes → IsBegunAt bytes place phase
-  silent : (items : List Item) → TakesAll (record { may_mark = true; bytes = bytes }) items place → frames items ≡ [] → IsBegunAt bytes place AwaitLogon
+  silent : (items : List Item) → TakesAll (record { may_mark = true; bytes = bytes }) items place → frames items
+      ≡ [] → IsBegunAt bytes place AwaitLogon
 
--- the end is in step with a session on this connection: what was read on it is read up to the place that the session is
--- at, and what was written on it is whole messages, the last original of which is that of an entry. None asks for a reset
-pub record IsOn (id : Identity) (l : Live) (c : Connection) (e : EndState) : Type 0 where
+-- the end is in step with a session on this connection: what was read on it is read up to the place that the
+-- session is at, and what was written on it is whole messages, the last original of which is that of an
+-- entry. None asks for a reset
+pub record IsOn (id : Identity) (l : ConnectionSeen) (c : Connection) (e : EndState) : Type 0 where
   pub phase : l.state.phase ≢ Down
   pub settled : IsCertain l.state e
   pub is_open : e.connection ≡ Some c
-  pub read : IsReadUpTo c.read l.ahead
+  pub read : IsReadUpTo c.read l.unread
   pub last : ℕ
   pub kept : last ≤ length e.end.out
   pub whole : WroteWhole id c.opened e.end last c.written
   pub plain : IsPlainly c.written
   pub base : c.base ≤ length e.handled
 
--- the end is in step with a session on its open connection, where each message that was given is counted, and the first
--- frame that was read, if any, is no Logon with 141=Y
-pub record Fits (id : Identity) (l : Live) (e : EndState) : Type 0 where
+-- the end is in step with a session on its open connection, where each message that was given is counted, and
+-- the first frame that was read, if any, is no Logon with 141=Y
+pub record MatchesConnected (id : Identity) (l : ConnectionSeen) (e : EndState) : Type 0 where
   pub connection : Connection
   pub on : IsOn id l connection e
-  pub begun : IsBegunAt connection.read l.ahead l.state.phase
+  pub begun : IsBegunAt connection.read l.unread l.state.phase
   pub counted : (n : ℕ) → Among n connection.gave → n < l.state.expected
 
 -- the end is in step with a session that left its connection
-pub record HasLeft (s : State) (e : EndState) : Type 0 where
+pub record MatchesDown (s : State) (e : EndState) : Type 0 where
   pub phase : s.phase ≡ Down
   pub settled : IsCertain s e
   pub closed : e.connection ≡ None
@@ -103,40 +105,42 @@ pub record IsInDoubt (s : State) (e : EndState) : Type 0 where
   pub closed : e.connection ≡ None
 
 -- what a store of this end holds: the end, with or without the record that is in doubt
-abbrev pub MayHold : Option Record → End → Option End → Type 0
-MayHold None end held = held ≡ Some end
-MayHold (Some r) end held = (held ≡ Some end) ⊎ (held ≡ Some (folded end r))
+abbrev pub IsStoredOrInDoubt : Option Record → End → Option End → Type 0
+IsStoredOrInDoubt None end held = held ≡ Some end
+IsStoredOrInDoubt (Some r) end held = (held ≡ Some end) ⊎ (held ≡ Some (folded end r))
 
--- these acts are a run of a lawful end, to one that has P. A store that held the old end, and did the acts, holds the
--- new one
-pub record Leads (id : Identity) (e : EndState) (acts : List Act) (P : EndState → Type 0) : Type 0 where
+-- these acts are a run of a lawful end, to one that has P. A store that held the old end, and did the acts,
+-- holds the new one
+pub record LawfulRunTo (id : Identity) (e : EndState) (acts : List Act) (P : EndState → Type 0) : Type 0 where
   pub to : EndState
   pub run : EndRun id e acts to
   pub holds : P to
-  pub store : (held : Option End) → Stores acts (Some e.end) held → MayHold to.doubt to.end held
+  pub store : (held : Option End) → Stores acts (Some e.end) held → IsStoredOrInDoubt to.doubt to.end held
 
--- the end behind a run that gave this answer
-abbrev pub After : Identity → RunEnd → Live → EndState → Type 0
-After id run.TurnsSpent to e = Fits id to e
-After id (run.Closed why) to e = HasLeft to.state e
-After id (run.NotBuilt n) to e = HasLeft to.state e
-After id run.LinkFault to e = HasLeft to.state e
-After id run.AppFault to e = HasLeft to.state e
-After id run.NumbersSpent to e = HasLeft to.state e
+-- the end after a run that gave this answer
+abbrev pub After : Identity → RunEnd → ConnectionSeen → EndState → Type 0
+After id run.TurnsSpent to e = MatchesConnected id to e
+After id (run.Closed why) to e = MatchesDown to.state e
+After id (run.NotBuilt n) to e = MatchesDown to.state e
+After id run.LinkFault to e = MatchesDown to.state e
+After id run.AppFault to e = MatchesDown to.state e
+After id run.NumbersSpent to e = MatchesDown to.state e
 After id run.StoreFault to e = IsInDoubt to.state e
 After id run.OutOfMemory to e = IsCertain to.state e
 After id (run.Stopped cause) to e = ⊥
 
 -- whatever end is in step with a session before its turns, the acts of these are a run of it
-abbrev pub IsLawful : Identity → Live → RunEnd → Live → List Note → Type 0
-IsLawful id l answer to notes = (e : EndState) → Fits id l e → Leads id e (acts_of notes) (After id answer to)
+abbrev pub IsLawfulRun : Identity → ConnectionSeen → RunEnd → ConnectionSeen → List Note → Type 0
+IsLawfulRun id l answer to notes = (e : EndState) → MatchesConnected id l e
+    → LawfulRunTo id e (acts_of notes) (After id answer to)
 
--- the end behind the opening of a connection
-abbrev pub AfterBegin : {T : Type 0} → Identity → Result T BeginFault → Live → EndState → Type 0
-AfterBegin id (Ok x) to e = Fits id to e
+-- the end after the opening of a connection
+abbrev pub AfterBegin : {T : Type 0} → Identity → Result T BeginFault → ConnectionSeen → EndState → Type 0
+AfterBegin id (Ok x) to e = MatchesConnected id to e
 AfterBegin id (Err begins.OutOfMemory) to e = IsCertain to.state e
 AfterBegin id (Err (begins.Stopped cause)) to e = ⊥
 
 -- whatever end has a session's numbers, and no doubt, the acts that open its connection are a run of it
-abbrev pub IsLawfulBegin : {T : Type 0} → Seat → Result T BeginFault → Seat → List Note → Type 0
-IsLawfulBegin old answer new notes = (e : EndState) → IsCertain old.live.state e → Leads old.identity e (acts_of notes) (AfterBegin old.identity answer new.live)
+abbrev pub IsLawfulBegin : {T : Type 0} → SessionSeen → Result T BeginFault → SessionSeen → List Note → Type 0
+IsLawfulBegin old answer new notes = (e : EndState) → IsCertain old.connection.state e
+    → LawfulRunTo old.identity e (acts_of notes) (AfterBegin old.identity answer new.connection)

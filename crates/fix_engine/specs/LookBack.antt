@@ -1,5 +1,6 @@
 -- A run by looking back: over the frames that were answered on its connection, and over its acts.
-use Rattle.std.specs.Prelude.{◌≡◌, ◌+◌, ◌==◌, if◌then◌else◌, ◌∷◌, ◌++◌, ℕ, List, [], Option, length, min, true, false, codes, Ok, Err, ⊤}
+use Rattle.std.specs.Prelude.{◌≡◌, ◌+◌, ◌==◌, if◌then◌else◌, ◌∷◌, ◌++◌, ℕ, List, [], Option, length, min, true}
+use Rattle.std.specs.Prelude.{false, codes, Ok, Err, ⊤}
 use Rattle.fix_base.specs.declared.identity.Identity.{Identity}
 use Rattle.fix_base.specs.declared.act.Act.{Act}
 use Rattle.fix_base.specs.declared.act.Act.TheVariants as act
@@ -7,14 +8,14 @@ use Rattle.fix_base.specs.declared.entry.Record.TheVariants.{Push, Expect, Many,
 use Rattle.fix_base.specs.Lists.{Among}
 use Rattle.fix_base.specs.Payload.{LAST_TIME}
 use Rattle.fix_base.specs.Reader.{bytes_read}
-use Rattle.fix_base.specs.Stream.{Ahead, Item, HasNoItem, TakesAll, frames}
-use Rattle.fix_base.specs.Seen.{Note, Did, Failed, Asked, Part, StorePart, acts_of}
+use Rattle.fix_base.specs.Stream.{UnreadBytes, Item, HasNoItem, TakesAll, frames}
+use Rattle.fix_base.specs.Trace.{Note, Did, Failed, Asked, Part, StorePart, acts_of}
 use Rattle.fix_engine.specs.State.{State, Phase, AwaitLogon, Up, Ending, PeerEnd, LoggedOut, Refused, NotLogon}
 use Rattle.fix_engine.specs.declared.stop.RunEnd.{RunEnd}
 use Rattle.fix_engine.specs.declared.stop.RunEnd.TheVariants as run
-use Rattle.fix_engine.specs.Inbound.{Inbound, IsInbound}
-use Rattle.fix_engine.specs.Answer.{Handled, names, is_numbered, number_or_0}
-use Rattle.fix_engine.specs.Turn.{Live}
+use Rattle.fix_engine.specs.Inbound.{InboundSeen, IsInbound}
+use Rattle.fix_engine.specs.Answer.{AnswerFrame, names, is_numbered, number_or_0}
+use Rattle.fix_engine.specs.Reading.{ConnectionSeen}
 use Rattle.fix_fields.specs.Drafted.{DraftText}
 use Rattle.fix_engine.specs.declared.stop.SendFault.{SendFault}
 use Rattle.fix_engine.specs.Drafted.{Drafting}
@@ -96,31 +97,31 @@ abbrev pub state_at : State → List (List ℕ) → List Act → State
 state_at start answered acts = record {
   phase = phase_behind answered;
   expected = start.expected + length answered;
-  kept = last_kept start.kept acts;
+  stored_expected = last_kept start.stored_expected acts;
   last = last_sent start.last acts;
   reading = last_reading start.reading acts;
 }
 
 -- these are the frames of the stream up to this place
-pub record AreFramesTo (stream : List ℕ) (answered : List (List ℕ)) (place : Ahead) : Type 0 where
+pub record AreFramesTo (stream : List ℕ) (answered : List (List ℕ)) (place : UnreadBytes) : Type 0 where
   pub items : List Item
   pub takes : TakesAll (record { may_mark = true; bytes = stream }) items place
   pub frames_are : answered ≡ frames items
 
 -- the frame is the next one of the bytes that were read on the connection
 pub record IsNext (answered : List (List ℕ)) (acts : List Act) (frame : List ℕ) : Type 0 where
-  pub behind : Ahead
+  pub behind : UnreadBytes
   pub stands : AreFramesTo (bytes_read acts) (answered ++ frame ∷ []) behind
 
 -- no frame is left: each that stands whole in the bytes that were read is answered
-pub record AreAll (answered : List (List ℕ)) (acts : List Act) (place : Ahead) : Type 0 where
+pub record AreAll (answered : List (List ℕ)) (acts : List Act) (place : UnreadBytes) : Type 0 where
   pub stands : AreFramesTo (bytes_read acts) answered place
   pub end : HasNoItem place
 
 -- the state and the place in the stream are those found by looking back, and no frame is left
-pub record StandsAt (start : State) (answered : List (List ℕ)) (acts : List Act) (l : Live) : Type 0 where
+pub record StandsAt (start : State) (answered : List (List ℕ)) (acts : List Act) (l : ConnectionSeen) : Type 0 where
   pub state : l.state ≡ state_at start answered acts
-  pub all : AreAll answered acts l.ahead
+  pub all : AreAll answered acts l.unread
 
 -- what comes of a call that answers no frame
 pub data Calls (start : State) (answered : List (List ℕ)) (acts : List Act) : Note → Type 0 where
@@ -128,30 +129,46 @@ pub data Calls (start : State) (answered : List (List ℕ)) (acts : List Act) : 
   idles : Calls start answered acts (Did act.Idle)
   is_over : Calls start answered acts (Did act.Ended)
   -- at a look at the clock each frame that was read is answered
-  looks : (t : ℕ) (place : Ahead) → AreAll answered acts place → Calls start answered acts (Did (act.Now t))
+  looks : (t : ℕ) (place : UnreadBytes) → AreAll answered acts place → Calls start answered acts (Did (act.Now t))
   keeps : Calls start answered acts (Did (act.Kept (Expect (start.expected + length answered))))
   loses : Calls start answered acts (Did (act.KeepLost (Expect (start.expected + length answered))))
   cuts : Calls start answered acts (Did act.Cut)
   fails : (part : Part) → Calls start answered acts (Failed part)
   asks : (draft : Option (List ℕ)) → Calls start answered acts (Asked draft)
 
--- what comes behind the frame that ended the run, where this number is expected
+-- what comes after the frame that ended the run, where this number is expected
 pub data Closes (expected : ℕ) : List Note → Type 0 where
   nothing_more : Closes expected []
   keeps_it : {more : List Note} → Closes expected more → Closes expected (Did (act.Kept (Expect expected)) ∷ more)
-  loses_it : {more : List Note} → Closes expected more → Closes expected (Did (act.KeepLost (Expect expected)) ∷ Failed StorePart ∷ more)
+  loses_it : {more : List Note} → Closes expected more
+      → Closes expected (Did (act.KeepLost (Expect expected)) ∷ Failed StorePart ∷ more)
   cuts_off : Closes expected (Did act.Cut ∷ [])
 
 -- The notes go on from where these frames were answered and these acts done, up to where the last ones were
--- answered: calls that answer no frame, frames, and drafts. Each frame is the next one of the bytes read. It is answered,
--- and a draft is sent, as the state is that is found by looking back.
+-- answered: calls that answer no frame, frames, and drafts. Each frame is the next one of the bytes read. It
+-- is answered, and a draft is sent, as the state is that is found by looking back.
 pub data Recounts (id : Identity) (start : State) : List (List ℕ) → List Act → List Note → List (List ℕ) → Type 0 where
   done : {answered : List (List ℕ)} {acts : List Act} → Recounts id start answered acts [] answered
-  calls : {answered to : List (List ℕ)} {acts : List Act} {note : Note} {more : List Note} → Calls start answered acts note → Recounts id start answered (acts ++ acts_of (note ∷ [])) more to → Recounts id start answered acts (note ∷ more) to
-  answers : {answered to : List (List ℕ)} {acts : List Act} {first more : List Note} (frame : List ℕ) → IsNext answered acts frame → Handled id (state_at start answered acts) frame first (Ok tt) (state_at start (answered ++ frame ∷ []) (acts ++ acts_of first)) → Recounts id start (answered ++ frame ∷ []) (acts ++ acts_of first) more to → Recounts id start answered acts (first ++ more) to
-  sends : {answered to : List (List ℕ)} {acts : List Act} {first more : List Note} {n : ℕ} (draft : DraftText) → Drafting id draft (state_at start answered acts) first (Ok n) (state_at start answered (acts ++ acts_of first)) → Recounts id start answered (acts ++ acts_of first) more to → Recounts id start answered acts (first ++ more) to
-  sends_not : {answered : List (List ℕ)} {acts : List Act} {first more : List Note} {why : SendFault} {s : State} (draft : DraftText) → Drafting id draft (state_at start answered acts) first (Err why) s → Closes s.expected more → Recounts id start answered acts (first ++ more) answered
-  ends : {answered : List (List ℕ)} {acts : List Act} {first more : List Note} {e : Ending} {s : State} (frame : List ℕ) → IsNext answered acts frame → Handled id (state_at start answered acts) frame first (Err e) s → Closes s.expected more → Recounts id start answered acts (first ++ more) (answered ++ frame ∷ [])
+  calls : {answered to : List (List ℕ)} {acts : List Act} {note : Note} {more : List Note}
+      → Calls start answered acts note → Recounts id start answered (acts ++ acts_of (note ∷ [])) more to
+      → Recounts id start answered acts (note ∷ more) to
+  answers : {answered to : List (List ℕ)} {acts : List Act} {first more : List Note} (frame : List ℕ)
+      → IsNext answered acts frame
+      → AnswerFrame id (state_at start answered acts) frame first (Ok tt)
+      (state_at start (answered ++ frame ∷ []) (acts ++ acts_of first))
+      → Recounts id start (answered ++ frame ∷ []) (acts ++ acts_of first) more to
+      → Recounts id start answered acts (first ++ more) to
+  sends : {answered to : List (List ℕ)} {acts : List Act} {first more : List Note} {n : ℕ} (draft : DraftText)
+      → Drafting id draft (state_at start answered acts) first (Ok n)
+      (state_at start answered (acts ++ acts_of first)) → Recounts id start answered (acts ++ acts_of first) more to
+      → Recounts id start answered acts (first ++ more) to
+  sends_not : {answered : List (List ℕ)} {acts : List Act} {first more : List Note} {why : SendFault} {s : State}
+      (draft : DraftText) → Drafting id draft (state_at start answered acts) first (Err why) s
+      → Closes s.expected more → Recounts id start answered acts (first ++ more) answered
+  ends : {answered : List (List ℕ)} {acts : List Act} {first more : List Note} {e : Ending} {s : State}
+      (frame : List ℕ) → IsNext answered acts frame
+      → AnswerFrame id (state_at start answered acts) frame first (Err e) s → Closes s.expected more
+      → Recounts id start answered acts (first ++ more) (answered ++ frame ∷ [])
 
 -- the last of the frames has P
 pub record IsLast (P : List ℕ → Type 0) (answered : List (List ℕ)) : Type 0 where
@@ -162,21 +179,21 @@ pub record IsLast (P : List ℕ → Type 0) (answered : List (List ℕ)) : Type 
 
 -- a Logout (5) with this MsgSeqNum (34)
 pub record IsLogout (n : ℕ) (frame : List ℕ) : Type 0 where
-  pub inbound : Inbound
+  pub inbound : InboundSeen
   pub presents : IsInbound frame inbound
   pub type : names inbound.header.type (codes "5") ≡ true
   pub number : is_numbered inbound.header.number n ≡ true
 
 -- no Logon (A); the number is 0 where none is readable
 pub record IsNoLogon (n : ℕ) (frame : List ℕ) : Type 0 where
-  pub inbound : Inbound
+  pub inbound : InboundSeen
   pub presents : IsInbound frame inbound
   pub type : names inbound.header.type (codes "A") ≡ false
   pub number : n ≡ number_or_0 inbound.header.number
 
 -- a message of this number; it is 0 where none is readable
 pub record IsOfNumber (n : ℕ) (frame : List ℕ) : Type 0 where
-  pub inbound : Inbound
+  pub inbound : InboundSeen
   pub presents : IsInbound frame inbound
   pub number : n ≡ number_or_0 inbound.header.number
 
@@ -196,7 +213,8 @@ IsShown (run.Stopped cause) answered acts = ⊤
 
 -- The run by looking back over its connection, which began with this state: before the run these frames were
 -- answered and these acts done.
-pub record LooksBack (id : Identity) (start : State) (answered : List (List ℕ)) (acts : List Act) (answer : RunEnd) (to : Live) (notes : List Note) : Type 0 where
+pub record LooksBack (id : Identity) (start : State) (answered : List (List ℕ)) (acts : List Act) (answer : RunEnd)
+    (to : ConnectionSeen) (notes : List Note) : Type 0 where
   pub frames : List (List ℕ)  -- those answered on the connection by now
   pub recounts : Recounts id start answered acts notes frames
   pub goes_on : answer ≡ run.TurnsSpent → StandsAt start frames (acts ++ acts_of notes) to

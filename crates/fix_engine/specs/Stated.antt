@@ -1,13 +1,13 @@
 -- What is stated of a run in which no part failed.
 use Rattle.std.specs.Prelude.{◌≡◌, ◌≢◌, ◌⊎◌, ℕ, List, [], ◌∷◌, ◌++◌, Result, Err, ⊤}
 use Rattle.fix_base.specs.declared.identity.Identity.{Identity}
-use Rattle.fix_base.specs.Seen.{Note, Did, Failed, Asked}
+use Rattle.fix_base.specs.Trace.{Note, Did, Failed, Asked}
 use Rattle.fix_engine.specs.State.{Ending}
 use Rattle.fix_engine.specs.declared.state.Ending.TheVariants as ending
 use Rattle.fix_engine.specs.declared.stop.RunEnd.{RunEnd}
 use Rattle.fix_engine.specs.declared.stop.RunEnd.TheVariants as run
-use Rattle.fix_engine.specs.Desk.{Desk, Ran}
-use Rattle.fix_engine.specs.Run.{RanTo}
+use Rattle.fix_engine.specs.Turn.{TurnSeen, RunAndCut}
+use Rattle.fix_engine.specs.Run.{RunsTo}
 
 -- no part failed
 abbrev pub IsFaultless : List Note → Type 0
@@ -30,10 +30,10 @@ pub record GoesOn {S : Type 0} (R : S → List Note → Result ⊤ Ending → S 
 abbrev pub CanNotFail : Type 0 → Type 0
 CanNotFail A = (A → ⊥) → ⊥
 
--- No part failed, and the notes, the answer and what is behind them are those of a run; or memory was refused,
+-- No part failed, and the notes, the answer and what is after them are those of a run; or out of memory,
 -- and the notes are the front of those of a run that another answer ends. That run would have looked at bytes that
 -- nobody looked at, so it is said that there is one, and not which.
-abbrev pub IsAsStated : Identity → ℕ → Desk → RunEnd → Desk → List Note → Type 0
+abbrev pub IsAsStated : Identity → ℕ → TurnSeen → RunEnd → TurnSeen → List Note → Type 0
 IsAsStated id n d answer to notes =
-    IsFaultless notes × (((answer ≢ run.OutOfMemory) × RanTo id n d answer to notes) ⊎
-    ((answer ≡ run.OutOfMemory) × CanNotFail (GoesOn (Ran id n) d notes)))
+    IsFaultless notes × (((answer ≢ run.OutOfMemory) × RunsTo id n d answer to notes) ⊎
+    ((answer ≡ run.OutOfMemory) × CanNotFail (GoesOn (RunAndCut id n) d notes)))

@@ -1,66 +1,119 @@
--- What a turn does on a connection: one read with the frames that it completes, one look at the clock, and the
--- expected number kept.
-use Rattle.std.specs.Prelude.{◌≡◌, ◌≢◌, ◌<◌, ◌≤◌, ◌∷◌, ◌++◌, ℕ, List, [], length, Result, Ok, Err, ⊤}
+-- The turns of a session: a draft of the application is sent, what comes over the connection is answered, the clock
+-- is read, and the expected number is kept.
+use Rattle.std.specs.Prelude.{◌≡◌, ◌≢◌, ◌<◌, ◌≤◌, ◌==◌, ◌&&◌, ◌∷◌, ◌++◌, if◌then◌else◌, nat_lt, ℕ, List, [], true}
+use Rattle.std.specs.Prelude.{false, Option, Some, None, option_map, Result, Ok, Err, ⊤, replicate}
 use Rattle.fix_base.specs.declared.identity.Identity.{Identity}
-use Rattle.fix_base.specs.Stream.{Ahead}
-use Rattle.fix_base.specs.declared.entry.Record.TheVariants.{Expect}
 use Rattle.fix_base.specs.declared.act.Act.TheVariants as act
-use Rattle.fix_base.specs.Seen.{Note, Did, Failed, StorePart, LinkPart}
-use Rattle.fix_frame.specs.Given.{GivesFrame, GivesNone}
-use Rattle.fix_engine.specs.State.{State, Down, PeerEnd, Ending, with_phase, with_kept, with_reading}
+use Rattle.fix_base.specs.Trace.{Note, Did, Asked}
+use Rattle.fix_fields.specs.Drafted.{DraftText, IsDraft, draft_body}
+use Rattle.fix_engine.specs.declared.pending.PendingDraft.{PendingDraft}
+use Rattle.fix_engine.specs.declared.stop.SendFault.{SendFault}
+use Rattle.fix_engine.specs.State.{State, Up, Ending}
 use Rattle.fix_engine.specs.declared.state.Ending.TheVariants as ending
-use Rattle.fix_engine.specs.Answer.{Handled}
+use Rattle.fix_engine.specs.Fold.{Each, AndThen}
+use Rattle.fix_engine.specs.Reading.{ConnectionSeen, connection_seen, ReadFrames, ReadClock, StoreExpected, down}
+use Rattle.fix_engine.specs.Faults.{settles_of, is_cut_of, is_store_fault, sent_ending}
+use Rattle.fix_engine.specs.Drafted.{Drafting}
 
--- a session on a connection: its state, and the bytes that no frame was taken from yet
-pub record Live : Type 0 where
-  pub state : State
-  pub ahead : Ahead
+-- ---- the draft in hand
 
-abbrev pub live : State → Ahead → Live
-live s a = record { state = s; ahead = a }
+abbrev pub no_draft : PendingDraft
+no_draft = record { draft = None; store_failed = false }
 
--- more bytes came
-abbrev pub fed : Ahead → List ℕ → Ahead
-fed a bytes = record { may_mark = a.may_mark; bytes = a.bytes ++ bytes }
+abbrev pub pending_draft : DraftText → PendingDraft
+pending_draft d = record { draft = Some d; store_failed = false }
 
--- the frames that stand whole in the bytes, in order, until one ends the run
-pub data Taken (id : Identity) : Live → List Note → Result ⊤ Ending → Live → Type 0 where
-  no_more : {s : State} {a b : Ahead} → GivesNone a b → Taken id (live s a) [] (Ok tt) (live s b)
-  ends : {s s' : State} {a b : Ahead} {notes : List Note} {e : Ending} (frame : List ℕ) → GivesFrame a b frame →
-      Handled id s frame notes (Err e) s' → Taken id (live s a) notes (Err e) (live s' b)
-  goes : {s mid : State} {to : Live} {a b : Ahead} {first more : List Note} {r : Result ⊤ Ending} (frame : List ℕ) →
-      GivesFrame a b frame → Handled id s frame first (Ok tt) mid → Taken id (live mid b) more r to →
-      Taken id (live s a) (first ++ more) r to
+-- a draft is in hand until its entry is kept, which takes a number. Where the store failed, that was tried
+abbrev pub pending_after : {T : Type 0} → DraftText → ℕ → ℕ → Result T SendFault → PendingDraft
+pending_after d before last r = if last == before then
+    record { draft = Some d; store_failed = is_store_fault r } else no_draft
 
--- these bytes came, and the frames that they complete
-pub data Fed (id : Identity) (b : List ℕ) (l : Live) : List Note → Result ⊤ Ending → Live → Type 0 where
-  fed_frames : {to : Live} {notes : List Note} {r : Result ⊤ Ending} →
-      Taken id (live l.state (fed l.ahead b)) notes r to → Fed id b l notes r to
-  -- memory for the bytes was refused
-  fed_memory : Fed id b l [] (Err ending.OutOfMemory) l
+-- A store was opened again, and tells its last number. Where keeping the draft was tried, and the store has
+-- an entry more than the session counted, this is the draft's, and it is in hand no more
+abbrev pub pending_reopened : PendingDraft → ℕ → ℕ → PendingDraft
+pending_reopened h before last = if h.store_failed && nat_lt before last then no_draft else
+    record { draft = h.draft; store_failed = false }
 
--- one read, and the frames that it completes
-pub data Heard (id : Identity) (l : Live) : List Note → Result ⊤ Ending → Live → Type 0 where
-  bytes : {to : Live} {more : List Note} {r : Result ⊤ Ending} (b : List ℕ) → 0 < length b → length b ≤ 65536 →
-      Fed id b l more r to → Heard id l (Did (act.Read b) ∷ more) r to
-  idle : Heard id l (Did act.Idle ∷ []) (Ok tt) l
-  over : Heard id l (Did act.Ended ∷ []) (Err (ending.Closed PeerEnd)) (live (with_phase l.state Down) l.ahead)
-  read_lost : Heard id l (Failed (LinkPart 0) ∷ []) (Err ending.LinkFault) l
-  read_memory : Heard id l [] (Err ending.OutOfMemory) l
+-- ---- a turn
 
--- one look at the clock
-pub data Clocked (l : Live) : List Note → Result ⊤ Ending → Live → Type 0 where
-  now : (t : ℕ) → Clocked l (Did (act.Now t) ∷ []) (Ok tt) (live (with_reading l.state t) l.ahead)
-  now_memory : Clocked l [] (Err ending.OutOfMemory) l
+-- a session on a connection, with the draft that it has in hand
+pub record TurnSeen : Type 0 where
+  pub connection : ConnectionSeen
+  pub pending : PendingDraft
 
--- the expected number is kept where it is another than the kept one
-pub data KeptExpected (l : Live) : List Note → Result ⊤ Ending → Live → Type 0 where
-  same : l.state.kept ≡ l.state.expected → KeptExpected l [] (Ok tt) l
-  kept : l.state.kept ≢ l.state.expected →
-      KeptExpected l (Did (act.Kept (Expect l.state.expected)) ∷ []) (Ok tt) (live (with_kept l.state) l.ahead)
-  expect_lost : l.state.kept ≢ l.state.expected →
-      KeptExpected l (Did (act.KeepLost (Expect l.state.expected)) ∷ Failed StorePart ∷ []) (Err ending.StoreFault) l
-  expect_memory : l.state.kept ≢ l.state.expected → KeptExpected l [] (Err ending.OutOfMemory) l
+abbrev pub turn_seen : ConnectionSeen → PendingDraft → TurnSeen
+turn_seen l h = record { connection = l; pending = h }
 
-abbrev pub down : Live → Live
-down l = live (with_phase l.state Down) l.ahead
+-- the draft is sent under the next number, if there is one
+pub data SendDraft (id : Identity) (draft : DraftText) (d : TurnSeen) : List Note → Result ⊤ Ending → TurnSeen
+    → Type 0 where
+  spent : 999999999 ≤ d.connection.state.last
+      → SendDraft id draft d [] (Err ending.NumbersSpent) (turn_seen d.connection (pending_draft draft))
+  sends : {notes : List Note} {r : Result ℕ SendFault} {s : State} → d.connection.state.last < 999999999
+      → IsDraft draft →
+      Drafting id draft d.connection.state notes r s →
+      SendDraft id draft d notes (sent_ending r)
+      (turn_seen (connection_seen s d.connection.unread) (pending_after draft d.connection.state.last s.last r))
+
+-- what is in hand is sent, if there is a draft
+pub data SendPending (id : Identity) (d : TurnSeen) : List Note → Result ⊤ Ending → TurnSeen → Type 0 where
+  empty : d.pending.draft ≡ None → SendPending id d [] (Ok tt) d
+  holds : {notes : List Note} {r : Result ⊤ Ending} {to : TurnSeen} (draft : DraftText) → d.pending.draft ≡ Some draft →
+      SendDraft id draft d notes r to → SendPending id d notes r to
+
+-- in phase Up the application is asked for a draft once, unless one is in hand, and what is in hand then is sent
+pub data OfferDraft (id : Identity) (d : TurnSeen) : List Note → Result ⊤ Ending → TurnSeen → Type 0 where
+  not_up : d.connection.state.phase ≢ Up → OfferDraft id d [] (Ok tt) d
+  asked : {notes : List Note} {r : Result ⊤ Ending} {to : TurnSeen} (given : Option DraftText)
+      → d.connection.state.phase ≡ Up →
+      d.pending.draft ≡ None
+      → SendPending id
+      (turn_seen d.connection (record { draft = given; store_failed = d.pending.store_failed })) notes r to →
+      OfferDraft id d (Asked (option_map draft_body given) ∷ notes) r to
+  was_in_hand : {notes : List Note} {r : Result ⊤ Ending} {to : TurnSeen} (draft : DraftText)
+      → d.connection.state.phase ≡ Up →
+      d.pending.draft ≡ Some draft → SendDraft id draft d notes r to → OfferDraft id d notes r to
+
+-- what leaves the draft in hand as it is
+pub data Beside (R : ConnectionSeen → List Note → Result ⊤ Ending → ConnectionSeen
+    → Type 0) (d : TurnSeen) : List Note → Result ⊤ Ending →
+    TurnSeen → Type 0 where
+  beside : {notes : List Note} {r : Result ⊤ Ending} {to : ConnectionSeen} → R d.connection notes r to →
+      Beside R d notes r (turn_seen to d.pending)
+
+-- a draft, then one read with the frames that it completes, and one look at the clock
+abbrev pub SendReadClock : Identity → TurnSeen → List Note → Result ⊤ Ending → TurnSeen → Type 0
+SendReadClock id = AndThen (OfferDraft id) (Beside (AndThen (ReadFrames id) ReadClock))
+
+-- one turn. A fault of keeping the expected number goes before how the rest ended
+pub data Turn (id : Identity) (d : TurnSeen) : List Note → Result ⊤ Ending → TurnSeen → Type 0 where
+  stops : {to : TurnSeen} {met : Result ⊤ Ending} {notes : List Note} → settles_of met ≡ false
+      → SendReadClock id d notes met to →
+      Turn id d notes met to
+  keeps : {mid to : TurnSeen} {met : Result ⊤ Ending} {first more : List Note} → settles_of met ≡ true →
+      SendReadClock id d first met mid → Beside StoreExpected mid more (Ok tt) to → Turn id d (first ++ more) met to
+  keeps_not : {mid to : TurnSeen} {met : Result ⊤ Ending} {first more : List Note} {e : Ending} → settles_of met
+      ≡ true →
+      SendReadClock id d first met mid → Beside StoreExpected mid more (Err e) to → Turn id d (first ++ more) (Err e) to
+
+abbrev pub OneTurn : Identity → TurnSeen → ⊤ → List Note → Result ⊤ Ending → TurnSeen → Type 0
+OneTurn id d u = Turn id d
+
+-- at most n turns
+abbrev pub TakeTurns : Identity → ℕ → TurnSeen → List Note → Result ⊤ Ending → TurnSeen → Type 0
+TakeTurns id n d = Each (OneTurn id) d (replicate n tt)
+
+abbrev pub put_down : TurnSeen → TurnSeen
+put_down d = turn_seen (down d.connection) d.pending
+
+-- the turns, and what is noted after their end
+pub data RunAndCut (id : Identity) (n : ℕ) (d : TurnSeen) : List Note → Result ⊤ Ending → TurnSeen → Type 0 where
+  all_turns : {to : TurnSeen} {notes : List Note} → TakeTurns id n d notes (Ok tt) to
+      → RunAndCut id n d notes (Ok tt) to
+  cut : {to : TurnSeen} {notes : List Note} {e : Ending} → is_cut_of e ≡ true → TakeTurns id n d notes (Err e) to →
+      RunAndCut id n d (notes ++ Did act.Cut ∷ []) (Err e) (put_down to)
+  cut_memory : {to : TurnSeen} {notes : List Note} {e : Ending} → is_cut_of e ≡ true
+      → TakeTurns id n d notes (Err e) to →
+      RunAndCut id n d notes (Err ending.OutOfMemory) (put_down to)
+  no_cut : {to : TurnSeen} {notes : List Note} {e : Ending} → is_cut_of e ≡ false → TakeTurns id n d notes (Err e) to →
+      RunAndCut id n d notes (Err e) (put_down to)

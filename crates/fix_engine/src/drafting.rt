@@ -1,39 +1,39 @@
-//! Sends a draft of the application: keeps its entry under the next number and, in phase Up, writes its frame. `hand`
-//! calls this in a turn, and `session` for `Session::send`.
+//! Sends a draft of the application: keeps its entry under the next number and, in phase Up, writes its
+//! frame. `hand` calls this in a turn, and `session` for `Session::send`.
 ghost use Rattle.std.specs.Prelude.{◌≡◌, ◌+◌, ◌<◌, ◌≤◌, IfOk, Some};
 ghost use Rattle.fix_base.specs.Session.{IsValidIdentity};
 ghost use Rattle.fix_base.specs.Payload.{LAST_TIME};
-ghost use Rattle.fix_base.specs.Seen.{Goes};
+ghost use Rattle.fix_base.specs.Trace.{HasTrace};
 ghost use Rattle.fix_fields.specs.Drafted.{draft_body, IsDraft};
 ghost use Rattle.fix_engine.specs.Drafted.{IsOfDraft, KeepsDraft, Drafting, Drafted, SentTo, entry_of_draft};
 ghost use Rattle.fix_engine.specs.Ready.{IsReady};
 ghost use Rattle.fix_engine.specs.Faults.{open_sent};
 
+use crate::context::Context;
 use crate::faults::is_cut_sent;
-use crate::party::Party;
 use crate::state::take_reading;
 use crate::writing::header;
 use crate::{KeepFault, Outside, Phase, SendFault, State};
 use fix_base::{By, Bytes, Entry, OutOfMemory, Record, SeqNum};
 use fix_fields::Draft;
 use fix_frame::{SealFault, seal};
-use fix_parts::WriteTurn;
+use fix_outside::WriteTurn;
 use std::alloc::Global;
 
 /// Sends the draft at the time that the clock tells, and notes Cut where the connection failed.
 pub fn send_and_cut<O: Outside>(
     o: &mut O,
-    party: &Party,
+    context: &Context,
     state: &mut State,
     draft: &Draft,
 ) -> Result<SeqNum, SendFault>
-    requires ready { IsReady party.now.identity (O.seen o.old) (Some state.old.last) state.old }
+    requires ready { IsReady context.now.identity (O.seen o.old) (Some state.old.last) state.old }
     requires small { state.old.last < 999999999 }
-    ensures ready { IsReady party.now.identity (O.seen o.new) (open_sent result state.new) state.new }
-    ensures notes { Goes (O.seen o.old) (O.seen o.new)
-        (λ notes. SentTo party.now.identity draft.now state.old notes result state.new) }
+    ensures ready { IsReady context.now.identity (O.seen o.new) (open_sent result state.new) state.new }
+    ensures notes { HasTrace (O.seen o.old) (O.seen o.new)
+        (λ notes. SentTo context.now.identity draft.now state.old notes result state.new) }
 {
-    let sent = send_at_time(o, party, state, draft);
+    let sent = send_at_time(o, context, state, draft);
     match sent {
         Ok(number) => Ok(number),
         Err(fault) => {
@@ -52,39 +52,39 @@ pub fn send_and_cut<O: Outside>(
 /// Keeps the draft under the next number and, in phase Up, writes its original.
 pub fn send_draft<O: Outside>(
     o: &mut O,
-    party: &Party,
+    context: &Context,
     state: &mut State,
     draft: &Draft,
 ) -> Result<SeqNum, SendFault>
-    requires ready { IsReady party.now.identity (O.seen o.old) (Some state.old.last) state.old }
+    requires ready { IsReady context.now.identity (O.seen o.old) (Some state.old.last) state.old }
     requires small { state.old.last < 999999999 }
-    ensures ready { IsReady party.now.identity (O.seen o.new) (open_sent result state.new) state.new }
-    ensures notes { Goes (O.seen o.old) (O.seen o.new)
-        (λ notes. Drafting party.now.identity draft.now state.old notes result state.new) }
+    ensures ready { IsReady context.now.identity (O.seen o.new) (open_sent result state.new) state.new }
+    ensures notes { HasTrace (O.seen o.old) (O.seen o.new)
+        (λ notes. Drafting context.now.identity draft.now state.old notes result state.new) }
 {
     match state.phase {
-        Phase::Up => write_draft(o, party, state, draft),
-        Phase::AwaitLogon => keep_draft(o, party, state, draft),
-        Phase::Down => keep_draft(o, party, state, draft),
+        Phase::Up => write_draft(o, context, state, draft),
+        Phase::AwaitLogon => keep_draft(o, context, state, draft),
+        Phase::Down => keep_draft(o, context, state, draft),
     }
 }
 
 fn send_at_time<O: Outside>(
     o: &mut O,
-    party: &Party,
+    context: &Context,
     state: &mut State,
     draft: &Draft,
 ) -> Result<SeqNum, SendFault>
-    requires ready { IsReady party.now.identity (O.seen o.old) (Some state.old.last) state.old }
+    requires ready { IsReady context.now.identity (O.seen o.old) (Some state.old.last) state.old }
     requires small { state.old.last < 999999999 }
-    ensures ready { IsReady party.now.identity (O.seen o.new) (open_sent result state.new) state.new }
-    ensures notes { Goes (O.seen o.old) (O.seen o.new)
-        (λ notes. Drafted party.now.identity draft.now state.old notes result state.new) }
+    ensures ready { IsReady context.now.identity (O.seen o.new) (open_sent result state.new) state.new }
+    ensures notes { HasTrace (O.seen o.old) (O.seen o.new)
+        (λ notes. Drafted context.now.identity draft.now state.old notes result state.new) }
 {
     match o.now() {
         Ok(reading) => {
             take_reading(state, reading);
-            send_draft(o, party, state, draft)
+            send_draft(o, context, state, draft)
         }
         Err(_) => Err(SendFault::OutOfMemory),
     }
@@ -93,23 +93,23 @@ fn send_at_time<O: Outside>(
 // Keeps the draft, and then writes its frame.
 fn write_draft<O: Outside>(
     o: &mut O,
-    party: &Party,
+    context: &Context,
     state: &mut State,
     draft: &Draft,
 ) -> Result<SeqNum, SendFault>
-    requires ready { IsReady party.now.identity (O.seen o.old) (Some state.old.last) state.old }
+    requires ready { IsReady context.now.identity (O.seen o.old) (Some state.old.last) state.old }
     requires small { state.old.last < 999999999 }
     requires up { state.old.phase ≡ Phase.Up }
-    ensures ready { IsReady party.now.identity (O.seen o.new) (open_sent result state.new) state.new }
-    ensures notes { Goes (O.seen o.old) (O.seen o.new)
-        (λ notes. Drafting party.now.identity draft.now state.old notes result state.new) }
+    ensures ready { IsReady context.now.identity (O.seen o.new) (open_sent result state.new) state.new }
+    ensures notes { HasTrace (O.seen o.old) (O.seen o.new)
+        (λ notes. Drafting context.now.identity draft.now state.old notes result state.new) }
 {
-    // Memory is taken first: a refusal leaves nothing kept.
-    let frame = match frame_of(party, state.last + 1, state.reading, draft) {
+    // Memory is taken first: where there is none nothing is kept.
+    let frame = match frame_of(context, state.last + 1, state.reading, draft) {
         Ok(frame) => frame,
         Err(_) => return Err(SendFault::OutOfMemory),
     };
-    match keep_draft(o, party, state, draft) {
+    match keep_draft(o, context, state, draft) {
         Ok(number) => match o.write(frame.as_slice()) {
             WriteTurn::Done => Ok(number),
             WriteTurn::Failed(_) => Err(SendFault::LinkFault { number }),
@@ -122,17 +122,17 @@ fn write_draft<O: Outside>(
 // Keeps the entry of the draft under the next number.
 fn keep_draft<O: Outside>(
     o: &mut O,
-    party: &Party,
+    context: &Context,
     state: &mut State,
     draft: &Draft,
 ) -> Result<SeqNum, SendFault>
-    requires ready { IsReady party.now.identity (O.seen o.old) (Some state.old.last) state.old }
+    requires ready { IsReady context.now.identity (O.seen o.old) (Some state.old.last) state.old }
     requires small { state.old.last < 999999999 }
-    ensures ready { IsReady party.now.identity (O.seen o.new) (open_sent result state.new) state.new }
-    ensures notes { Goes (O.seen o.old) (O.seen o.new)
+    ensures ready { IsReady context.now.identity (O.seen o.new) (open_sent result state.new) state.new }
+    ensures notes { HasTrace (O.seen o.old) (O.seen o.new)
         (λ notes. KeepsDraft draft.now state.old notes result state.new) }
 {
-    let kept = match record_of(party.alloc, state, draft) {
+    let kept = match record_of(context.alloc, state, draft) {
         Ok(kept) => kept,
         Err(_) => return Err(SendFault::OutOfMemory),
     };
@@ -181,16 +181,16 @@ fn body_of(alloc: Global, draft: &Draft) -> Result<Vec<u8>, OutOfMemory>
     Ok(body)
 }
 
-fn frame_of(party: &Party, number: u32, time: u64, draft: &Draft) -> Result<Bytes, OutOfMemory>
-    requires valid { IsValidIdentity party.now.identity }
+fn frame_of(context: &Context, number: u32, time: u64, draft: &Draft) -> Result<Bytes, OutOfMemory>
+    requires valid { IsValidIdentity context.now.identity }
     requires last { number ≤ 999999999 }
     requires time { time ≤ LAST_TIME }
-    ensures { IfOk result (λ text. IsOfDraft party.now.identity number time draft.now text) }
+    ensures { IfOk result (λ text. IsOfDraft context.now.identity number time draft.now text) }
 {
-    let header = header(party.alloc, &party.identity, number, time)?;
+    let header = header(context.alloc, &context.identity, number, time)?;
     match seal(
-        party.alloc,
-        party.identity.begin,
+        context.alloc,
+        context.identity.begin,
         draft.kind(),
         &header,
         draft.rest(),

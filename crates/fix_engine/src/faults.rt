@@ -1,5 +1,6 @@
-//! What a fault or an answer does, each as one table: whether the expected number is kept then, whether Cut is noted,
-//! what the call answers, and why the session is stopped. The table of all of them stands in specs/Faults.antt. `turn`,
+//! What a fault or an answer does, each as one table: whether the expected number is kept then, whether Cut
+//! is noted, what the call answers, and why the session is stopped. The table of all of them stands in
+//! specs/Faults.antt. `turn`,
 //! `hand`, `drafting` and `session` call these, and they call nothing.
 ghost use Rattle.std.specs.Prelude.{◌≡◌, Some};
 ghost use Rattle.fix_engine.specs.Faults.{settles_of, is_cut_of, run_end, stop_cause, is_store_fault, sent_ending};

@@ -1,12 +1,12 @@
-//! What a frame presents to a session. `handling` reads each frame by this, `machine` decides on it, and `performing`
-//! hands its body to the application.
+//! What a frame presents to a session. `handling` reads each frame by this, `machine` decides on it, and
+//! `performing` hands its body to the application.
 ghost use Rattle.std.specs.Prelude.{◌≡◌, ◌≤◌, ℕ, pos, List, Some, IfSome, option_map};
 ghost use Rattle.std.specs.Bool.{MatchBool};
 ghost use Rattle.fix_base.specs.Fields.{Field};
 ghost use Rattle.fix_base.specs.Shape.{IsFrame};
 ghost use Rattle.fix_base.specs.Says.{HasFields, value_of};
 ghost use Rattle.fix_engine.specs.Inbound.{IsOnly, IsSent, HasInt, KeepsNumbers, IsPlainLogon, IsLogon, IsInbound};
-ghost use Rattle.fix_engine.specs.Presented.{inbound_of};
+ghost use Rattle.fix_engine.specs.ReadInbound.{inbound_of};
 
 use fix_fields::{Envelope, envelope, first_value, int, utc_time};
 
@@ -15,7 +15,7 @@ const LONGEST_HEART: i64 = 86_400;
 
 /// What an inbound message presents to the session.
 #[derive(Clone, Copy)]
-pub struct Presented<'a> {
+pub struct Inbound<'a> {
     /// The whole frame.
     pub frame: &'a [u8],
     pub head: Envelope<'a>,
@@ -26,7 +26,7 @@ pub struct Presented<'a> {
 }
 
 /// Reads what the frame presents.
-pub fn present(frame: &[u8]) -> Presented<'_>
+pub fn read_inbound(frame: &[u8]) -> Inbound<'_>
     requires { IsFrame frame.now }
     ensures frame { result.frame.now ≡ frame.now }
     ensures presents { IsInbound frame.now (inbound_of result) }
@@ -34,7 +34,7 @@ pub fn present(frame: &[u8]) -> Presented<'_>
     let head = envelope(frame);
     let sent = sent_of(head.sent);
     let heart = heart_of(frame, head.kind);
-    Presented {
+    Inbound {
         frame,
         head,
         sent,

@@ -1,5 +1,5 @@
-//! Decides the answer to an inbound message, as a list of steps, and calls nothing outside. `handling` calls this for
-//! each frame.
+//! Decides the answer to an inbound message, as a list of steps, and calls nothing outside. `handling` calls
+//! this for each frame.
 ghost use Rattle.std.specs.Prelude.{◌≡◌, ◌≤◌, IsTrue, Some, option_map};
 ghost use Rattle.std.specs.Option.{SomeIff};
 ghost use Rattle.fix_base.specs.Payload.{LAST_TIME};
@@ -7,9 +7,9 @@ ghost use Rattle.fix_engine.specs.Answer.{names, is_numbered, is_near, is_addres
 ghost use Rattle.fix_engine.specs.Answer.{number_or_0, not_built, refused, logon_steps, logout_answer, app_answer};
 ghost use Rattle.fix_engine.specs.Answer.{first_answer, up_answer, answer_to};
 ghost use Rattle.fix_fields.specs.Header.{header_of};
-ghost use Rattle.fix_engine.specs.Presented.{inbound_of};
+ghost use Rattle.fix_engine.specs.ReadInbound.{inbound_of};
 
-use crate::inbound::Presented;
+use crate::inbound::Inbound;
 use crate::{Decision, Phase, Refusal, Say, State, Step, Why};
 use fix_base::{Identity, SeqNum, is_admin_type};
 use fix_fields::Envelope;
@@ -18,7 +18,7 @@ use fix_fields::Envelope;
 const LATENCY: i64 = 120_000_000;
 
 /// The answer of a session in this state to an inbound message.
-pub fn decide(identity: &Identity, state: &State, inbound: &Presented<'_>) -> Decision
+pub fn decide(identity: &Identity, state: &State, inbound: &Inbound<'_>) -> Decision
     requires { state.now.reading ≤ LAST_TIME }
     ensures { result.steps ≡ answer_to identity.now state.now (inbound_of inbound.entry.now) }
 {
@@ -32,7 +32,7 @@ pub fn decide(identity: &Identity, state: &State, inbound: &Presented<'_>) -> De
 }
 
 // The answer to the first message on a connection.
-fn first(identity: &Identity, state: &State, inbound: &Presented<'_>) -> Decision
+fn first(identity: &Identity, state: &State, inbound: &Inbound<'_>) -> Decision
     requires { state.now.reading ≤ LAST_TIME }
     ensures { result.steps ≡ first_answer identity.now state.now (inbound_of inbound.entry.now) }
 {
@@ -46,7 +46,7 @@ fn first(identity: &Identity, state: &State, inbound: &Presented<'_>) -> Decisio
 }
 
 // The answer to a message once the Logon was answered.
-fn later(identity: &Identity, state: &State, inbound: &Presented<'_>) -> Decision
+fn later(identity: &Identity, state: &State, inbound: &Inbound<'_>) -> Decision
     requires { state.now.reading ≤ LAST_TIME }
     ensures { result.steps ≡ up_answer identity.now state.now (inbound_of inbound.entry.now) }
 {
@@ -68,7 +68,7 @@ fn later(identity: &Identity, state: &State, inbound: &Presented<'_>) -> Decisio
 }
 
 // The answer to a first message that is no Logon.
-fn refusal(inbound: &Presented<'_>) -> Decision
+fn refusal(inbound: &Inbound<'_>) -> Decision
     ensures { result.steps ≡ refused (inbound_of inbound.entry.now) }
 {
     let number = readable(inbound.head.number);
@@ -126,7 +126,7 @@ fn application(number: SeqNum) -> Decision
 {
     Decision {
         steps: [
-            Step::Hand {
+            Step::PendingDraft {
                 number,
                 marked: false,
             },
@@ -138,7 +138,7 @@ fn application(number: SeqNum) -> Decision
 }
 
 // The answer to a message that isn't answered yet.
-fn given_up(inbound: &Presented<'_>) -> Decision
+fn given_up(inbound: &Inbound<'_>) -> Decision
     ensures { result.steps ≡ not_built (inbound_of inbound.entry.now) }
 {
     let number = readable(inbound.head.number);
@@ -163,7 +163,7 @@ fn readable(number: Option<SeqNum>) -> u32
 }
 
 // The number of the message, where it is in order.
-fn in_order(identity: &Identity, state: &State, inbound: &Presented<'_>) -> Option<SeqNum>
+fn in_order(identity: &Identity, state: &State, inbound: &Inbound<'_>) -> Option<SeqNum>
     requires { state.now.reading ≤ LAST_TIME }
     ensures { SomeIff result (IsTrue (is_in_order identity.now state.now (inbound_of inbound.entry.now)))
         state.now.expected }
@@ -177,7 +177,7 @@ fn in_order(identity: &Identity, state: &State, inbound: &Presented<'_>) -> Opti
 }
 
 // Whether this is the message of the expected number, from the counterparty, at about the time that it says.
-fn fits(identity: &Identity, state: &State, inbound: &Presented<'_>) -> bool
+fn fits(identity: &Identity, state: &State, inbound: &Inbound<'_>) -> bool
     requires { state.now.reading ≤ LAST_TIME }
     ensures { result ≡ is_in_order identity.now state.now (inbound_of inbound.entry.now) }
 {

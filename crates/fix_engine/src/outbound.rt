@@ -3,40 +3,39 @@
 ghost use Rattle.std.specs.Prelude.{◌≡◌, Some, ◌≤◌, ℕ, List, IfOk};
 ghost use Rattle.fix_base.specs.Session.{IsValidIdentity};
 ghost use Rattle.fix_base.specs.Payload.{LAST_TIME};
-ghost use Rattle.fix_base.specs.Seen.{Goes};
+ghost use Rattle.fix_base.specs.Trace.{HasTrace};
 ghost use Rattle.fix_engine.specs.State.{IsInRange, counted};
 ghost use Rattle.fix_engine.specs.Ready.{IsReady};
 ghost use Rattle.fix_engine.specs.Faults.{open_behind};
 ghost use Rattle.fix_engine.specs.Answer.{IsSaid, Performed, kind_of, entry_of};
 ghost use Rattle.fix_engine.specs.declared.state.Step.TheVariants as step;
 
-use crate::party::Party;
-use crate::state::LAST_NUMBER;
+use crate::context::Context;
 use crate::writing::{header, rest};
 use crate::{Ending, KeepFault, Outside, Say, State};
-use fix_base::{Bytes, Entry, OutOfMemory, Record, SeqNum};
+use fix_base::{Bytes, Entry, LAST_SEQ_NUM, OutOfMemory, Record, SeqNum};
 use fix_frame::{SealFault, seal};
-use fix_parts::WriteTurn;
+use fix_outside::WriteTurn;
 
 /// Takes the next outbound number, keeps the entry, and then writes the frame.
 #[tactic(auto, using(crate::proofs::Carrying::sendings))]
 pub fn send<O: Outside>(
     o: &mut O,
-    party: &Party,
+    context: &Context,
     state: &mut State,
     say: Say,
     counts: Option<SeqNum>,
 ) -> Result<(), Ending>
-    requires ready { IsReady party.now.identity (O.seen o.old) (Some state.old.last) state.old }
-    ensures ready { IsReady party.now.identity (O.seen o.new) (open_behind result state.new) state.new }
-    ensures notes { (frame : List ℕ) → Goes (O.seen o.old) (O.seen o.new)
-        (λ notes. Performed party.now.identity frame state.old (step.Send say counts) notes result state.new) }
+    requires ready { IsReady context.now.identity (O.seen o.old) (Some state.old.last) state.old }
+    ensures ready { IsReady context.now.identity (O.seen o.new) (open_behind result state.new) state.new }
+    ensures notes { (frame : List ℕ) → HasTrace (O.seen o.old) (O.seen o.new)
+        (λ notes. Performed context.now.identity frame state.old (step.Send say counts) notes result state.new) }
 {
-    if state.last >= LAST_NUMBER {
+    if state.last >= LAST_SEQ_NUM {
         return Err(Ending::NumbersSpent);
     }
-    // Memory is taken first: a refusal leaves nothing kept.
-    let frame = match frame_of(party, state.last + 1, state.reading, say) {
+    // Memory is taken first: where there is none nothing is kept.
+    let frame = match frame_of(context, state.last + 1, state.reading, say) {
         Ok(frame) => frame,
         Err(_) => return Err(Ending::OutOfMemory),
     };
@@ -57,16 +56,16 @@ pub fn send<O: Outside>(
     }
 }
 
-fn frame_of(party: &Party, number: u32, time: u64, say: Say) -> Result<Bytes, OutOfMemory>
-    requires valid { IsValidIdentity party.now.identity }
+fn frame_of(context: &Context, number: u32, time: u64, say: Say) -> Result<Bytes, OutOfMemory>
+    requires valid { IsValidIdentity context.now.identity }
     requires last { number ≤ 999999999 }
     requires time { time ≤ LAST_TIME }
-    ensures { IfOk result (λ text. IsSaid party.now.identity number time say text) }
+    ensures { IfOk result (λ text. IsSaid context.now.identity number time say text) }
 {
-    let header = header(party.alloc, &party.identity, number, time)?;
-    let rest = rest(party.alloc, say)?;
+    let header = header(context.alloc, &context.identity, number, time)?;
+    let rest = rest(context.alloc, say)?;
     let kind = [kind(say)];
-    match seal(party.alloc, party.identity.begin, &kind, &header, &rest) {
+    match seal(context.alloc, context.identity.begin, &kind, &header, &rest) {
         Ok(frame) => Ok(frame),
         Err(SealFault::OutOfMemory) => Err(OutOfMemory),
         // A header and two short fields are far below the greatest BodyLength.

@@ -1,35 +1,35 @@
-//! The calls of a session, for who opens and runs it. Each runs a stage (`turn` or `drafting`), and then notes why the
-//! session is stopped, if it is.
+//! The calls of a session, for who opens and runs it. Each runs a stage (`turn` or `drafting`), and then
+//! notes why the session is stopped, if it is.
 ghost use Rattle.std.specs.Prelude.{◌≡◌, ◌≢◌, ◌⊎◌, ◌≤◌, ◌∷◌, ◌++◌, ℕ, List, [], IfSome, IfNone, is_some, Result, IfOk};
 ghost use Rattle.std.specs.Prelude.{OnOk, OnErr, Some, None, Err};
 ghost use Rattle.fix_base.specs.declared.entry.Stored.{Stored};
 ghost use Rattle.fix_base.specs.End.{End};
 ghost use Rattle.fix_base.specs.Session.{IsValidIdentity};
 ghost use Rattle.fix_base.specs.EndStep.{EndState};
-ghost use Rattle.fix_base.specs.Seen.{acts_of, NoneRose, Goes};
+ghost use Rattle.fix_base.specs.Trace.{acts_of, NoneRose, HasTrace};
 ghost use Rattle.fix_engine.specs.declared.state.State.{State};
-ghost use Rattle.fix_rim.specs.declared.outside.LoadFault.{LoadFault};
+ghost use Rattle.fix_outside.specs.declared.outside.LoadFault.{LoadFault};
 ghost use Rattle.fix_engine.specs.State.{IsInRange};
-ghost use Rattle.fix_rim.specs.Outside.{LoadAnswers};
-ghost use Rattle.fix_engine.specs.Lawful.{IsLawful, IsLawfulBegin};
-ghost use Rattle.fix_engine.specs.InStep.{IsInStep, StandsInStep, Trails, IsConnected, HasServed};
-ghost use Rattle.fix_engine.specs.Run.{desk_of, state_of, LoadHasCause, OpensTo, ReopensTo, RanTo, RunHasCause};
+ghost use Rattle.fix_outside.specs.Outside.{LoadAnswers};
+ghost use Rattle.fix_engine.specs.Lawful.{IsLawfulRun, IsLawfulBegin};
+ghost use Rattle.fix_engine.specs.InStep.{IsInStep, IsInStepSinceSome, CanRestart, IsConnected, HasServed};
+ghost use Rattle.fix_engine.specs.Run.{turn_of, state_of, LoadHasCause, OpensTo, ReopensTo, RunsTo, RunHasCause};
 ghost use Rattle.fix_engine.specs.Run.{IsDownUnlessSpent, Opens, BeginsTo};
 ghost use Rattle.fix_engine.specs.Drafted.{SendsTo, SendHasCause};
 ghost use Rattle.fix_engine.specs.Faults.{stop_cause, send_stop};
 ghost use Rattle.fix_engine.specs.LawfulSend.{IsLawfulSend};
-ghost use Rattle.fix_engine.specs.Turns.{HasTurns, IsSettled, ShowsPeerEnd};
+ghost use Rattle.fix_engine.specs.Counts.{HasTurns, IsSettled, ShowsPeerEnd};
 ghost use Rattle.fix_engine.specs.Stated.{IsAsStated};
 ghost use Rattle.fix_engine.specs.LookBack.{StandsAt, LooksBack};
 
+use crate::context::Context;
 use crate::drafting::send_and_cut;
 use crate::faults::{answer_of, stop_by, stop_of, stop_of_sent};
-use crate::hand::{Hand, look_at, settle_hand};
-use crate::party::Party;
-use crate::state::{LAST_NUMBER, take_reading};
+use crate::pending::{PendingDraft, pending_is_draft, settle_pending};
+use crate::state::take_reading;
 use crate::turn::{ROOM, run_and_cut};
 use crate::{BeginFault, LoadFault, Outside, Phase, RunEnd, SendFault, State, StopCause};
-use fix_base::{Act, Identity, SeqNum, Stored};
+use fix_base::{Act, Identity, LAST_SEQ_NUM, SeqNum, Stored};
 use fix_fields::Draft;
 use fix_frame::Reader;
 use std::alloc::Global;
@@ -40,11 +40,11 @@ use std::marker::Model;
 /// is.
 #[derive(Drop)]
 pub struct Session {
-    party: Party,
+    context: Context,
     state: State,
     reader: Reader,
     room: Vec<u8>,
-    hand: Hand,
+    pending: PendingDraft,
     stopped: Option<StopCause>,
 }
 
@@ -52,21 +52,21 @@ impl Model for Session {
     ghost use Rattle.std.specs.Prelude.{◌≡◌, length, false, None};
     ghost use Rattle.fix_base.specs.Session.{IsValidIdentity};
     ghost use Rattle.fix_engine.specs.State.{IsInRange};
-    ghost use Rattle.fix_engine.specs.Turn.{live};
-    ghost use Rattle.fix_engine.specs.Run.{Seat};
+    ghost use Rattle.fix_engine.specs.Reading.{connection_seen};
+    ghost use Rattle.fix_engine.specs.Run.{SessionSeen};
 
-    ghost Value = { Seat };
+    ghost Value = { SessionSeen };
 
     ghost view = { λ s. record {
-      identity = s.party.identity;
-      live = live s.state s.reader.ahead;
-      hand = s.hand;
+      identity = s.context.identity;
+      connection = connection_seen s.state s.reader.unread;
+      pending = s.pending;
       stopped =
           s.stopped;
     } };
 
-    ghost invariant = { λ s. IsValidIdentity s.party.identity × IsInRange s.state × (length s.room.items ≡ 65536) ×
-        (s.stopped ≡ None → s.hand.tried ≡ false) };
+    ghost invariant = { λ s. IsValidIdentity s.context.identity × IsInRange s.state × (length s.room.items ≡ 65536) ×
+        (s.stopped ≡ None → s.pending.store_failed ≡ false) };
 }
 
 impl Session {
@@ -80,9 +80,9 @@ impl Session {
     ) -> Result<Session, LoadFault>
         requires { IsValidIdentity identity }
         ensures opens { (loaded : Result Stored LoadFault) × LoadAnswers loaded (O.seen o.old) ×
-            Goes (O.seen o.old) (O.seen o.new) (OpensTo identity result loaded) }
+            HasTrace (O.seen o.old) (O.seen o.new) (OpensTo identity result loaded) }
         ensures cause { LoadHasCause result (O.seen o.old).faults (O.seen o.new).faults }
-        ensures in_step { IfOk result (StandsInStep (O.seen o.new)) }
+        ensures in_step { IfOk result (IsInStepSinceSome (O.seen o.new)) }
         // The store isn't open then, unless it wasn't asked.
         ensures shut { OnErr result ((o.new ≡ o.old) ⊎ ((O.seen o.new).open_at ≡ None)) }
     {
@@ -94,13 +94,13 @@ impl Session {
         };
         match o.load() {
             Ok(stored) => Ok(Session {
-                party: Party { alloc, identity },
+                context: Context { alloc, identity },
                 state: state_from(stored),
                 reader,
                 room,
-                hand: Hand {
+                pending: PendingDraft {
                     draft: None,
-                    tried: false,
+                    store_failed: false,
                 },
                 stopped: None,
             }),
@@ -115,22 +115,22 @@ impl Session {
     /// A draft in hand whose entry was lost is dropped where the store has it, which shows by the
     /// last number. Else it is still in hand, and sent first in the next turn in phase Up.
     pub fn reopen<O: Outside>(&mut self, o: &mut O) -> Result<(), LoadFault>
-        requires { IfNone self.old.stopped (self.old.live.state.phase ≡ Phase.Down) }
+        requires { IfNone self.old.stopped (self.old.connection.state.phase ≡ Phase.Down) }
         ensures loads { (loaded : Result Stored LoadFault) × LoadAnswers loaded (O.seen o.old) ×
-            Goes (O.seen o.old) (O.seen o.new) (ReopensTo self.old result loaded self.new) }
+            HasTrace (O.seen o.old) (O.seen o.new) (ReopensTo self.old result loaded self.new) }
         ensures cause { LoadHasCause result (O.seen o.old).faults (O.seen o.new).faults }
-        ensures stands { OnOk result (StandsInStep (O.seen o.new) self.new) }
+        ensures stands { OnOk result (IsInStepSinceSome (O.seen o.new) self.new) }
         // Where the store tells what it holds: the acts since some start are a run of a lawful end
         // still, and what was in doubt is settled.
         ensures in_step { OnOk result ((start : EndState) (before : List Act) (e : End) → (O.seen o.old).Holds e →
-            Trails start before (O.seen o.old) self.old → IsInStep start before (O.seen o.new) self.new) }
+            CanRestart start before (O.seen o.old) self.old → IsInStep start before (O.seen o.new) self.new) }
         ensures trails { OnErr result ((start : EndState) (before : List Act) →
-            Trails start before (O.seen o.old) self.old → Trails start before (O.seen o.new) self.new) }
+            CanRestart start before (O.seen o.old) self.old → CanRestart start before (O.seen o.new) self.new) }
         ensures shut { OnErr result ((O.seen o.new).open_at ≡ None) }
     {
         match o.load() {
             Ok(stored) => {
-                settle_hand(&mut self.hand, self.state.last, stored.last);
+                settle_pending(&mut self.pending, self.state.last, stored.last);
                 self.state = state_from(stored);
                 self.stopped = None;
                 Ok(())
@@ -147,8 +147,8 @@ impl Session {
     /// of its store is what the session's calls did. A stopped session answers `Stopped` and calls
     /// nothing.
     pub fn begin<O: Outside>(&mut self, o: &mut O) -> Result<(), BeginFault>
-        requires phase { IfNone self.old.stopped (self.old.live.state.phase ≡ Phase.Down) }
-        requires in_step { IfNone self.old.stopped (StandsInStep (O.seen o.old) self.old) }
+        requires phase { IfNone self.old.stopped (self.old.connection.state.phase ≡ Phase.Down) }
+        requires in_step { IfNone self.old.stopped (IsInStepSinceSome (O.seen o.old) self.old) }
         // On a stopped session.
         ensures stopped { IfSome self.old.stopped (λ cause. result ≡ Err (BeginFault.Stopped cause)) }
         ensures calls_none { IfSome self.old.stopped (λ cause. o.new ≡ o.old) }
@@ -156,20 +156,20 @@ impl Session {
 
         // On a session that goes on.
         ensures begins { IfNone self.old.stopped
-            (Goes (O.seen o.old) (O.seen o.new) (BeginsTo self.old result self.new)) }
-        ensures from_here { IfNone self.old.stopped (OnOk result (StandsAt self.new.live.state [] [] self.new.live)) }
+            (HasTrace (O.seen o.old) (O.seen o.new) (BeginsTo self.old result self.new)) }
+        ensures from_here { IfNone self.old.stopped (OnOk result (StandsAt self.new.connection.state [] [] self.new.connection)) }
 
         // It is a run of a lawful end, and where the session isn't stopped it is in step with what is
         // outside of it, and connected.
         ensures lawful { IfNone self.old.stopped
-            (Goes (O.seen o.old) (O.seen o.new) (IsLawfulBegin self.old result self.new)) }
+            (HasTrace (O.seen o.old) (O.seen o.new) (IsLawfulBegin self.old result self.new)) }
         ensures in_step { IfNone self.new.stopped
             ((start : EndState) (before : List Act) → IsInStep start before (O.seen o.old) self.old →
             IsInStep start before (O.seen o.new) self.new) }
         ensures trails { IfNone self.old.stopped
             ((start : EndState) (before : List Act) → IsInStep start before (O.seen o.old) self.old →
-            Trails start before (O.seen o.new) self.new) }
-        ensures stands { IfNone self.new.stopped (StandsInStep (O.seen o.new) self.new) }
+            CanRestart start before (O.seen o.new) self.new) }
+        ensures stands { IfNone self.new.stopped (IsInStepSinceSome (O.seen o.new) self.new) }
         ensures connected { IfNone self.new.stopped
             ((start : EndState) (before : List Act) (h : IsInStep start before (O.seen o.old) self.old) → (time : ℕ) ×
             IsConnected h.to (before ++ h.acts ++ Act.Now time ∷ []) (O.seen o.new) self.new) }
@@ -177,7 +177,7 @@ impl Session {
         if let Some(cause) = self.stopped {
             return Err(BeginFault::Stopped(cause));
         }
-        let reader = match Reader::new(self.party.alloc) {
+        let reader = match Reader::new(self.context.alloc) {
             Ok(reader) => reader,
             Err(_) => {
                 self.stopped = Some(StopCause::OutOfMemory);
@@ -202,59 +202,59 @@ impl Session {
     /// it is Up and has none in hand, and sends what it has in hand. Then it reads once, answers
     /// the messages that this completes, reads the clock once, and keeps the expected number.
     ///
-    /// A draft stays in hand until its entry is kept: where memory was refused before that, where
+    /// A draft stays in hand until its entry is kept: where it is out of memory before that, where
     /// the store failed, and where every number is used.
     ///
     /// The phase must not be Down, and the outside in step with the session. A stopped session
     /// answers `Stopped` and calls nothing.
     pub fn run_turns<O: Outside>(&mut self, o: &mut O, turns: u64) -> RunEnd
-        requires phase { IfNone self.old.stopped (self.old.live.state.phase ≢ Phase.Down) }
-        requires in_step { IfNone self.old.stopped (StandsInStep (O.seen o.old) self.old) }
+        requires phase { IfNone self.old.stopped (self.old.connection.state.phase ≢ Phase.Down) }
+        requires in_step { IfNone self.old.stopped (IsInStepSinceSome (O.seen o.old) self.old) }
         // On a stopped session.
         ensures stopped { IfSome self.old.stopped (λ cause. result ≡ RunEnd.Stopped cause) }
         ensures calls_none { IfSome self.old.stopped (λ cause. o.new ≡ o.old) }
         ensures stays { IfSome self.old.stopped (λ cause. self.new ≡ self.old) }
 
         // On a session that goes on: what it did, what it answers, and what it is then.
-        ensures runs { IfNone self.old.stopped (Goes (O.seen o.old) (O.seen o.new)
-            (RanTo self.old.identity turns (desk_of self.old) result (desk_of self.new))) }
+        ensures runs { IfNone self.old.stopped (HasTrace (O.seen o.old) (O.seen o.new)
+            (RunsTo self.old.identity turns (turn_of self.old) result (turn_of self.new))) }
         ensures identity { self.new.identity ≡ self.old.identity }
         ensures stops { IfNone self.old.stopped (self.new.stopped ≡ stop_cause result) }
         ensures cause { IfNone self.old.stopped (RunHasCause result (O.seen o.old).faults (O.seen o.new).faults) }
-        ensures phase { IfNone self.old.stopped (IsDownUnlessSpent result self.old.live.state.phase
-            self.new.live.state.phase) }
+        ensures phase { IfNone self.old.stopped (IsDownUnlessSpent result self.old.connection.state.phase
+            self.new.connection.state.phase) }
 
-        // Where no part failed: all of it, or a front of it where memory was refused.
+        // Where no part failed: all of it, or a front of it where it is out of memory.
         ensures as_stated { NoneRose (O.seen o.old).faults (O.seen o.new).faults →
-            IfNone self.old.stopped (Goes (O.seen o.old) (O.seen o.new)
-            (IsAsStated self.old.identity turns (desk_of self.old) result (desk_of self.new))) }
+            IfNone self.old.stopped (HasTrace (O.seen o.old) (O.seen o.new)
+            (IsAsStated self.old.identity turns (turn_of self.old) result (turn_of self.new))) }
 
         // By looking back over the frames that were answered on the connection, and over its acts.
         ensures looks_back { IfNone self.old.stopped
             ((start : State) (answered : List (List ℕ)) (acts : List Act) →
-            StandsAt start answered acts self.old.live →
-            Goes (O.seen o.old) (O.seen o.new) (LooksBack self.old.identity start answered acts result self.new.live)) }
+            StandsAt start answered acts self.old.connection →
+            HasTrace (O.seen o.old) (O.seen o.new) (LooksBack self.old.identity start answered acts result self.new.connection)) }
 
-        // How many turns it made, with how many calls, what is kept behind them, and that it answers the
+        // How many turns it made, with how many calls, what is kept after them, and that it answers the
         // other side's end of the connection just where it read so.
-        ensures turns { IfNone self.old.stopped (Goes (O.seen o.old) (O.seen o.new) (HasTurns turns result)) }
+        ensures turns { IfNone self.old.stopped (HasTrace (O.seen o.old) (O.seen o.new) (HasTurns turns result)) }
         ensures settled { IfNone self.old.stopped
-            ((turns ≡ 0 → self.old.live.state.kept ≡ self.old.live.state.expected) →
-            IsSettled result self.new.live.state) }
+            ((turns ≡ 0 → self.old.connection.state.stored_expected ≡ self.old.connection.state.expected) →
+            IsSettled result self.new.connection.state) }
         ensures peer_end { IfNone self.old.stopped
-            (Goes (O.seen o.old) (O.seen o.new) (λ notes. ShowsPeerEnd result (acts_of notes))) }
+            (HasTrace (O.seen o.old) (O.seen o.new) (λ notes. ShowsPeerEnd result (acts_of notes))) }
 
         // It is a run of a lawful end, and a session that isn't stopped stays in step with what is outside
         // of it, and connected where all turns were made.
         ensures lawful { IfNone self.old.stopped
-            (Goes (O.seen o.old) (O.seen o.new) (IsLawful self.old.identity self.old.live result self.new.live)) }
+            (HasTrace (O.seen o.old) (O.seen o.new) (IsLawfulRun self.old.identity self.old.connection result self.new.connection)) }
         ensures in_step { IfNone self.new.stopped
             ((start : EndState) (before : List Act) → IsInStep start before (O.seen o.old) self.old →
             IsInStep start before (O.seen o.new) self.new) }
         ensures trails { IfNone self.old.stopped
             ((start : EndState) (before : List Act) → IsInStep start before (O.seen o.old) self.old →
-            Trails start before (O.seen o.new) self.new) }
-        ensures stands { IfNone self.new.stopped (StandsInStep (O.seen o.new) self.new) }
+            CanRestart start before (O.seen o.new) self.new) }
+        ensures stands { IfNone self.new.stopped (IsInStepSinceSome (O.seen o.new) self.new) }
         ensures connected { result ≡ RunEnd.TurnsSpent → (start : EndState) (before : List Act) →
             IsConnected start before (O.seen o.old) self.old → IsConnected start before (O.seen o.new) self.new }
 
@@ -264,20 +264,20 @@ impl Session {
         // is left out, and each that the counterparty stored before the connection comes marked.
         ensures headline { IfNone self.old.stopped
             ((start : EndState) (before : List Act) (h : IsConnected start before (O.seen o.old) self.old) →
-            Goes (O.seen o.old) (O.seen o.new) (λ notes. HasServed self.old.identity result self.new.live start
+            HasTrace (O.seen o.old) (O.seen o.new) (λ notes. HasServed self.old.identity result self.new.connection start
             h.opened (h.acts ++ acts_of notes))) }
     {
         if let Some(cause) = self.stopped {
             return RunEnd::Stopped(cause);
         }
-        look_at(&self.hand);
+        pending_is_draft(&self.pending);
         let ran = run_and_cut(
             o,
-            &self.party,
+            &self.context,
             &mut self.state,
             &mut self.reader,
             &mut self.room,
-            &mut self.hand,
+            &mut self.pending,
             turns,
         );
         let answer = answer_of(&ran);
@@ -291,77 +291,77 @@ impl Session {
     ///
     /// Where every number is used, `NumbersSpent`, nothing is called and all stays. `LinkFault` is
     /// answered where the message is kept and the connection failed: the session is Down then, and
-    /// not stopped. It is stopped where the store failed, and where memory was refused. A stopped
+    /// not stopped. It is stopped where the store failed, and where it is out of memory. A stopped
     /// session answers `Stopped` and calls nothing. The outside must be in step with the session.
     pub fn send<O: Outside>(&mut self, o: &mut O, draft: &Draft) -> Result<SeqNum, SendFault>
-        requires in_step { IfNone self.old.stopped (StandsInStep (O.seen o.old) self.old) }
+        requires in_step { IfNone self.old.stopped (IsInStepSinceSome (O.seen o.old) self.old) }
         // On a stopped session.
         ensures stopped { IfSome self.old.stopped (λ cause. result ≡ Err (SendFault.Stopped cause)) }
         ensures calls_none { IfSome self.old.stopped (λ cause. o.new ≡ o.old) }
         ensures stays { IfSome self.old.stopped (λ cause. self.new ≡ self.old) }
 
         // On a session that goes on: what it did, what it answers, and what it is then.
-        ensures sends { IfNone self.old.stopped (Goes (O.seen o.old) (O.seen o.new)
-            (SendsTo self.old.identity draft.now self.old.live result self.new.live)) }
+        ensures sends { IfNone self.old.stopped (HasTrace (O.seen o.old) (O.seen o.new)
+            (SendsTo self.old.identity draft.now self.old.connection result self.new.connection)) }
         ensures identity { self.new.identity ≡ self.old.identity }
-        ensures hand { self.new.hand ≡ self.old.hand }
+        ensures pending { self.new.pending ≡ self.old.pending }
         ensures stops { IfNone self.old.stopped (self.new.stopped ≡ send_stop result) }
         ensures cause { IfNone self.old.stopped (SendHasCause result (O.seen o.old).faults (O.seen o.new).faults) }
-        ensures spent { IfNone self.old.stopped (999999999 ≤ self.old.live.state.last → o.new ≡ o.old) }
+        ensures spent { IfNone self.old.stopped (999999999 ≤ self.old.connection.state.last → o.new ≡ o.old) }
         ensures from_here { IfNone self.old.stopped
             (OnOk result ((start : State) (answered : List (List ℕ)) (acts : List Act) →
-            StandsAt start answered acts self.old.live →
-            Goes (O.seen o.old) (O.seen o.new) (λ notes. StandsAt start answered (acts ++ acts_of notes)
-            self.new.live))) }
+            StandsAt start answered acts self.old.connection →
+            HasTrace (O.seen o.old) (O.seen o.new) (λ notes. StandsAt start answered (acts ++ acts_of notes)
+            self.new.connection))) }
 
         // It is a run of a lawful end, and a session that isn't stopped stays in step with what is outside
         // of it, and connected where it answers a number.
         ensures lawful { IfNone self.old.stopped
-            (Goes (O.seen o.old) (O.seen o.new) (IsLawfulSend self.old.identity self.old.live result self.new.live)) }
+            (HasTrace (O.seen o.old) (O.seen o.new) (IsLawfulSend self.old.identity self.old.connection result self.new.connection)) }
         ensures in_step { IfNone self.new.stopped
             ((start : EndState) (before : List Act) → IsInStep start before (O.seen o.old) self.old →
             IsInStep start before (O.seen o.new) self.new) }
         ensures trails { IfNone self.old.stopped
             ((start : EndState) (before : List Act) → IsInStep start before (O.seen o.old) self.old →
-            Trails start before (O.seen o.new) self.new) }
-        ensures stands { IfNone self.new.stopped (StandsInStep (O.seen o.new) self.new) }
+            CanRestart start before (O.seen o.new) self.new) }
+        ensures stands { IfNone self.new.stopped (IsInStepSinceSome (O.seen o.new) self.new) }
         ensures connected { OnOk result ((start : EndState) (before : List Act) →
             IsConnected start before (O.seen o.old) self.old → IsConnected start before (O.seen o.new) self.new) }
     {
         if let Some(cause) = self.stopped {
             return Err(SendFault::Stopped(cause));
         }
-        if self.state.last >= LAST_NUMBER {
+        if self.state.last >= LAST_SEQ_NUM {
             return Err(SendFault::NumbersSpent);
         }
-        let sent = send_and_cut(o, &self.party, &mut self.state, draft);
+        let sent = send_and_cut(o, &self.context, &mut self.state, draft);
         self.stopped = stop_of_sent(&sent);
         sent
     }
 
     pub fn phase(&self) -> Phase
-        ensures { result ≡ self.now.live.state.phase }
+        ensures { result ≡ self.now.connection.state.phase }
     {
         self.state.phase
     }
 
     /// Whether a draft is in hand.
-    pub fn in_hand(&self) -> bool
-        ensures { result ≡ is_some self.now.hand.draft }
+    pub fn pending_draft(&self) -> bool
+        ensures { result ≡ is_some self.now.pending.draft }
     {
-        self.hand.draft.is_some()
+        self.pending.draft.is_some()
     }
 
     /// The inbound MsgSeqNum (34) that is expected next, 1 to 1,000,000,000.
     pub fn expected(&self) -> u32
-        ensures { result ≡ self.now.live.state.expected }
+        ensures { result ≡ self.now.connection.state.expected }
     {
         self.state.expected
     }
 
     /// The last outbound MsgSeqNum (34), 0 where nothing was sent.
     pub fn last(&self) -> u32
-        ensures { result ≡ self.now.live.state.last }
+        ensures { result ≡ self.now.connection.state.last }
     {
         self.state.last
     }
@@ -377,7 +377,7 @@ impl Session {
 // Reads the clock, and notes that a connection is opened.
 fn open_connection<O: Outside>(o: &mut O) -> Result<u64, BeginFault>
     ensures opens { (O.seen o.new).open_at ≡ (O.seen o.old).open_at }
-    ensures notes { Goes (O.seen o.old) (O.seen o.new) (Opens result) }
+    ensures notes { HasTrace (O.seen o.old) (O.seen o.new) (Opens result) }
 {
     match o.now() {
         Ok(reading) => match o.mark(false) {
@@ -399,7 +399,7 @@ fn state_from(stored: Stored) -> State
     State {
         phase: Phase::Down,
         expected: stored.expected,
-        kept: stored.expected,
+        stored_expected: stored.expected,
         last: stored.last,
         reading: 0,
     }

@@ -2,13 +2,7 @@
 ghost use Rattle.std.specs.Prelude.{◌≡◌};
 ghost use Rattle.fix_engine.specs.State.{IsInRange, with_reading};
 
-use fix_base::SeqNum;
-
-/// The greatest outbound MsgSeqNum (34).
-pub const LAST_NUMBER: u32 = 999_999_999;
-
-/// The last microsecond of 2099, since 1970.
-const LAST_TIME: u64 = 4_102_444_799_999_999;
+use fix_base::{LAST_TIME, SeqNum};
 
 /// The phase of a session.
 ///
@@ -34,7 +28,7 @@ pub struct State {
     /// The inbound MsgSeqNum (34) that is expected next, 1 to 1,000,000,000.
     pub expected: u32,
     /// The expected number as it was kept last.
-    pub kept: u32,
+    pub stored_expected: u32,
     /// The last outbound MsgSeqNum, 0 to 999,999,999.
     pub last: u32,
     /// The last reading of the clock, in microseconds since 1970, at most the end of 2099.
@@ -90,7 +84,7 @@ pub enum Step {
     /// out again as a repeat.
     Send { say: Say, counts: Option<SeqNum> },
     /// Hands the message over.
-    Hand { number: SeqNum, marked: bool },
+    PendingDraft { number: SeqNum, marked: bool },
     /// Expects the number after this one.
     Count(SeqNum),
     GoUp,

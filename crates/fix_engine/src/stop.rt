@@ -27,7 +27,7 @@ pub enum RunEnd {
     NumbersSpent,
     /// The session was stopped before.
     Stopped(StopCause),
-    /// Memory was refused. The session is stopped.
+    /// Out of memory. The session is stopped.
     OutOfMemory,
     /// A message came that the engine doesn't answer yet. The number is 0 where none was readable.
     NotBuilt { number: u32 },
@@ -38,7 +38,7 @@ pub enum RunEnd {
 pub enum BeginFault {
     /// The session was stopped before.
     Stopped(StopCause),
-    /// Memory was refused. The session is stopped.
+    /// Out of memory. The session is stopped.
     OutOfMemory,
 }
 
@@ -49,7 +49,7 @@ pub enum SendFault {
     Stopped(StopCause),
     /// Every outbound MsgSeqNum is used. Nothing was kept.
     NumbersSpent,
-    /// Memory was refused. The session is stopped.
+    /// Out of memory. The session is stopped.
     OutOfMemory,
     /// The message store failed. The session is stopped.
     StoreFault,

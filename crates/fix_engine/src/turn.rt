@@ -1,46 +1,47 @@
-//! The turns of a run, and what is noted after their end. In a turn a draft is sent, one read is answered, the clock is
-//! read once, and the expected number is kept. `session` calls `run_and_cut` for `Session::run_turns`.
+//! The turns of a run, and what is noted after their end. In a turn a draft is sent, one read is answered,
+//! the clock is read once, and the expected number is kept. `session` calls `run_and_cut` for
+//! `Session::run_turns`.
 ghost use Rattle.std.specs.Prelude.{◌≡◌, Some, length};
-ghost use Rattle.fix_base.specs.Seen.{Goes};
+ghost use Rattle.fix_base.specs.Trace.{HasTrace};
 ghost use Rattle.fix_engine.specs.State.{IsInRange};
 ghost use Rattle.fix_engine.specs.Ready.{IsReady};
 ghost use Rattle.fix_engine.specs.Faults.{open_behind};
 ghost use Rattle.fix_engine.specs.Fold.{AndThen};
-ghost use Rattle.fix_engine.specs.Turn.{live, Fed, Heard, Clocked, KeptExpected};
-ghost use Rattle.fix_engine.specs.Desk.{desk, Met, Turn, Turns, Ran};
+ghost use Rattle.fix_engine.specs.Reading.{connection_seen, Feed, ReadFrames, ReadClock, StoreExpected};
+ghost use Rattle.fix_engine.specs.Turn.{turn_seen, SendReadClock, Turn, TakeTurns, RunAndCut};
 
+use crate::context::Context;
 use crate::faults::{is_cut, settles};
-use crate::hand::{Hand, offer};
-use crate::handling::take_frames;
-use crate::party::Party;
+use crate::handling::answer_frames;
+use crate::pending::{PendingDraft, offer_draft};
 use crate::state::take_reading;
 use crate::{Ending, KeepFault, Outside, Phase, State, Why};
 use fix_base::Record;
 use fix_frame::Reader;
-use fix_parts::ReadTurn;
+use fix_outside::ReadTurn;
 
 /// How many bytes one read has room for.
 pub const ROOM: usize = 65_536;
 
-/// Makes at most so many turns, and notes Cut after one that ended the run, unless the store failed or memory was
-/// refused.
+/// Makes at most so many turns, and notes Cut after one that ended the run, unless the store failed or it was
+/// out of memory.
 pub fn run_and_cut<O: Outside>(
     o: &mut O,
-    party: &Party,
+    context: &Context,
     state: &mut State,
     reader: &mut Reader,
     room: &mut [u8],
-    hand: &mut Hand,
+    pending: &mut PendingDraft,
     turns: u64,
 ) -> Result<(), Ending>
-    requires ready { IsReady party.now.identity (O.seen o.old) (Some state.old.last) state.old }
+    requires ready { IsReady context.now.identity (O.seen o.old) (Some state.old.last) state.old }
     requires room { length room.old ≡ 65536 }
-    ensures ready { IsReady party.now.identity (O.seen o.new) (open_behind result state.new) state.new }
-    ensures notes { Goes (O.seen o.old) (O.seen o.new)
-        (λ notes. Ran party.now.identity turns (desk (live state.old reader.old.ahead) hand.old) notes result
-        (desk (live state.new reader.new.ahead) hand.new)) }
+    ensures ready { IsReady context.now.identity (O.seen o.new) (open_behind result state.new) state.new }
+    ensures notes { HasTrace (O.seen o.old) (O.seen o.new)
+        (λ notes. RunAndCut context.now.identity turns (turn_seen (connection_seen state.old reader.old.unread) pending.old) notes result
+        (turn_seen (connection_seen state.new reader.new.unread) pending.new)) }
 {
-    let ran = run(o, party, state, reader, room, hand, turns);
+    let ran = take_turns(o, context, state, reader, room, pending, turns);
     match ran {
         Ok(()) => Ok(()),
         Err(ending) => {
@@ -56,105 +57,105 @@ pub fn run_and_cut<O: Outside>(
     }
 }
 
-fn run<O: Outside>(
+fn take_turns<O: Outside>(
     o: &mut O,
-    party: &Party,
+    context: &Context,
     state: &mut State,
     reader: &mut Reader,
     room: &mut [u8],
-    hand: &mut Hand,
+    pending: &mut PendingDraft,
     turns: u64,
 ) -> Result<(), Ending>
-    requires ready { IsReady party.now.identity (O.seen o.old) (Some state.old.last) state.old }
+    requires ready { IsReady context.now.identity (O.seen o.old) (Some state.old.last) state.old }
     requires room { length room.old ≡ 65536 }
-    ensures ready { IsReady party.now.identity (O.seen o.new) (open_behind result state.new) state.new }
-    ensures notes { Goes (O.seen o.old) (O.seen o.new)
-        (λ notes. Turns party.now.identity turns (desk (live state.old reader.old.ahead) hand.old) notes result
-        (desk (live state.new reader.new.ahead) hand.new)) }
+    ensures ready { IsReady context.now.identity (O.seen o.new) (open_behind result state.new) state.new }
+    ensures notes { HasTrace (O.seen o.old) (O.seen o.new)
+        (λ notes. TakeTurns context.now.identity turns (turn_seen (connection_seen state.old reader.old.unread) pending.old) notes result
+        (turn_seen (connection_seen state.new reader.new.unread) pending.new)) }
 {
     for done in 0..turns {
-        turn(o, party, state, reader, room, hand)?;
+        turn(o, context, state, reader, room, pending)?;
     }
     Ok(())
 }
 
 fn turn<O: Outside>(
     o: &mut O,
-    party: &Party,
+    context: &Context,
     state: &mut State,
     reader: &mut Reader,
     room: &mut [u8],
-    hand: &mut Hand,
+    pending: &mut PendingDraft,
 ) -> Result<(), Ending>
-    requires ready { IsReady party.now.identity (O.seen o.old) (Some state.old.last) state.old }
+    requires ready { IsReady context.now.identity (O.seen o.old) (Some state.old.last) state.old }
     requires room { length room.old ≡ 65536 }
-    ensures ready { IsReady party.now.identity (O.seen o.new) (open_behind result state.new) state.new }
-    ensures notes { Goes (O.seen o.old) (O.seen o.new)
-        (λ notes. Turn party.now.identity (desk (live state.old reader.old.ahead) hand.old) notes result
-        (desk (live state.new reader.new.ahead) hand.new)) }
+    ensures ready { IsReady context.now.identity (O.seen o.new) (open_behind result state.new) state.new }
+    ensures notes { HasTrace (O.seen o.old) (O.seen o.new)
+        (λ notes. Turn context.now.identity (turn_seen (connection_seen state.old reader.old.unread) pending.old) notes result
+        (turn_seen (connection_seen state.new reader.new.unread) pending.new)) }
 {
-    let met = meet(o, party, state, reader, room, hand);
+    let met = send_read_clock(o, context, state, reader, room, pending);
     if settles(&met) {
-        keep_expected(o, state, reader)?;
+        store_expected(o, state, reader)?;
     }
     met
 }
 
 // Sends a draft of the application, reads, and then looks at the clock.
-fn meet<O: Outside>(
+fn send_read_clock<O: Outside>(
     o: &mut O,
-    party: &Party,
+    context: &Context,
     state: &mut State,
     reader: &mut Reader,
     room: &mut [u8],
-    hand: &mut Hand,
+    pending: &mut PendingDraft,
 ) -> Result<(), Ending>
-    requires ready { IsReady party.now.identity (O.seen o.old) (Some state.old.last) state.old }
+    requires ready { IsReady context.now.identity (O.seen o.old) (Some state.old.last) state.old }
     requires room { length room.old ≡ 65536 }
-    ensures ready { IsReady party.now.identity (O.seen o.new) (open_behind result state.new) state.new }
-    ensures notes { Goes (O.seen o.old) (O.seen o.new)
-        (λ notes. Met party.now.identity (desk (live state.old reader.old.ahead) hand.old) notes result
-        (desk (live state.new reader.new.ahead) hand.new)) }
+    ensures ready { IsReady context.now.identity (O.seen o.new) (open_behind result state.new) state.new }
+    ensures notes { HasTrace (O.seen o.old) (O.seen o.new)
+        (λ notes. SendReadClock context.now.identity (turn_seen (connection_seen state.old reader.old.unread) pending.old) notes result
+        (turn_seen (connection_seen state.new reader.new.unread) pending.new)) }
 {
-    offer(o, party, state, reader, hand)?;
-    hear_and_look(o, party, state, reader, room)
+    offer_draft(o, context, state, reader, pending)?;
+    read_and_clock(o, context, state, reader, room)
 }
 
-fn hear_and_look<O: Outside>(
+fn read_and_clock<O: Outside>(
     o: &mut O,
-    party: &Party,
+    context: &Context,
     state: &mut State,
     reader: &mut Reader,
     room: &mut [u8],
 ) -> Result<(), Ending>
-    requires ready { IsReady party.now.identity (O.seen o.old) (Some state.old.last) state.old }
+    requires ready { IsReady context.now.identity (O.seen o.old) (Some state.old.last) state.old }
     requires room { length room.old ≡ 65536 }
-    ensures ready { IsReady party.now.identity (O.seen o.new) (open_behind result state.new) state.new }
-    ensures notes { Goes (O.seen o.old) (O.seen o.new)
-        (λ notes. AndThen (Heard party.now.identity) Clocked (live state.old reader.old.ahead) notes result
-        (live state.new reader.new.ahead)) }
+    ensures ready { IsReady context.now.identity (O.seen o.new) (open_behind result state.new) state.new }
+    ensures notes { HasTrace (O.seen o.old) (O.seen o.new)
+        (λ notes. AndThen (ReadFrames context.now.identity) ReadClock (connection_seen state.old reader.old.unread) notes result
+        (connection_seen state.new reader.new.unread)) }
 {
-    hear(o, party, state, reader, room)?;
-    look(o, state, reader)
+    read_frames(o, context, state, reader, room)?;
+    read_clock(o, state, reader)
 }
 
 // Reads once, and answers the frames that this completes.
-fn hear<O: Outside>(
+fn read_frames<O: Outside>(
     o: &mut O,
-    party: &Party,
+    context: &Context,
     state: &mut State,
     reader: &mut Reader,
     room: &mut [u8],
 ) -> Result<(), Ending>
-    requires ready { IsReady party.now.identity (O.seen o.old) (Some state.old.last) state.old }
+    requires ready { IsReady context.now.identity (O.seen o.old) (Some state.old.last) state.old }
     requires room { length room.old ≡ 65536 }
-    ensures ready { IsReady party.now.identity (O.seen o.new) (open_behind result state.new) state.new }
-    ensures notes { Goes (O.seen o.old) (O.seen o.new)
-        (λ notes. Heard party.now.identity (live state.old reader.old.ahead) notes result
-        (live state.new reader.new.ahead)) }
+    ensures ready { IsReady context.now.identity (O.seen o.new) (open_behind result state.new) state.new }
+    ensures notes { HasTrace (O.seen o.old) (O.seen o.new)
+        (λ notes. ReadFrames context.now.identity (connection_seen state.old reader.old.unread) notes result
+        (connection_seen state.new reader.new.unread)) }
 {
     match o.read(room) {
-        ReadTurn::Bytes(n) => take_bytes(o, party, state, reader, &room[..n]),
+        ReadTurn::Bytes(n) => feed(o, context, state, reader, &room[..n]),
         ReadTurn::Idle => Ok(()),
         ReadTurn::End => {
             state.phase = Phase::Down;
@@ -166,32 +167,32 @@ fn hear<O: Outside>(
 }
 
 // Takes what was read, and answers the frames that it completes.
-fn take_bytes<O: Outside>(
+fn feed<O: Outside>(
     o: &mut O,
-    party: &Party,
+    context: &Context,
     state: &mut State,
     reader: &mut Reader,
     bytes: &[u8],
 ) -> Result<(), Ending>
-    requires ready { IsReady party.now.identity (O.seen o.old) (Some state.old.last) state.old }
-    ensures ready { IsReady party.now.identity (O.seen o.new) (open_behind result state.new) state.new }
-    ensures notes { Goes (O.seen o.old) (O.seen o.new)
-        (λ notes. Fed party.now.identity bytes.now (live state.old reader.old.ahead) notes result
-        (live state.new reader.new.ahead)) }
+    requires ready { IsReady context.now.identity (O.seen o.old) (Some state.old.last) state.old }
+    ensures ready { IsReady context.now.identity (O.seen o.new) (open_behind result state.new) state.new }
+    ensures notes { HasTrace (O.seen o.old) (O.seen o.new)
+        (λ notes. Feed context.now.identity bytes.now (connection_seen state.old reader.old.unread) notes result
+        (connection_seen state.new reader.new.unread)) }
 {
     match reader.feed(bytes) {
-        Ok(()) => take_frames(o, party, state, reader),
+        Ok(()) => answer_frames(o, context, state, reader),
         Err(_) => Err(Ending::OutOfMemory),
     }
 }
 
-fn look<O: Outside>(o: &mut O, state: &mut State, reader: &Reader) -> Result<(), Ending>
+fn read_clock<O: Outside>(o: &mut O, state: &mut State, reader: &Reader) -> Result<(), Ending>
     requires range { IsInRange state.old }
     requires opens { (O.seen o.old).open_at ≡ Some state.old.last }
     ensures range { IsInRange state.new }
     ensures opens { (O.seen o.new).open_at ≡ open_behind result state.new }
-    ensures notes { Goes (O.seen o.old) (O.seen o.new)
-        (λ notes. Clocked (live state.old reader.now.ahead) notes result (live state.new reader.now.ahead)) }
+    ensures notes { HasTrace (O.seen o.old) (O.seen o.new)
+        (λ notes. ReadClock (connection_seen state.old reader.now.unread) notes result (connection_seen state.new reader.now.unread)) }
 {
     match o.now() {
         Ok(reading) => {
@@ -204,20 +205,20 @@ fn look<O: Outside>(o: &mut O, state: &mut State, reader: &Reader) -> Result<(),
 
 // Keeps the expected number where it is another than the one that is kept.
 #[tactic(auto, using(crate::proofs::Carrying::keepings))]
-fn keep_expected<O: Outside>(o: &mut O, state: &mut State, reader: &Reader) -> Result<(), Ending>
+fn store_expected<O: Outside>(o: &mut O, state: &mut State, reader: &Reader) -> Result<(), Ending>
     requires range { IsInRange state.old }
     requires opens { (O.seen o.old).open_at ≡ Some state.old.last }
     ensures range { IsInRange state.new }
     ensures opens { (O.seen o.new).open_at ≡ open_behind result state.new }
-    ensures notes { Goes (O.seen o.old) (O.seen o.new)
-        (λ notes. KeptExpected (live state.old reader.now.ahead) notes result (live state.new reader.now.ahead)) }
+    ensures notes { HasTrace (O.seen o.old) (O.seen o.new)
+        (λ notes. StoreExpected (connection_seen state.old reader.now.unread) notes result (connection_seen state.new reader.now.unread)) }
 {
-    if state.kept == state.expected {
+    if state.stored_expected == state.expected {
         return Ok(());
     }
     match o.keep(&Record::Expect(state.expected)) {
         Ok(()) => {
-            state.kept = state.expected;
+            state.stored_expected = state.expected;
             Ok(())
         }
         Err(KeepFault::Failed) => Err(Ending::StoreFault),

@@ -1,4 +1,5 @@
-//! The text of a message that a session writes: its header, and its own fields. `outbound` and `drafting` call this.
+//! The text of a message that a session writes: its header, and its own fields. `outbound` and `drafting`
+//! call this.
 ghost use Rattle.std.specs.Prelude.{◌≡◌, ◌≤◌, ◌++◌, IfOk, OnOk};
 ghost use Rattle.std.specs.Fmt.{decimal};
 ghost use Rattle.fix_base.specs.Payload.{field, LAST_TIME};

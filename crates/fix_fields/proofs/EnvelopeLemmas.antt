@@ -22,7 +22,7 @@ use Rattle.fix_base.proofs.FieldLists.{field_tag, no_plain}
 use Rattle.fix_base.proofs.Spans.{front_is}
 use Rattle.fix_fields.specs.Value.{IsDigitsOf}
 use Rattle.fix_fields.specs.Lined.{IsLineOf, HasLine}
-use Rattle.fix_fields.specs.Noted.{Firsts, firsts_with, no_firsts}
+use Rattle.fix_fields.specs.HeaderValues.{Firsts, firsts_with, no_firsts}
 use Rattle.fix_fields.specs.Header.{HasBegin, header_of_fields}
 
 no_soh_more : (byte : ℕ) (bytes : List ℕ) → byte ≢ 1 → HasNoSoh bytes → HasNoSoh (byte ∷ bytes)

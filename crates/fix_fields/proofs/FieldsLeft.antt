@@ -7,7 +7,7 @@ use Rattle.fix_base.specs.Fields.{Field, IsField, FieldsAfter, data_after}
 use Rattle.fix_base.specs.Shape.{Parts, HasShape}
 use Rattle.fix_base.specs.Says.{value_of, times_of, HasFields}
 use Rattle.fix_base.proofs.FieldLists.{field_same}
-use Rattle.fix_fields.specs.Noted.{Firsts, value_or, value_with, firsts_with, firsts_and, IsLeft}
+use Rattle.fix_fields.specs.HeaderValues.{Firsts, value_or, value_with, firsts_with, firsts_and, IsLeft}
 
 -- the fields are this one and those behind it
 pub record Taken (f : Field) (rest : List ℕ) (fs : List Field) : Type 0 where

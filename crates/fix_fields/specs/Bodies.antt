@@ -4,14 +4,14 @@ use Rattle.std.specs.List.{AllByRecursion}
 use Rattle.fix_base.specs.Fields.{Field, FieldsAfter}
 use Rattle.fix_base.specs.Payload.{IsEntryField, IsAppType, IsBodyOf}
 
--- the bytes are MsgType (35), which is neither empty nor administrative, and fields that may stand behind it
+-- the bytes are MsgType (35), which is neither empty nor administrative, and fields that may stand after it
 pub record IsEntryBody (body : List ℕ) : Type 0 where
   pub type : List ℕ
   pub rest : List Field
   pub named : type ≢ []
   pub is : IsBodyOf body type rest
 
--- the bytes are fields that may stand behind MsgType, after one that announces this data
+-- the bytes are fields that may stand after MsgType, after one that announces this data
 pub record HasEntryFields (due : Option (ℕ × ℕ)) (bytes : List ℕ) : Type 0 where
   pub list : List Field
   pub are : FieldsAfter due bytes list

@@ -1,5 +1,6 @@
 -- Which fields an application may send, and how those that it may not are refused.
-use Rattle.std.specs.Prelude.{◌≡◌, ℕ, ◌<◌, ◌≤◌, Bool, false, not, ◌&&◌, ◌==◌, if◌then◌else◌, List, [], ◌∷◌, ◌++◌, length, codes, Option, Some, None}
+use Rattle.std.specs.Prelude.{◌≡◌, ℕ, ◌<◌, ◌≤◌, Bool, false, not, ◌&&◌, ◌==◌, if◌then◌else◌, List, [], ◌∷◌, ◌++◌}
+use Rattle.std.specs.Prelude.{length, codes, Option, Some, None}
 use Rattle.std.specs.List.{list_any}
 use Rattle.fix_base.specs.Frame.{HasNoSoh}
 use Rattle.fix_base.specs.Tags.{is_data_tag, is_header_tag, is_engine_tag}
@@ -39,11 +40,11 @@ refusal_of due late f =
     else (if is_data_tag f.tag then (if is_due due f then None else Some (fault.LengthMismatch f.tag))
     else (if has_soh f.value then Some (fault.SohInValue f.tag) else None))))
 
--- why a field is refused behind these
+-- why a field is refused after these
 abbrev pub refusal : List Field → Field → Option DraftFault
 refusal before f = refusal_of (due_behind None before) (has_body_field before) f
 
--- none of the fields is refused, each behind these and those before it
+-- none of the fields is refused, each after these and those before it
 abbrev pub AreAccepted : List Field → List Field → Type 0
 AreAccepted before [] = Unit {0}
 AreAccepted before (f ∷ fs) = (refusal before f ≡ None) × AreAccepted (before ++ f ∷ []) fs
@@ -75,7 +76,8 @@ IsFirstFault kind fs (fault.HeaderOrder tag) = IsDraftKind kind × IsRefused fs 
 IsFirstFault kind fs (fault.EmptyValue tag) = IsDraftKind kind × IsRefused fs (fault.EmptyValue tag)
 IsFirstFault kind fs (fault.SohInValue tag) = IsDraftKind kind × IsRefused fs (fault.SohInValue tag)
 IsFirstFault kind fs (fault.LengthMismatch tag) = IsDraftKind kind × IsRefused fs (fault.LengthMismatch tag)
-IsFirstFault kind fs fault.TooLarge = IsDraftKind kind × AreAccepted [] fs × (LONGEST_BODY < length (body_with kind (fields_text fs)))
+IsFirstFault kind fs fault.TooLarge = IsDraftKind kind × AreAccepted [] fs
+    × (LONGEST_BODY < length (body_with kind (fields_text fs)))
 IsFirstFault kind fs fault.OutOfMemory = Unit {0}
 
 -- why a text isn't written into so many bytes

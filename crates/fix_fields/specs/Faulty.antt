@@ -23,14 +23,15 @@ pub record IsFaultAt (bytes : List ℕ) (place : ℕ) : Type 0 where
   pub none : (f : Field) (rest : List ℕ) → Begins (IsField (due_behind None before) f) (drop place bytes) rest → ⊥
 
 -- the bytes that are not read yet, and the data that the field before them speaks of
-pub record Unread : Type 0 where
+pub record FieldListSeen : Type 0 where
   pub due : Option (ℕ × ℕ)
   pub bytes : List ℕ
 
 -- these fields are left
-abbrev pub AreLeft : Unread → List Field → Type 0
+abbrev pub AreLeft : FieldListSeen → List Field → Type 0
 AreLeft u fs = FieldsAfter u.due u.bytes fs
 
 -- of the fields that are left the first is given, and the others are left; at None there was none
-abbrev pub TakesField : Unread → Option FieldRef → Unread → Type 0
-TakesField u r v = (fs : List Field) → AreLeft u fs → MatchOption r (fs ≡ []) (λ x. (left : List Field) × (fs ≡ field_of x ∷ left) × AreLeft v left)
+abbrev pub TakesField : FieldListSeen → Option FieldRef → FieldListSeen → Type 0
+TakesField u r v = (fs : List Field) → AreLeft u fs
+    → MatchOption r (fs ≡ []) (λ x. (left : List Field) × (fs ≡ field_of x ∷ left) × AreLeft v left)

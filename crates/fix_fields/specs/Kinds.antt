@@ -3,7 +3,8 @@ use Rattle.std.specs.Prelude.{◌≡◌, ◌≢◌, ℕ, ℤ, Bool, List, []}
 use Rattle.fix_base.specs.Times.{IsUtcTimestamp}
 use Rattle.fix_fields.specs.declared.kind.ValueKind.{ValueKind}
 use Rattle.fix_fields.specs.declared.kind.ValueKind.TheVariants as kind
-use Rattle.fix_fields.specs.Value.{IsInt, boolean_text, IsPrice, IsCount, IsChar, IsDate, IsMonthYear, IsTimeOfDay, IsDayOfMonth}
+use Rattle.fix_fields.specs.Value.{IsInt, boolean_text, IsPrice, IsCount, IsChar, IsDate, IsMonthYear, IsTimeOfDay}
+use Rattle.fix_fields.specs.Value.{IsDayOfMonth}
 
 abbrev pub IsValueOf : ValueKind → List ℕ → Type 0
 IsValueOf kind.Int value = (number : ℤ) × IsInt value number

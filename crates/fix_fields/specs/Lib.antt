@@ -5,7 +5,7 @@ pub mod Kinds
 pub mod Timed
 pub mod Faulty
 pub mod Lined
-pub mod Noted
+pub mod HeaderValues
 pub mod Header
 pub mod Bodies
 pub mod Drafts

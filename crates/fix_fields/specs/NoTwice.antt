@@ -19,4 +19,5 @@ abbrev pub HasNoTwice : Shapes → Type 0
 HasNoTwice no_more = Unit {0}
 HasNoTwice (plain t r ms) = (has_tag t ms ≡ false) × HasNoTwice ms
 HasNoTwice (group c r inner ms) =
-    (has_tag c inner ≡ false) × (has_tag c ms ≡ false) × ((u : ℕ) → has_tag u inner ≡ true → has_tag u ms ≡ false) × IsLed inner × HasNoTwice inner × HasNoTwice ms
+    (has_tag c inner ≡ false) × (has_tag c ms ≡ false) × ((u : ℕ) → has_tag u inner ≡ true → has_tag u ms ≡ false)
+    × IsLed inner × HasNoTwice inner × HasNoTwice ms

@@ -21,7 +21,7 @@ pub record IsWeek (text : List ℕ) : Type 0 where
   pub last : number ≤ 5
   pub is : text ≡ (48 + number) ∷ []
 
--- what stands behind a month and is no day: nothing, or a week
+-- what stands after a month and is no day: nothing, or a week
 pub data IsNoDay (rest : List ℕ) : Type 0 where
   none : rest ≡ [] → IsNoDay rest
   week : (week : List ℕ) → rest ≡ 119 ∷ week → IsWeek week → IsNoDay rest

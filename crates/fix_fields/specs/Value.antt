@@ -1,10 +1,11 @@
 -- What the values of fields say (FIX, "Data Types").
-use Rattle.std.specs.Prelude.{◌≡◌, ◌≢◌, ℕ, ◌+◌, ◌^◌, ◌<◌, ◌≤◌, ◌⊎◌, Bool, true, false, List, [], ◌∷◌, ◌++◌, length, codes, ℤ, pos, neg_ℤ}
+use Rattle.std.specs.Prelude.{◌≡◌, ◌≢◌, ℕ, ◌+◌, ◌^◌, ◌<◌, ◌≤◌, ◌⊎◌, Bool, true, false, List, [], ◌∷◌, ◌++◌, length}
+use Rattle.std.specs.Prelude.{codes, ℤ, pos, neg_ℤ}
 use Rattle.std.specs.Str.Parse.{digits_value, AllDigits}
 use Rattle.jiff_core.specs.Calendar.{IsCivilDate}
 use Rattle.fix_base.specs.Times.{two_digits, four_digits, fraction_text, IsFractionLength}
 
--- digits of a number below 10^15: behind leading zeros there are at most 15
+-- digits of a number below 10^15: after leading zeros there are at most 15
 pub record IsDigitsOf (number : ℕ) (value : List ℕ) : Type 0 where
   pub digits : AllDigits 10 value
   pub some : 0 < length value
@@ -14,7 +15,8 @@ pub record IsDigitsOf (number : ℕ) (value : List ℕ) : Type 0 where
 -- an `int`: digits, before which a minus may stand
 pub data IsInt (value : List ℕ) (number : ℤ) : Type 0 where
   plain : (size : ℕ) → IsDigitsOf size value → number ≡ pos size → IsInt value number
-  minus : (size : ℕ) (digits : List ℕ) → value ≡ 45 ∷ digits → IsDigitsOf size digits → number ≡ neg_ℤ (pos size) → IsInt value number
+  minus : (size : ℕ) (digits : List ℕ) → value ≡ 45 ∷ digits → IsDigitsOf size digits → number ≡ neg_ℤ (pos size)
+      → IsInt value number
 
 -- a `Boolean`
 abbrev pub boolean_text : Bool → List ℕ
@@ -22,7 +24,7 @@ boolean_text true = codes "Y"
 boolean_text false = codes "N"
 
 -- digits, and among them at most one point, which may stand anywhere: the point passed over, there
--- are at most 15 behind leading zeros
+-- are at most 15 after leading zeros
 pub record IsAmount (value : List ℕ) : Type 0 where
   pub whole : List ℕ
   pub fraction : List ℕ
@@ -82,7 +84,8 @@ pub record IsTimeOfDay (value : List ℕ) : Type 0 where
   pub second_most : second ≤ 60
   pub digits : AllDigits 10 fraction
   pub many : IsFractionLength (length fraction)
-  pub spelled : value ≡ two_digits hour ++ 58 ∷ [] ++ two_digits minute ++ 58 ∷ [] ++ two_digits second ++ fraction_text fraction
+  pub spelled : value ≡ two_digits hour ++ 58 ∷ [] ++ two_digits minute ++ 58 ∷ [] ++ two_digits second
+      ++ fraction_text fraction
 
 -- a `day-of-month`: 1 to 31 in one or two digits
 pub record IsDayOfMonth (value : List ℕ) : Type 0 where

@@ -1,3 +1,5 @@
+//! Whether bytes may be kept as the body of an application message. `fix_store` asks this of each body
+//! that it reads from a journal.
 ghost use Rattle.std.specs.Prelude.{◌↔◌, None, IsTrue};
 ghost use Rattle.fix_base.specs.Payload.{IsEntryField};
 ghost use Rattle.fix_fields.specs.Bodies.{IsEntryBody, HasEntryFields, IsTypeField};
@@ -6,9 +8,7 @@ ghost use Rattle.fix_fields.specs.Lent.{field_of};
 use crate::judging::is_app_type;
 use crate::reading::is_session_field;
 use crate::{FieldRef, due_after, field_at, is_body_field};
-
-/// MsgType (35).
-const MSG_TYPE: u32 = 35;
+use fix_base::tags::MSG_TYPE;
 
 /// Whether the bytes may be kept as the body of an application message: a list of fields, of which
 /// the first is a MsgType (35) that is neither empty nor administrative, and none of the others has
@@ -36,7 +36,7 @@ fn is_type_field(field: &FieldRef<'_>) -> bool
     is_app_type(field.value)
 }
 
-// Whether the field may stand behind the MsgType (35).
+// Whether the field may stand after the MsgType (35).
 fn is_entry_field(field: &FieldRef<'_>) -> bool
     ensures { IsTrue result ↔ IsEntryField (field_of field.now) }
 {
@@ -49,7 +49,7 @@ fn is_entry_field(field: &FieldRef<'_>) -> bool
     !is_session_field(field)
 }
 
-// Whether the bytes are fields that may stand behind the MsgType (35).
+// Whether the bytes are fields that may stand after the MsgType (35).
 fn are_entry_fields(bytes: &[u8]) -> bool
     ensures { IsTrue result ↔ HasEntryFields None bytes.now }
 {

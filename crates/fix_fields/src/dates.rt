@@ -1,3 +1,5 @@
+//! The values that are dates, months, days of a month and times of day. `kind` calls this for each of
+//! these data types.
 ghost use Rattle.std.specs.Prelude.{◌≡◌, ◌↔◌, ℕ, ◌+◌, ◌≤◌, List, [], ◌∷◌, IsTrue, MatchOption};
 ghost use Rattle.fix_fields.specs.Value.{IsDate, HasMonth, IsMonthYear, IsTimeOfDay, IsDayOfMonth};
 ghost use Rattle.fix_fields.specs.Parts.{IsNoDay, IsWeek};
@@ -17,44 +19,6 @@ pub fn month_year(value: &[u8]) -> bool
         Some(rest) => is_no_day(rest),
         None => false,
     }
-}
-
-// Nothing, or a week of the month.
-fn is_no_day(rest: &[u8]) -> bool
-    ensures { IsTrue result ↔ IsNoDay rest.now }
-{
-    if rest.is_empty() {
-        return true;
-    }
-    match sign_at(rest, b'w') {
-        Some(week) => is_week(week),
-        None => false,
-    }
-}
-
-// A week of a month: 1 to 5.
-fn is_week(week: &[u8]) -> bool
-    ensures { IsTrue result ↔ IsWeek week.now }
-{
-    match week {
-        [digit] => *digit >= b'1' && *digit <= b'5',
-        _ => false,
-    }
-}
-
-// What stands behind a month that exists.
-fn behind_month(bytes: &[u8]) -> Option<&[u8]>
-    ensures { MatchOption result
-        ((rest : List ℕ) → HasMonth bytes.now rest → ⊥)
-        (λ rest. HasMonth bytes.now rest.now) }
-{
-    let (_century, rest) = two_at(bytes)?;
-    let (_of_century, rest) = two_at(rest)?;
-    let (month, rest) = two_at(rest)?;
-    if month < 1 || month > 12 {
-        return None;
-    }
-    Some(rest)
 }
 
 // A day that exists, as `YYYYMMDD`.
@@ -88,4 +52,42 @@ pub fn is_day_of_month(value: &[u8]) -> bool
         Some(number) => 1 <= number && number <= 31,
         None => false,
     }
+}
+
+// Nothing, or a week of the month.
+fn is_no_day(rest: &[u8]) -> bool
+    ensures { IsTrue result ↔ IsNoDay rest.now }
+{
+    if rest.is_empty() {
+        return true;
+    }
+    match sign_at(rest, b'w') {
+        Some(week) => is_week(week),
+        None => false,
+    }
+}
+
+// A week of a month: 1 to 5.
+fn is_week(week: &[u8]) -> bool
+    ensures { IsTrue result ↔ IsWeek week.now }
+{
+    match week {
+        [digit] => *digit >= b'1' && *digit <= b'5',
+        _ => false,
+    }
+}
+
+// What stands after a month that exists.
+fn behind_month(bytes: &[u8]) -> Option<&[u8]>
+    ensures { MatchOption result
+        ((rest : List ℕ) → HasMonth bytes.now rest → ⊥)
+        (λ rest. HasMonth bytes.now rest.now) }
+{
+    let (_century, rest) = two_at(bytes)?;
+    let (_of_century, rest) = two_at(rest)?;
+    let (month, rest) = two_at(rest)?;
+    if month < 1 || month > 12 {
+        return None;
+    }
+    Some(rest)
 }

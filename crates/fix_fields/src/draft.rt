@@ -1,3 +1,5 @@
+//! Makes a draft of a MsgType (35) and fields: `judging` looks at them first, and then they are written.
+//! An application calls this, and `fix_engine` sends what it made.
 ghost use Rattle.std.specs.Prelude.{◌≡◌, ◌-◌, ◌<◌, ◌≤◌, length, map, IfOk, IfErr};
 ghost use Rattle.fix_base.specs.Says.{fields_text};
 ghost use Rattle.fix_fields.specs.Drafts.{MayBeDraft, IsFirstFault, IsRoomFault};
@@ -37,7 +39,7 @@ impl Model for Draft {
 }
 
 impl Draft {
-    /// The draft of a MsgType (35) and the fields behind it, or the first refusal: of the kind, of
+    /// The draft of a MsgType (35) and the fields after it, or the first refusal: of the kind, of
     /// the fields in order, each for the first cause in the order of `DraftFault`, then of the
     /// whole. The fields stay as they are. It looks at each byte once and writes it once.
     pub fn new(alloc: Global, kind: &[u8], fields: &DraftFields) -> Result<Draft, DraftFault>

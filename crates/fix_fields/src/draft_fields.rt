@@ -1,3 +1,4 @@
+//! Collects the fields of a draft one by one. An application fills this, and `draft` and `judging` read it.
 ghost use Rattle.std.specs.Prelude.{◌≡◌, List, [], ◌∷◌, ◌++◌, map, OnOk, OnErr};
 ghost use Rattle.fix_base.specs.Payload.{field};
 ghost use Rattle.fix_fields.specs.Drafted.{given};
@@ -40,7 +41,7 @@ impl DraftFields {
         }
     }
 
-    /// One more field behind those that are there. Where memory is refused, they stay as they are.
+    /// One more field after those that are there. Where it is out of memory, they stay as they are.
     pub fn push(&mut self, tag: Tag, value: &[u8]) -> Result<(), OutOfMemory>
         ensures ok { OnOk result (self.new ≡ self.old ++ field tag value.now ∷ []) }
         ensures err { OnErr result (self.new ≡ self.old) }

@@ -1,3 +1,4 @@
+//! The texts of a draft, and each refusal but out of memory.
 use crate::{Draft, DraftFault, DraftFields};
 use fix_base::{OutOfMemory, Tag};
 use std::alloc::Global;

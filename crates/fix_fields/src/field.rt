@@ -1,3 +1,5 @@
+//! Reads one field: `tag` reads its tag, and `value` its value. The loops over a list of fields call this,
+//! here and in `fix_validate`.
 ghost use Rattle.std.specs.Prelude.{◌≡◌, ◌↔◌, IsTrue, List, ℕ, MatchOption};
 ghost use Rattle.fix_base.specs.Front.{Begins};
 ghost use Rattle.fix_base.specs.Fields.{Field, IsField, data_after};
@@ -15,7 +17,7 @@ pub struct FieldRef<'a> {
     pub value: &'a [u8],
 }
 
-/// The field at the front, and the bytes behind it. `due` is the tag and the length of the data
+/// The field at the front, and the bytes after it. `due` is the tag and the length of the data
 /// that the field before it speaks of.
 pub fn field_at(bytes: &[u8], due: Option<(u32, usize)>) -> Option<(FieldRef<'_>, &[u8])>
     ensures { MatchOption result

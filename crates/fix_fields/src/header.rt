@@ -1,3 +1,5 @@
+//! The header of a frame, as far as a session looks at it. `reading` fills it, and `fix_engine` and
+//! `fix_machine` decide on it.
 use fix_base::SeqNum;
 
 /// The header of a message: of each tag the first value.

@@ -1,3 +1,4 @@
+//! Why a MsgType (35) or a field makes no draft. `draft` calls this before it writes the fields.
 ghost use Rattle.std.specs.Prelude.{◌≡◌, ◌↔◌, [], ◌&&◌, ◌||◌, not, if◌then◌else◌, Some, None, IsTrue, map, MatchOption};
 ghost use Rattle.fix_fields.specs.declared.judging.DraftFault.TheVariants.{LengthMismatch};
 ghost use Rattle.fix_base.specs.Payload.{IsAppType};
@@ -23,7 +24,7 @@ pub enum DraftFault {
     BadKind,
     /// Only the engine writes this tag.
     ReservedTag(Tag),
-    /// A tag of the header stands behind a field that isn't of the header.
+    /// A tag of the header stands after a field that isn't of the header.
     HeaderOrder(Tag),
     /// The value is empty.
     EmptyValue(Tag),
@@ -34,7 +35,7 @@ pub enum DraftFault {
     LengthMismatch(Tag),
     /// The body would pass 1,048,064 bytes.
     TooLarge,
-    /// Memory was refused.
+    /// Out of memory.
     OutOfMemory,
 }
 
@@ -107,7 +108,7 @@ fn refused(field: &FieldRef<'_>, due: Option<(u32, usize)>, late: bool) -> Optio
     None
 }
 
-// Whether a tag of the header stands behind a field that isn't of the header.
+// Whether a tag of the header stands after a field that isn't of the header.
 fn is_misplaced(tag: Tag, late: bool) -> bool
     ensures { result ≡ (tags.is_header_tag tag && late) }
 {
@@ -123,7 +124,8 @@ fn is_late(late: bool, tag: Tag) -> bool
 
 // Data that the field before it doesn't announce.
 fn mismatch(field: &FieldRef<'_>, due: Option<(u32, usize)>) -> Option<DraftFault>
-    ensures { result ≡ (if drafts.is_due due (field_of field.now) then None else Some (LengthMismatch (field_of field.now).tag)) }
+    ensures { result
+        ≡ (if drafts.is_due due (field_of field.now) then None else Some (LengthMismatch (field_of field.now).tag)) }
 {
     if is_due(field, due) {
         None

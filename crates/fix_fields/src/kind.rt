@@ -1,3 +1,5 @@
+//! The data types of FIX 4.4, and whether a value is one of them. `fix_dict` names the type of each field,
+//! and `fix_validate` checks its values by this.
 ghost use Rattle.std.specs.Prelude.{◌≡◌, ◌≢◌, ◌↔◌, ℕ, [], IsTrue};
 ghost use Rattle.fix_fields.specs.Value.{IsCount, IsChar};
 ghost use Rattle.fix_fields.specs.Kinds.{IsValueOf};
@@ -13,13 +15,13 @@ const MOST_COUNT_DIGITS: usize = 9;
 /// What the values of a field are: the data types of FIX 4.4.
 #[derive(Clone, Copy, Debug, PartialEq, Eq)]
 pub enum ValueKind {
-    /// `int`: digits, before which a minus may stand, at most 15 behind leading zeros.
+    /// `int`: digits, before which a minus may stand, at most 15 after leading zeros.
     Int,
     /// `Length`: one to nine digits, as the two below.
     Length,
     NumInGroup,
     SeqNum,
-    /// `Price`: digits with at most one point, before which a minus may stand, at most 15 behind
+    /// `Price`: digits with at most one point, before which a minus may stand, at most 15 after
     /// leading zeros, as the five below.
     Price,
     Qty,

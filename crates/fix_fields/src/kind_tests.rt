@@ -1,3 +1,4 @@
+//! For each data type the values that it accepts, and those that it refuses.
 use crate::{ValueKind as Kind, is_kind, month_year, price_text};
 
 fn accepts(kind: Kind, texts: &[&[u8]]) -> bool {

@@ -1,3 +1,5 @@
+//! Which fields and repeating groups a message has. `fix_dict` builds this, and `fix_groups` and
+//! `fix_validate` read messages by it.
 use fix_base::Tag;
 use std::marker::Model;
 

@@ -12,6 +12,7 @@ mod draft_laws;
 mod draft_tests;
 mod field;
 mod header;
+mod header_values;
 mod judging;
 mod kind;
 #[cfg(test)]
@@ -19,7 +20,6 @@ mod kind_tests;
 mod layout;
 mod lines;
 mod list;
-mod noted;
 mod number;
 mod price;
 mod reading;

@@ -1,3 +1,4 @@
+//! Takes a frame apart into its BeginString (8) and the bytes of its fields. `reading` calls this.
 ghost use Rattle.std.specs.Prelude.{◌≡◌};
 ghost use Rattle.fix_base.specs.Shape.{Parts, HasShape, IsFrame};
 ghost use Rattle.fix_fields.specs.Lined.{HasLine, IsLineOf};
@@ -8,7 +9,7 @@ use crate::soh_at;
 // The length of `10=` with its three digits and its SOH.
 const TRAILER: usize = 7;
 
-/// The bytes of a frame's fields: those behind the SOH of BodyLength (9) and before CheckSum (10).
+/// The bytes of a frame's fields: those after the SOH of BodyLength (9) and before CheckSum (10).
 pub fn body_fields(frame: &[u8]) -> &[u8]
     requires { IsFrame frame.now }
     ensures { (parts : Parts) → HasShape parts frame.now → result.now ≡ parts.body }
@@ -28,7 +29,7 @@ pub fn parts_of(frame: &[u8]) -> (&[u8], &[u8])
     (&first[2..], &rest[..rest.len() - TRAILER])
 }
 
-// What stands before the first SOH, and behind it.
+// What stands before the first SOH, and after it.
 fn line_of(bytes: &[u8]) -> (&[u8], &[u8])
     requires { HasLine bytes.now }
     ensures { IsLineOf bytes.now result.0.now result.1.now }

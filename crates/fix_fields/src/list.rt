@@ -1,3 +1,5 @@
+//! The fields of bytes one after the other, or the place of what is no field. `fix_groups` splits such a
+//! list into groups.
 ghost use Rattle.std.specs.Prelude.{◌≡◌, ◌↔◌, None, IsOk, IfOk, IfErr};
 ghost use Rattle.fix_fields.specs.Faulty.{IsListed, IsFaultAt};
 
@@ -21,9 +23,9 @@ pub struct FieldList<'a> {
 }
 
 impl<'a> Model for FieldList<'a> {
-    ghost use Rattle.fix_fields.specs.Faulty.{Unread};
+    ghost use Rattle.fix_fields.specs.Faulty.{FieldListSeen};
 
-    ghost Value = { Unread };
+    ghost Value = { FieldListSeen };
 
     ghost view = { λ s. record { due = s.due; bytes = s.rest.now } };
 }

@@ -1,3 +1,5 @@
+//! Reads digits, and the values of an `int` and of a `Boolean`. The other readers of values call this, and
+//! so do `fix_engine` and `fix_admin`.
 ghost use Rattle.std.specs.Prelude.{◌≡◌, ℕ, ◌^◌, ◌<◌, List, ◌∷◌, Bool, MatchOption, IfSome, Some, ℤ};
 ghost use Rattle.fix_fields.specs.Value.{IsDigitsOf, IsInt, boolean_text};
 ghost use Rattle.fix_fields.specs.Parts.{IsDigitsAfter};
@@ -6,7 +8,7 @@ ghost use Rattle.fix_fields.specs.Parts.{IsDigitsAfter};
 const SIZES: u64 = 1_000_000_000_000_000;
 
 /// The number of an `int` (FIX, "Data Types"), or None where the value is none: digits, before
-/// which a minus may stand, at most 15 of them behind leading zeros.
+/// which a minus may stand, at most 15 of them after leading zeros.
 pub fn int(value: &[u8]) -> Option<i64>
     ensures known { IfSome result (λ number. IsInt value.now number) }
     ensures each { (number : ℤ) → IsInt value.now number → result ≡ Some number }
@@ -35,7 +37,7 @@ pub fn boolean(value: &[u8]) -> Option<bool>
     }
 }
 
-// What stands behind a sign.
+// What stands after a sign.
 pub fn sign_at(bytes: &[u8], sign: u8) -> Option<&[u8]>
     ensures { MatchOption result
         ((rest : List ℕ) → bytes.now ≡ sign ∷ rest → ⊥)

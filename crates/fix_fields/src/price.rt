@@ -1,3 +1,4 @@
+//! Whether a value is a decimal number. `kind` calls this for prices, quantities and the like.
 ghost use Rattle.std.specs.Prelude.{◌≡◌, ◌↔◌, ◌<◌, ◌∷◌, ◌++◌, length, take, slice_index, IsTrue, MatchOption};
 ghost use Rattle.fix_fields.specs.Value.{IsAmount, IsPrice};
 ghost use Rattle.fix_fields.specs.Parts.{AreDigits, HasNoPoint};
@@ -6,7 +7,7 @@ use crate::number::{digits_after, sign_at};
 
 /// Whether the value is one of a `Price`, `Qty`, `Amt`, `PriceOffset`, `Percentage` or `float` (FIX,
 /// "Data Types"): digits, among which one point may stand and before which a minus may, at most 15
-/// behind leading zeros. A price stays text: it is neither rounded nor written anew.
+/// after leading zeros. A price stays text: it is neither rounded nor written anew.
 pub fn price_text(value: &[u8]) -> bool
     ensures { IsTrue result ↔ IsPrice value.now }
 {
@@ -26,7 +27,7 @@ fn is_amount(value: &[u8]) -> bool
     }
 }
 
-// What stands before the first point, and behind it.
+// What stands before the first point, and after it.
 fn parts_of(value: &[u8]) -> Option<(&[u8], &[u8])>
     ensures { MatchOption result
         (HasNoPoint value.now)

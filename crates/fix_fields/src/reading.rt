@@ -1,3 +1,5 @@
+//! Reads the fields of a frame: its header, one value, or its body. `fix_engine` calls these for a frame
+//! that came, and `fix_admin` calls `first_value`.
 ghost use Rattle.std.specs.Prelude.{◌≡◌, ◌++◌, ◌==◌, List, [], Option, None, IfOk, OnOk, option_map, if◌then◌else◌};
 ghost use Rattle.fix_base.specs.Fields.{Field};
 ghost use Rattle.fix_base.specs.Shape.{IsFrame};
@@ -7,8 +9,8 @@ ghost use Rattle.fix_base.specs.Says as says;
 ghost use Rattle.fix_fields.specs.Lent.{field_of};
 ghost use Rattle.fix_fields.specs.Header.{HasBegin, header_of, header_of_fields};
 
+use crate::header_values::HeaderValues;
 use crate::lines::{body_fields, parts_of};
-use crate::noted::Noted;
 use crate::number::digits_of;
 use crate::{Envelope, FieldRef, due_after, field_at};
 use fix_base::{Bytes, OutOfMemory, SESSION_TAGS, SeqNum};
@@ -18,10 +20,11 @@ use std::alloc::{AllocError, Global};
 pub fn envelope<'a>(frame: &'a [u8]) -> Envelope<'a>
     requires { IsFrame frame.now }
     ensures begin { HasBegin frame.now result.begin.now }
-    ensures fields { (fs : List Field) → HasFields frame.now fs → header_of result ≡ header_of_fields result.begin.now fs }
+    ensures fields { (fs : List Field) → HasFields frame.now fs → header_of result
+        ≡ header_of_fields result.begin.now fs }
 {
     let (begin, body) = parts_of(frame);
-    let noted = Noted::of(body);
+    let noted = HeaderValues::of(body);
     Envelope {
         begin,
         kind: noted.kind.unwrap(),
@@ -75,21 +78,22 @@ pub fn body_of(alloc: Global, frame: &[u8]) -> Result<Bytes, OutOfMemory>
     Ok(Bytes::from_vec(body))
 }
 
-// The text of a field behind the body, unless the engine writes the field itself.
-fn keep(body: &mut Vec<u8>, field: &FieldRef<'_>, text: &[u8]) -> Result<(), AllocError>
-    ensures { OnOk result (body.new.items ≡ body.old.items ++ (if is_session_tag (field_of field.now).tag then [] else text.now)) }
-{
-    if !is_session_field(field) {
-        body.extend_from_slice(text)?;
-    }
-    Ok(())
-}
-
 pub(crate) fn is_session_field(field: &FieldRef<'_>) -> bool
     ensures { result ≡ is_session_tag (field_of field.now).tag }
 {
     let tag = field.tag.get();
     SESSION_TAGS.iter().any(|t| *t == tag)
+}
+
+// The text of a field after the body, unless the engine writes the field itself.
+fn keep(body: &mut Vec<u8>, field: &FieldRef<'_>, text: &[u8]) -> Result<(), AllocError>
+    ensures { OnOk result (body.new.items ≡ body.old.items
+        ++ (if is_session_tag (field_of field.now).tag then [] else text.now)) }
+{
+    if !is_session_field(field) {
+        body.extend_from_slice(text)?;
+    }
+    Ok(())
 }
 
 // The MsgSeqNum (34) of this value, which stands there so many times.

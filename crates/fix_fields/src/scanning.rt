@@ -1,10 +1,12 @@
+//! Whether a text is at the front of bytes, which `fix_frame` asks. Where the first SOH is, which `value`,
+//! `lines` and `judging` ask.
 ghost use Rattle.std.specs.Prelude.{◌≡◌, ◌<◌, ◌≤◌, ℕ, length, take, slice_index, MatchOption};
 ghost use Rattle.fix_base.specs.Front.{Scans};
 ghost use Rattle.fix_base.specs.Frame.{HasNoSoh, IsText};
 
 use fix_base::{NoMatch, SOH};
 
-/// The bytes behind the text, or why it does not stand at the front.
+/// The bytes after the text, or why it does not stand at the front.
 pub fn after_text<'a>(bytes: &'a [u8], text: &[u8]) -> Result<&'a [u8], NoMatch>
     ensures { Scans (λ rest. rest.now) (IsText text.now) bytes.now result }
 {

@@ -1,3 +1,5 @@
+//! Reads a tag, and tells of which sort it is. `field` and `judging` call this, and `fix_validate` asks
+//! whether a tag is one of the header or the trailer.
 ghost use Rattle.std.specs.Prelude.{◌≡◌, ℕ, List, MatchOption};
 ghost use Rattle.fix_base.specs.Front.{Begins};
 ghost use Rattle.fix_base.specs.Fields.{IsTag};
@@ -12,7 +14,7 @@ const MOST_DIGITS: usize = 9;
 /// The least tag that counts the bytes of a data field.
 const LEAST_LENGTH_TAG: u32 = 90;
 
-/// The tag at the front, and the bytes behind its `=`. A tag is 1 to 999,999,999 without a
+/// The tag at the front, and the bytes after its `=`. A tag is 1 to 999,999,999 without a
 /// leading zero.
 pub fn tag_at(bytes: &[u8]) -> Option<(u32, &[u8])>
     ensures { MatchOption result

@@ -1,3 +1,4 @@
+//! Times, numbers and flags, the place of a fault in a list of fields, and a layout with a group.
 use crate::{FieldFault, Layout, Member, boolean, fields, int, time_text, utc_time};
 use fix_base::{OutOfMemory, Precision, Tag};
 

@@ -5,7 +5,8 @@ ghost use Rattle.fix_base.specs.Times.{cut_to, IsPrecision, IsTimeText, IsTimeTe
 
 /// What was written is read as the time, cut to the digits that were written.
 pub fn a_written_time_is_read()
-    ensures { (digits time : ℕ) (text : List ℕ) → IsPrecision digits → IsTimeTextOf digits time text → IsUtcTimestamp text (pos (cut_to digits time)) }
+    ensures { (digits time : ℕ) (text : List ℕ) → IsPrecision digits → IsTimeTextOf digits time text
+        → IsUtcTimestamp text (pos (cut_to digits time)) }
 {}
 
 /// A UTCTimestamp says one time.

@@ -1,3 +1,5 @@
+//! Reads a UTCTimestamp as a time, and writes a time as one. `kind`, `fix_engine` and `fix_machine` call
+//! this, and `dates` calls its parts.
 ghost use Rattle.std.specs.Prelude.{◌≡◌, ℕ, ◌+◌, ◌/◌, ◌%◌, ◌<◌, ◌≤◌, List, [], ◌∷◌, ◌++◌, MatchOption, IfSome, Some, ℤ};
 ghost use Rattle.jiff_core.specs.Calendar.{IsEpochDay};
 ghost use Rattle.fix_base.specs.Payload.{LAST_TIME};
@@ -8,22 +10,6 @@ use crate::number::{digits_of, sign_at};
 use fix_base::Precision;
 use jiff_core::civil::Date;
 use std::marker::Model;
-
-/// The time that a UTCTimestamp says, in microseconds since 1970-01-01 00:00:00 UTC, or None where
-/// the value is none (FIX, "Data Types", `UTCTimestamp`). It is `YYYYMMDD-HH:MM:SS`, or that with a
-/// point and three, six or nine digits, of which those behind the sixth are cut off. The day
-/// exists; second 60, which any minute may have, is the second that follows second 59.
-pub fn utc_time(value: &[u8]) -> Option<i64>
-    ensures known { IfSome result (λ time. IsUtcTimestamp value.now time) }
-    ensures each { (time : ℤ) → IsUtcTimestamp value.now time → result ≡ Some time }
-{
-    let (day, rest) = day_at(value)?;
-    let rest = sign_at(rest, b'-')?;
-    let (second, rest) = clock_at(rest)?;
-    let micros = fraction_of(rest)?;
-    // the day's number and the second of the day, so that second 60 of the last day works too
-    Some((i64::from(day) * 86_400 + i64::from(second)) * 1_000_000 + micros as i64)
-}
 
 /// A time as text. Contracts see it as its bytes.
 #[derive(Debug, Drop)]
@@ -50,6 +36,22 @@ impl TimeText {
     }
 }
 
+/// The time that a UTCTimestamp says, in microseconds since 1970-01-01 00:00:00 UTC, or None where
+/// the value is none (FIX, "Data Types", `UTCTimestamp`). It is `YYYYMMDD-HH:MM:SS`, or that with a
+/// point and three, six or nine digits, of which those after the sixth are cut off. The day
+/// exists; second 60, which any minute may have, is the second that follows second 59.
+pub fn utc_time(value: &[u8]) -> Option<i64>
+    ensures known { IfSome result (λ time. IsUtcTimestamp value.now time) }
+    ensures each { (time : ℤ) → IsUtcTimestamp value.now time → result ≡ Some time }
+{
+    let (day, rest) = day_at(value)?;
+    let rest = sign_at(rest, b'-')?;
+    let (second, rest) = clock_at(rest)?;
+    let micros = fraction_of(rest)?;
+    // the day's number and the second of the day, so that second 60 of the last day works too
+    Some((i64::from(day) * 86_400 + i64::from(second)) * 1_000_000 + micros as i64)
+}
+
 /// The text of a time (microseconds since 1970, up to the end of 2099) as a UTCTimestamp of this
 /// precision; the digits beyond it are cut off.
 pub fn time_text(time: u64, precision: Precision) -> TimeText
@@ -73,61 +75,6 @@ pub fn time_text(time: u64, precision: Precision) -> TimeText
         Precision::Millis => TimeText { bytes, length: 21 },
         Precision::Micros => TimeText { bytes, length: 24 },
     }
-}
-
-// The text in full: the day, the second of the day, and the microseconds of the second.
-fn spelled(year: u32, month: u32, day: u32, second: u32, micros: u32) -> [u8; 24]
-    requires year_in { year < 10000 }
-    requires month_in { month < 100 }
-    requires day_in { day < 100 }
-    requires second_in { second < 86400 }
-    requires micros_in { micros < 1000000 }
-    ensures { result ≡ four_digits year ++ two_digits month ++ two_digits day ++ 45 ∷ [] ++ two_digits (second / 3600) ++ 58 ∷ [] ++ two_digits (second / 60 % 60) ++ 58 ∷ [] ++ two_digits (second % 60) ++ 46 ∷ [] ++ two_digits (micros / 10000) ++ four_digits (micros % 10000) }
-{
-    let (hour, minute, second) = (second / 3600, second / 60 % 60, second % 60);
-    let (high, low) = (micros / 10000, micros % 10000);
-    [
-        tens(year / 100),
-        ones(year / 100),
-        tens(year % 100),
-        ones(year % 100),
-        tens(month),
-        ones(month),
-        tens(day),
-        ones(day),
-        b'-',
-        tens(hour),
-        ones(hour),
-        b':',
-        tens(minute),
-        ones(minute),
-        b':',
-        tens(second),
-        ones(second),
-        b'.',
-        tens(high),
-        ones(high),
-        tens(low / 100),
-        ones(low / 100),
-        tens(low % 100),
-        ones(low % 100),
-    ]
-}
-
-// The first digit of two.
-fn tens(number: u32) -> u8
-    requires { number < 100 }
-    ensures { result ≡ 48 + number / 10 }
-{
-    b'0' + (number / 10) as u8
-}
-
-// The second digit of two.
-fn ones(number: u32) -> u8
-    requires { number < 100 }
-    ensures { result ≡ 48 + number % 10 }
-{
-    b'0' + (number % 10) as u8
 }
 
 pub fn two_at(bytes: &[u8]) -> Option<(u8, &[u8])>
@@ -199,4 +146,61 @@ pub fn fraction_of(bytes: &[u8]) -> Option<u64>
         9 => Some(number / 1000),
         _ => None,
     }
+}
+
+// The text in full: the day, the second of the day, and the microseconds of the second.
+fn spelled(year: u32, month: u32, day: u32, second: u32, micros: u32) -> [u8; 24]
+    requires year_in { year < 10000 }
+    requires month_in { month < 100 }
+    requires day_in { day < 100 }
+    requires second_in { second < 86400 }
+    requires micros_in { micros < 1000000 }
+    ensures { result ≡ four_digits year ++ two_digits month ++ two_digits day ++ 45 ∷ []
+        ++ two_digits (second / 3600) ++ 58 ∷ [] ++ two_digits (second / 60 % 60) ++ 58 ∷ []
+        ++ two_digits (second % 60) ++ 46 ∷ [] ++ two_digits (micros / 10000) ++ four_digits (micros % 10000) }
+{
+    let (hour, minute, second) = (second / 3600, second / 60 % 60, second % 60);
+    let (high, low) = (micros / 10000, micros % 10000);
+    [
+        tens(year / 100),
+        ones(year / 100),
+        tens(year % 100),
+        ones(year % 100),
+        tens(month),
+        ones(month),
+        tens(day),
+        ones(day),
+        b'-',
+        tens(hour),
+        ones(hour),
+        b':',
+        tens(minute),
+        ones(minute),
+        b':',
+        tens(second),
+        ones(second),
+        b'.',
+        tens(high),
+        ones(high),
+        tens(low / 100),
+        ones(low / 100),
+        tens(low % 100),
+        ones(low % 100),
+    ]
+}
+
+// The first digit of two.
+fn tens(number: u32) -> u8
+    requires { number < 100 }
+    ensures { result ≡ 48 + number / 10 }
+{
+    b'0' + (number / 10) as u8
+}
+
+// The second digit of two.
+fn ones(number: u32) -> u8
+    requires { number < 100 }
+    ensures { result ≡ 48 + number % 10 }
+{
+    b'0' + (number % 10) as u8
 }

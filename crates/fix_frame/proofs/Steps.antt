@@ -2,7 +2,7 @@
 use Rattle.std.proofs.Common.{◌≡◌, ℕ, ◌+◌, ◌-◌, ◌<◌, ◌≤◌, Bool, nat_eq, List, [], ◌∷◌, ◌++◌, length, get_or, take, drop, refl, sym, ap, ◌∙◌, subst, arith, lit<}
 use Rattle.std.proofs.lemmas.List.{length-append, length-drop, drop-drop, drop_at, get_or-drop, take_at}
 use Rattle.std.proofs.lemmas.List.Prefix.{front_reads}
-use Rattle.fix_base.specs.Stream.{Ahead, Item, Frame, Span, Byte, text_of, IsItem, Takes, frames}
+use Rattle.fix_base.specs.Stream.{UnreadBytes, Item, Frame, Span, Byte, text_of, IsItem, Takes, frames}
 use Rattle.fix_frame.specs.Answer.{Stands, Skipped}
 use Rattle.fix_frame.specs.Given.{GivesFrame}
 use Rattle.fix_frame.specs.Seeks.{SkipsBy, SeeksFrame}
@@ -10,7 +10,7 @@ use Rattle.fix_base.proofs.Spans.{shape_long}
 use Rattle.fix_base.proofs.Runs.{all_then, frames-append}
 
 -- an item has a byte
-item_some : (a : Ahead) (item : Item) → IsItem a item → 0 < length (text_of item)
+item_some : (a : UnreadBytes) (item : Item) → IsItem a item → 0 < length (text_of item)
 item_some a (Frame text) h = shape_long h.1.parts text h.1.shape
 item_some a (Span text) h = shape_long h.1.0 text h.1.1
 item_some a (Byte byte) h = lit< tt
@@ -35,11 +35,11 @@ steps bytes at n mark item le s long =
 pub skip_fits : (bytes : List ℕ) (at n : ℕ) (mark : Bool) → at ≤ length bytes → Skipped (record { may_mark = mark; bytes = drop at bytes }) n → (0 < n) × (at + n ≤ length bytes)
 skip_fits bytes at n mark le h = let s = steps bytes at n mark h.item le h.stands h.long in (s.some, s.inside)
 
-pub skips_on : (a : Ahead) (at n : ℕ) (mark : Bool) → SkipsBy a at mark → Skipped (record { may_mark = mark; bytes = drop at a.bytes }) n → SkipsBy a (at + n) (nat_eq (get_or a.bytes (at + n - 1) 0) 1)
+pub skips_on : (a : UnreadBytes) (at n : ℕ) (mark : Bool) → SkipsBy a at mark → Skipped (record { may_mark = mark; bytes = drop at a.bytes }) n → SkipsBy a (at + n) (nat_eq (get_or a.bytes (at + n - 1) 0) 1)
 skips_on a at n mark k h =
     let s = steps a.bytes at n mark h.item k.inside h.stands h.long in
-    let b : Ahead = record { may_mark = mark; bytes = drop at a.bytes } in
-    let d : Ahead = record { may_mark = nat_eq (get_or a.bytes (at + n - 1) 0) 1; bytes = drop (at + n) a.bytes } in
+    let b : UnreadBytes = record { may_mark = mark; bytes = drop at a.bytes } in
+    let d : UnreadBytes = record { may_mark = nat_eq (get_or a.bytes (at + n - 1) 0) 1; bytes = drop (at + n) a.bytes } in
     record {
       items = k.items ++ h.item ∷ [];
       take = all_then a k.items b (h.item ∷ []) d k.take (d, s.take, refl);
@@ -50,7 +50,7 @@ skips_on a at n mark k h =
 pub frame_fits : (bytes : List ℕ) (at : ℕ) (mark : Bool) (frame : List ℕ) → at ≤ length bytes → Stands (record { may_mark = mark; bytes = drop at bytes }) (Frame frame) → (0 < length frame) × (at + length frame ≤ length bytes)
 frame_fits bytes at mark frame le h = let s = steps bytes at (length frame) mark (Frame frame) le h refl in (s.some, s.inside)
 
-pub seeks_frame : (a : Ahead) (at : ℕ) (mark : Bool) (frame : List ℕ) → SkipsBy a at mark → Stands (record { may_mark = mark; bytes = drop at a.bytes }) (Frame frame) → SeeksFrame a at (at + length frame) (nat_eq (get_or a.bytes (at + length frame - 1) 0) 1)
+pub seeks_frame : (a : UnreadBytes) (at : ℕ) (mark : Bool) (frame : List ℕ) → SkipsBy a at mark → Stands (record { may_mark = mark; bytes = drop at a.bytes }) (Frame frame) → SeeksFrame a at (at + length frame) (nat_eq (get_or a.bytes (at + length frame - 1) 0) 1)
 seeks_frame a at mark frame k h =
     let s = steps a.bytes at (length frame) mark (Frame frame) k.inside h refl in
     let text : frame ≡ take (at + length frame - at) (drop at a.bytes) = sym (ap (take (at + length frame - at)) h.spelled ∙ take_at frame h.rest (at + length frame - at) (omega arith)) in

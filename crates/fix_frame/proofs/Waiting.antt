@@ -6,7 +6,7 @@ use Rattle.fix_base.specs.declared.no_match.NoMatch.{NoMatch}
 use Rattle.fix_base.specs.Front.{Begins, IsPartOf, SomeOf, Stops}
 use Rattle.fix_base.specs.Frame.{IsText, IsHead}
 use Rattle.fix_base.specs.Shape.{IsShape}
-use Rattle.fix_base.specs.Stream.{Ahead}
+use Rattle.fix_base.specs.Stream.{UnreadBytes}
 use Rattle.fix_base.proofs.Fronts.{IsPrefixFree, rest_is, begins_stops}
 use Rattle.fix_base.proofs.Pieces.{text_free, long_partial}
 use Rattle.fix_base.proofs.Places.{head_free, body_stops_2}
@@ -56,7 +56,7 @@ told_same n m bytes behind rest found last head kind head2 kind2 =
     let long : length rest ≡ length last = omega (arith, ap length same.1, ap length kind.spelled, ap length kind2.spelled, ap length kind.is, ap length kind2.is, length-append kind.text rest, length-append kind2.text last) in
     omega (arith, same.0, long)
 
-pub waits_never : (a : Ahead) → WaitsBelow a 0
+pub waits_never : (a : UnreadBytes) → WaitsBelow a 0
 waits_never a = record { waits = λ more lt. omega (arith, lt) }
 
 pub waits_part : (bytes : List ℕ) (n : ℕ) → ((more : List ℕ) → length (bytes ++ more) < n → IsPartOf IsShape (bytes ++ more)) → WaitsBelow (record { may_mark = true; bytes = bytes }) n
@@ -72,7 +72,7 @@ waits_fed m bytes piece n w = record {
 
 -- where too few bytes are there, all stays as it is
 pub stays : (kept : List ℕ) (place need : ℕ) (m : Bool) → place ≤ length kept → WaitsBelow (record { may_mark = m; bytes = drop place kept }) need → (0 < need → place < 65536) → length kept - place < need
-    → NextNone (record { ahead = record { may_mark = m; bytes = drop place kept }; kept = length kept }) (record { ahead = record { may_mark = m; bytes = drop place kept }; kept = length kept })
+    → NextNone (record { unread = record { may_mark = m; bytes = drop place kept }; kept = length kept }) (record { unread = record { may_mark = m; bytes = drop place kept }; kept = length kept })
 stays kept place need m le w small lt =
     let long = length-drop place kept in
     let behind : place < 65536 = small (omega (arith, lt)) in

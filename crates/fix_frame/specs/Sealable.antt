@@ -10,7 +10,7 @@ pub use Rattle.fix_frame.specs.declared.sealing.SealFault.TheVariants.{TooLarge}
 abbrev pub message_text : List ℕ → List ℕ → List ℕ → List ℕ
 message_text kind header rest = field_text (field 35 kind) ++ header ++ rest
 
--- a field that may stand behind MsgType
+-- a field that may stand after MsgType
 pub record IsBehindType (f : Field) : Type 0 where
   pub no_begin : f.tag ≢ 8
   pub no_length : f.tag ≢ 9

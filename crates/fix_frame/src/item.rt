@@ -1,3 +1,5 @@
+//! Decides what comes next in a stream: a frame, garbled bytes to skip, or a wait for more bytes.
+//! `seeking` calls this for one item after the other.
 ghost use Rattle.std.specs.Prelude.{◌≡◌, ◌≤◌, ◌-◌, ◌==◌, ◌||◌, length, slice_index};
 ghost use Rattle.fix_base.specs.Stream.{ahead_of};
 ghost use Rattle.fix_frame.specs.Answer.{Answers};
@@ -42,14 +44,6 @@ pub fn item_ahead(bytes: &[u8], may_mark: bool) -> Framed<'_>
     }
 }
 
-/// Whether a mark may stand at the place: the first one, or one behind an SOH.
-fn may_mark_at(bytes: &[u8], at: usize) -> bool
-    requires { at ≤ length bytes.now }
-    ensures { result ≡ (at == 0 || slice_index bytes.now (at - 1) == 1) }
-{
-    at == 0 || bytes[at - 1] == SOH
-}
-
 /// The item at the place `at` of a stream of which `bytes` are known. `More` says that they do not
 /// decide it, and that fewer than 1,048,612 bytes are from the place on.
 pub fn frame_at<'a>(bytes: &'a [u8], at: usize) -> Framed<'a>
@@ -58,4 +52,12 @@ pub fn frame_at<'a>(bytes: &'a [u8], at: usize) -> Framed<'a>
 {
     let may_mark = may_mark_at(bytes, at);
     item_ahead(&bytes[at..], may_mark)
+}
+
+/// Whether a mark may stand at the place: the first one, or one after an SOH.
+fn may_mark_at(bytes: &[u8], at: usize) -> bool
+    requires { at ≤ length bytes.now }
+    ensures { result ≡ (at == 0 || slice_index bytes.now (at - 1) == 1) }
+{
+    at == 0 || bytes[at - 1] == SOH
 }

@@ -1,3 +1,5 @@
+//! Reads the version, the BodyLength (9) and the CheckSum (10), each up to its SOH. `shape` calls these in
+//! the order of a frame.
 ghost use Rattle.std.specs.Prelude.{◌≤◌, ◌↔◌, IsTrue};
 ghost use Rattle.fix_base.specs.Front.{Scans, ScansOf};
 ghost use Rattle.fix_base.specs.Frame.{IsLine, IsLong, IsVersion, IsLengthOf, IsSumOf};
@@ -19,7 +21,7 @@ const LEAST_LENGTH: usize = 5;
 /// The greatest BodyLength.
 pub const GREATEST_LENGTH: usize = 1_048_576;
 
-/// The bytes behind the first `count`.
+/// The bytes after the first `count`.
 pub fn after_any(bytes: &[u8], count: usize) -> Result<&[u8], NoMatch>
     ensures { Scans (λ rest. rest.now) (IsLong count) bytes.now result }
 {
@@ -29,7 +31,7 @@ pub fn after_any(bytes: &[u8], count: usize) -> Result<&[u8], NoMatch>
     Ok(&bytes[count..])
 }
 
-/// The bytes behind the rest of a version and its SOH.
+/// The bytes after the rest of a version and its SOH.
 pub fn after_version(bytes: &[u8]) -> Result<&[u8], NoMatch>
     ensures { Scans (λ rest. rest.now) (IsLine IsVersion) bytes.now result }
 {
@@ -44,13 +46,7 @@ pub fn after_version(bytes: &[u8]) -> Result<&[u8], NoMatch>
     Err(NoMatch::NotYet)
 }
 
-fn is_length(length: usize) -> bool
-    ensures { IsTrue result ↔ ((5 ≤ length) × (length ≤ 1048576)) }
-{
-    length >= LEAST_LENGTH && length <= GREATEST_LENGTH
-}
-
-/// The number of a BodyLength, and the bytes behind its SOH. The first byte that decides is the
+/// The number of a BodyLength, and the bytes after its SOH. The first byte that decides is the
 /// last that is looked at.
 pub fn after_length(bytes: &[u8]) -> Result<(usize, &[u8]), NoMatch>
     ensures { ScansOf (λ x. x.0) (λ x. x.1.now) (λ n. IsLine (IsLengthOf n)) bytes.now result }
@@ -77,7 +73,7 @@ pub fn after_length(bytes: &[u8]) -> Result<(usize, &[u8]), NoMatch>
     Err(NoMatch::NotYet)
 }
 
-/// The number of the three digits of a CheckSum (10), and the bytes behind their SOH.
+/// The number of the three digits of a CheckSum (10), and the bytes after their SOH.
 pub fn after_sum(bytes: &[u8]) -> Result<(u32, &[u8]), NoMatch>
     ensures { ScansOf (λ x. x.0) (λ x. x.1.now) (λ n. IsLine (IsSumOf n)) bytes.now result }
 {
@@ -102,4 +98,10 @@ pub fn after_sum(bytes: &[u8]) -> Result<(u32, &[u8]), NoMatch>
             Ok((sum, &bytes[4..]))
         }
     }
+}
+
+fn is_length(length: usize) -> bool
+    ensures { IsTrue result ↔ ((5 ≤ length) × (length ≤ 1048576)) }
+{
+    length >= LEAST_LENGTH && length <= GREATEST_LENGTH
 }

@@ -1,3 +1,5 @@
+//! Keeps the bytes of a connection until a frame is whole. `fix_engine` feeds it what each read gave, and
+//! takes the frames out of it.
 ghost use mathlib.Core.Option.{none};
 ghost use Rattle.std.specs.Borrow.{sem, follows_so};
 ghost use Rattle.std.specs.Option.{option_copied};
@@ -28,7 +30,7 @@ fn drop_front(bytes: &mut Vec<u8>, count: usize)
 }
 
 /// Lets go of bytes before the place where that is worth it, and gives the place among those
-/// that are kept. Behind a None fewer than 1,048,612 bytes wait, so for each byte that goes fewer
+/// that are kept. After a None fewer than 1,048,612 bytes wait, so for each byte that goes fewer
 /// than 17 are moved, however small the pieces are.
 fn let_go(kept: &mut Vec<u8>, place: usize) -> usize
     requires { place ≤ vec_len kept.old }
@@ -70,7 +72,11 @@ impl Model for Reader {
 
     ghost Value = { ReaderSeen };
 
-    ghost view = { λ r. record { ahead = record { may_mark = r.may_mark; bytes = drop r.place r.kept.items }; kept = length r.kept.items } };
+    ghost view = { λ r.
+        record {
+          unread = record { may_mark = r.may_mark; bytes = drop r.place r.kept.items };
+          kept = length r.kept.items;
+        } };
 
     ghost invariant = { λ r. (r.place ≤ length r.kept.items)
         × WaitsBelow (record { may_mark = r.may_mark; bytes = drop r.place r.kept.items }) r.need
@@ -80,7 +86,7 @@ impl Model for Reader {
 impl Reader {
     /// A reader of a stream of which nothing has come.
     pub fn new(alloc: Global) -> Result<Reader, OutOfMemory>
-        ensures { IfOk result (λ made. made ≡ record { ahead = record { may_mark = true; bytes = [] }; kept = 0 }) }
+        ensures { IfOk result (λ made. made ≡ record { unread = record { may_mark = true; bytes = [] }; kept = 0 }) }
     {
         Ok(Reader {
             kept: Vec::with_capacity(alloc, FIRST_ROOM)?,
@@ -90,12 +96,13 @@ impl Reader {
         })
     }
 
-    /// Takes the next piece of the stream. Behind it fewer than 65,536 bytes are kept beside the
+    /// Takes the next piece of the stream. After it fewer than 65,536 bytes are kept beside the
     /// unread ones. After an `Err` the stream is as before, and no more is kept than was.
     pub fn feed(&mut self, piece: &[u8]) -> Result<(), OutOfMemory>
-        ensures ok { OnOk result (self.new.ahead ≡ record { may_mark = self.old.ahead.may_mark; bytes = self.old.ahead.bytes ++ piece.now }) }
+        ensures ok { OnOk result (self.new.unread
+            ≡ record { may_mark = self.old.unread.may_mark; bytes = self.old.unread.bytes ++ piece.now }) }
         ensures few { OnOk result (KeepsFew self.new) }
-        ensures err { OnErr result (self.new.ahead ≡ self.old.ahead) }
+        ensures err { OnErr result (self.new.unread ≡ self.old.unread) }
         ensures no_more { OnErr result (self.new.kept ≤ self.old.kept) }
     {
         self.place = let_go(&mut self.kept, self.place);
@@ -107,7 +114,8 @@ impl Reader {
     /// After None fewer than 1,048,612 bytes are unread, and fewer than 65,536 are kept beside
     /// these. At a frame nothing is let go of, so no more is kept than was.
     pub fn next(&mut self) -> Option<&[u8]>
-        ensures* { sem 𝓛 (follows_so the_row the_row self.entry.ghost_name none (λ _ _. ⊤) (λ v. GivesNext self.old v (option_copied result))) }
+        ensures* { sem 𝓛 (follows_so the_row the_row self.entry.ghost_name none (λ _ _. ⊤)
+            (λ v. GivesNext self.old v (option_copied result))) }
     {
         if self.kept.len() - self.place < self.need {
             return None;

@@ -1,3 +1,4 @@
+//! Writes the frame of a message. `fix_engine` calls this before it writes to the connection.
 ghost use Rattle.std.specs.Prelude.{◌≡◌, ◌<◌, ◌≤◌, ◌++◌, ℕ, List, length, IfOk, Err};
 ghost use Rattle.fix_base.specs.Shape.{IsFrame};
 ghost use Rattle.fix_base.specs.Stream.{Frame, ahead_of};
@@ -15,8 +16,41 @@ use std::alloc::{AllocError, Global};
 pub enum SealFault {
     /// The BodyLength (9) would be `length`, and the greatest is 1,048,576.
     TooLarge { length: u64 },
-    /// Memory was refused.
+    /// Out of memory.
     OutOfMemory,
+}
+
+/// The frame of a message: BeginString (8), BodyLength (9), MsgType (35) = `kind`, the fields of
+/// `header` and `rest`, and CheckSum (10).
+pub fn seal(
+    alloc: Global,
+    begin: Begin,
+    kind: &[u8],
+    header: &[u8],
+    rest: &[u8],
+) -> Result<Bytes, SealFault>
+    requires { IsSealable kind.now header.now rest.now }
+    // The bytes: they are a frame, and whoever reads them at the front of a stream finds it.
+    ensures text { IfOk result (λ out. out ≡ sealed begin (message_text kind.now header.now rest.now)) }
+    ensures frame { IfOk result (λ out. IsFrame out) }
+    ensures again { IfOk result (λ out. (more : List ℕ) → Stands (ahead_of (out ++ more) 0) (Frame out)) }
+    // The fault comes exactly for a BodyLength past the greatest.
+    ensures fits { IfOk result (λ out. length (message_text kind.now header.now rest.now) ≤ 1048576) }
+    ensures large { (n : ℕ) → result ≡ Err (TooLarge n) → (n ≡ length (message_text kind.now header.now rest.now))
+        × (1048576 < n) }
+{
+    let Ok(body) = body_of(alloc, kind, header, rest) else {
+        return Err(SealFault::OutOfMemory);
+    };
+    if body.len() > GREATEST_LENGTH {
+        return Err(SealFault::TooLarge {
+            length: body.len() as u64,
+        });
+    }
+    let Ok(out) = spelling(alloc, begin, &body) else {
+        return Err(SealFault::OutOfMemory);
+    };
+    Ok(Bytes::from_vec(out))
 }
 
 /// A number below 256 in three digits.
@@ -60,36 +94,4 @@ fn spelling(alloc: Global, begin: Begin, body: &[u8]) -> Result<Vec<u8>, AllocEr
     out.extend_from_slice(&three_digits(sum))?;
     out.push(SOH)?;
     Ok(out)
-}
-
-/// The frame of a message: BeginString (8), BodyLength (9), MsgType (35) = `kind`, the fields of
-/// `header` and `rest`, and CheckSum (10).
-pub fn seal(
-    alloc: Global,
-    begin: Begin,
-    kind: &[u8],
-    header: &[u8],
-    rest: &[u8],
-) -> Result<Bytes, SealFault>
-    requires { IsSealable kind.now header.now rest.now }
-    // The bytes: they are a frame, and whoever reads them at the front of a stream finds it.
-    ensures text { IfOk result (λ out. out ≡ sealed begin (message_text kind.now header.now rest.now)) }
-    ensures frame { IfOk result (λ out. IsFrame out) }
-    ensures again { IfOk result (λ out. (more : List ℕ) → Stands (ahead_of (out ++ more) 0) (Frame out)) }
-    // The fault comes exactly for a BodyLength past the greatest.
-    ensures fits { IfOk result (λ out. length (message_text kind.now header.now rest.now) ≤ 1048576) }
-    ensures large { (n : ℕ) → result ≡ Err (TooLarge n) → (n ≡ length (message_text kind.now header.now rest.now)) × (1048576 < n) }
-{
-    let Ok(body) = body_of(alloc, kind, header, rest) else {
-        return Err(SealFault::OutOfMemory);
-    };
-    if body.len() > GREATEST_LENGTH {
-        return Err(SealFault::TooLarge {
-            length: body.len() as u64,
-        });
-    }
-    let Ok(out) = spelling(alloc, begin, &body) else {
-        return Err(SealFault::OutOfMemory);
-    };
-    Ok(Bytes::from_vec(out))
 }

@@ -1,3 +1,4 @@
+//! Looks for the next frame, and skips what is garbled before it. `reader` calls this.
 ghost use Rattle.fix_frame.specs.Seeks.{Seeks};
 
 use crate::item::{Framed, item_ahead};
@@ -6,7 +7,7 @@ use fix_base::SOH;
 /// What the search for the next frame found.
 #[derive(Clone, Copy)]
 pub enum Sought {
-    /// Where the frame starts and ends, and whether a mark may stand behind it.
+    /// Where the frame starts and ends, and whether a mark may stand after it.
     Here(usize, usize, bool),
     /// Where the skipping ends, and whether a mark may stand there.
     Nowhere(usize, bool),

@@ -1,3 +1,5 @@
+//! The CheckSum (10), and the last checks of a frame. `item` calls `is_right` once the shape is there, and
+//! `sealing` calls `checksum`.
 ghost use Rattle.std.specs.Prelude.{◌≡◌, ◌%◌, ◌↔◌, IsTrue, sum};
 ghost use Rattle.fix_base.specs.Shape.{IsRight};
 ghost use Rattle.fix_frame.specs.Span.{parts_of};

@@ -1,3 +1,4 @@
+//! What is a frame, what is garbled, what waits for more bytes, and what is sealed.
 ghost use Rattle.std.specs.Prelude.{◌≡◌, ◌∷◌, ◌++◌, [], IfOk, replicate, codes};
 ghost use Rattle.std.specs.Fmt.{decimal};
 

@@ -5,7 +5,7 @@ use Rattle.fix_base.specs.Fields.{Field}
 use Rattle.fix_groups.specs.Tagged.{Tagged, tagged, all_tagged}
 use Rattle.fix_groups.proofs.Slices.{tagged_taken, tagged_dropped}
 use Rattle.fix_groups.specs.Looked.{or_else, group_at, at_level, owner, is_in}
-use Rattle.fix_groups.specs.Misfits.{is_within, stray_at, stray}
+use Rattle.fix_groups.specs.Misfits.{is_within, stray_at, outside_group}
 use Rattle.fix_groups.specs.Open.{contains, kept, passed, passed_at, left_out}
 use Rattle.fix_groups.specs.declared.misfit.Misfit.{Misfit}
 use Rattle.fix_groups.specs.declared.misfit.Misfit.TheVariants.{Order}
@@ -130,10 +130,10 @@ passes root before f ds h = passes_with root before f ds (group_at f.tag root) r
 
 -- ---- strays
 
-owned_here : (root : Shapes) (before fs : List Tagged) (f : Tagged) (c : ℕ) (ds : List ℕ) (b : Bool) → Opened root before ds → owner f.tag root ≡ Some c → contains c ds ≡ b → stray root before (f ∷ fs) ≡ or_else (if b then None else Some (Order c)) (stray root (before ++ f ∷ []) fs)
+owned_here : (root : Shapes) (before fs : List Tagged) (f : Tagged) (c : ℕ) (ds : List ℕ) (b : Bool) → Opened root before ds → owner f.tag root ≡ Some c → contains c ds ≡ b → outside_group root before (f ∷ fs) ≡ or_else (if b then None else Some (Order c)) (outside_group root (before ++ f ∷ []) fs)
 owned_here root before fs f c ds b h own is =
     let g = owner_group f.tag c root own in
-    ap (λ o. or_else (stray_at root before o) (stray root (before ++ f ∷ []) fs)) own ∙ ap (λ w. or_else (if w then None else Some (Order c)) (stray root (before ++ f ∷ []) fs)) (h.flags c g.0 g.1 ∙ is)
+    ap (λ o. or_else (stray_at root before o) (outside_group root (before ++ f ∷ []) fs)) own ∙ ap (λ w. or_else (if w then None else Some (Order c)) (outside_group root (before ++ f ∷ []) fs)) (h.flags c g.0 g.1 ∙ is)
 
 out_same : (c d : ℕ) (b : Bool) → (if b then None else Some d) ≡ Some c → (b ≡ false) × (d ≡ c)
 out_same c d true h = absurd (none_some (sym h))
@@ -143,38 +143,38 @@ out_none : (d : ℕ) (b : Bool) → (if b then None else Some d) ≡ None → b 
 out_none d true h = refl
 out_none d false h = absurd (none_some h)
 
-here_in : (root : Shapes) (before fs : List Tagged) (f : Tagged) (c : ℕ) (ds : List ℕ) (o : Option ℕ) → Opened root before ds → owner f.tag root ≡ o → left_out o ds ≡ Some c → stray root before (f ∷ fs) ≡ Some (Order c)
+here_in : (root : Shapes) (before fs : List Tagged) (f : Tagged) (c : ℕ) (ds : List ℕ) (o : Option ℕ) → Opened root before ds → owner f.tag root ≡ o → left_out o ds ≡ Some c → outside_group root before (f ∷ fs) ≡ Some (Order c)
 here_in root before fs f c ds None h own out = absurd (none_some (sym out))
 here_in root before fs f c ds (Some d) h own out = let s = out_same c d (contains d ds) out in owned_here root before fs f d ds false h own s.0 ∙ ap (λ x. Some (Order x)) s.1
 
 -- a member of a group whose run does not go on is a stray
-pub stray_here : (root : Shapes) (before fs : List Tagged) (f : Tagged) (c : ℕ) (ds : List ℕ) → Opened root before ds → left_out (owner f.tag root) ds ≡ Some c → stray root before (f ∷ fs) ≡ Some (Order c)
+pub stray_here : (root : Shapes) (before fs : List Tagged) (f : Tagged) (c : ℕ) (ds : List ℕ) → Opened root before ds → left_out (owner f.tag root) ds ≡ Some c → outside_group root before (f ∷ fs) ≡ Some (Order c)
 stray_here root before fs f c ds h out = here_in root before fs f c ds (owner f.tag root) h refl out
 
-past_in : (root : Shapes) (before fs : List Tagged) (f : Tagged) (ds : List ℕ) (o : Option ℕ) → Opened root before ds → owner f.tag root ≡ o → left_out o ds ≡ None → stray root before (f ∷ fs) ≡ stray root (before ++ f ∷ []) fs
-past_in root before fs f ds None h own out = ap (λ x. or_else (stray_at root before x) (stray root (before ++ f ∷ []) fs)) own
+past_in : (root : Shapes) (before fs : List Tagged) (f : Tagged) (ds : List ℕ) (o : Option ℕ) → Opened root before ds → owner f.tag root ≡ o → left_out o ds ≡ None → outside_group root before (f ∷ fs) ≡ outside_group root (before ++ f ∷ []) fs
+past_in root before fs f ds None h own out = ap (λ x. or_else (stray_at root before x) (outside_group root (before ++ f ∷ []) fs)) own
 past_in root before fs f ds (Some d) h own out = owned_here root before fs f d ds true h own (out_none d (contains d ds) out)
 
-pub stray_past : (root : Shapes) (before fs : List Tagged) (f : Tagged) (ds : List ℕ) → Opened root before ds → left_out (owner f.tag root) ds ≡ None → stray root before (f ∷ fs) ≡ stray root (before ++ f ∷ []) fs
+pub stray_past : (root : Shapes) (before fs : List Tagged) (f : Tagged) (ds : List ℕ) → Opened root before ds → left_out (owner f.tag root) ds ≡ None → outside_group root before (f ∷ fs) ≡ outside_group root (before ++ f ∷ []) fs
 stray_past root before fs f ds h out = past_in root before fs f ds (owner f.tag root) h refl out
 
 -- ---- over a slice
 
 pub stray_stop : (root : Shapes) (fs : List Field) (i : ℕ) (f : Field) (t c : ℕ) (held open_ : List ℕ) {S : Option Misfit} → i < length fs → f ≡ get_or fs i f → t ≡ f.tag → held ≡ open_ → Opened root (all_tagged (take i fs)) open_
-    → left_out (owner t root) held ≡ Some c → stray root (all_tagged (take i fs)) (all_tagged (drop i fs)) ≡ S → Some (Order c) ≡ S
+    → left_out (owner t root) held ≡ Some c → outside_group root (all_tagged (take i fs)) (all_tagged (drop i fs)) ≡ S → Some (Order c) ≡ S
 stray_stop root fs i f t c held open_ lt here tag same h out is =
     let e : all_tagged (drop i fs) ≡ tagged f ∷ all_tagged (drop (i + 1) fs) = tagged_dropped fs i f lt ∙ ap (λ x. tagged x ∷ all_tagged (drop (i + 1) fs)) (sym here) in
     let o : left_out (owner f.tag root) open_ ≡ Some c = ap (λ x. left_out (owner x root) open_) (sym tag) ∙ ap (left_out (owner t root)) (sym same) ∙ out in
-    sym (stray_here root (all_tagged (take i fs)) (all_tagged (drop (i + 1) fs)) (tagged f) c open_ h o) ∙ ap (stray root (all_tagged (take i fs))) (sym e) ∙ is
+    sym (stray_here root (all_tagged (take i fs)) (all_tagged (drop (i + 1) fs)) (tagged f) c open_ h o) ∙ ap (outside_group root (all_tagged (take i fs))) (sym e) ∙ is
 
 pub stray_step : (root : Shapes) (fs : List Field) (i : ℕ) (f : Field) (t : ℕ) (held open_ new : List ℕ) {S : Option Misfit} → i < length fs → f ≡ get_or fs i f → t ≡ f.tag → held ≡ open_ → Opened root (all_tagged (take i fs)) open_
-    → left_out (owner t root) held ≡ None → new ≡ passed root t open_ → stray root (all_tagged (take i fs)) (all_tagged (drop i fs)) ≡ S
-    → (stray root (all_tagged (take (i + 1) fs)) (all_tagged (drop (i + 1) fs)) ≡ S) × Opened root (all_tagged (take (i + 1) fs)) new
+    → left_out (owner t root) held ≡ None → new ≡ passed root t open_ → outside_group root (all_tagged (take i fs)) (all_tagged (drop i fs)) ≡ S
+    → (outside_group root (all_tagged (take (i + 1) fs)) (all_tagged (drop (i + 1) fs)) ≡ S) × Opened root (all_tagged (take (i + 1) fs)) new
 stray_step root fs i f t held open_ new lt here tag same h out went is =
     let e : all_tagged (drop i fs) ≡ tagged f ∷ all_tagged (drop (i + 1) fs) = tagged_dropped fs i f lt ∙ ap (λ x. tagged x ∷ all_tagged (drop (i + 1) fs)) (sym here) in
     let m : all_tagged (take (i + 1) fs) ≡ all_tagged (take i fs) ++ tagged f ∷ [] = tagged_taken fs i f lt ∙ ap (λ x. all_tagged (take i fs) ++ tagged x ∷ []) (sym here) in
     let o : left_out (owner f.tag root) open_ ≡ None = ap (λ x. left_out (owner x root) open_) (sym tag) ∙ ap (left_out (owner t root)) (sym same) ∙ out in
     let n : new ≡ passed root f.tag open_ = went ∙ ap (λ x. passed root x open_) tag in (
-      rw m (sym (stray_past root (all_tagged (take i fs)) (all_tagged (drop (i + 1) fs)) (tagged f) open_ h o) ∙ ap (stray root (all_tagged (take i fs))) (sym e) ∙ is),
+      rw m (sym (stray_past root (all_tagged (take i fs)) (all_tagged (drop (i + 1) fs)) (tagged f) open_ h o) ∙ ap (outside_group root (all_tagged (take i fs))) (sym e) ∙ is),
       rw (m, n) (passes root (all_tagged (take i fs)) (tagged f) open_ h),
     )

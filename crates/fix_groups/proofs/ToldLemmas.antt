@@ -2,7 +2,7 @@
 use Rattle.std.proofs.Common.{◌≡◌, ℕ, Bool, true, false, ◌||◌, ◌==◌, if◌then◌else◌, refl, ap, ◌∙◌}
 use Rattle.fix_fields.specs.Shapes.{Shapes, no_more, plain, group}
 use Rattle.fix_fields.specs.NoTwice.{has_tag, IsLed, HasNoTwice}
-use Rattle.fix_groups.specs.Told.{meets, is_led, told}
+use Rattle.fix_groups.specs.Distinct.{shares_a_tag, begins_plain, has_distinct_tags}
 use Rattle.fix_groups.proofs.OpenRuns.{same_tag, true_false}
 use Rattle.fix_groups.proofs.Apart.{both_off, on_left, on_right}
 use Rattle.fix_groups.proofs.Members.{same_here, false_true}
@@ -27,45 +27,45 @@ either : (t : ℕ) (ms : Shapes) (a b : Bool) → (a ≡ true → has_tag t ms �
 either t ms true b x y h = x refl
 either t ms false b x y h = y h
 
-meets_off : (a ms : Shapes) → meets a ms ≡ false → (t : ℕ) → has_tag t a ≡ true → has_tag t ms ≡ false
+meets_off : (a ms : Shapes) → shares_a_tag a ms ≡ false → (t : ℕ) → has_tag t a ≡ true → has_tag t ms ≡ false
 meets_off no_more ms off t on = absurd (false_true on)
 meets_off (plain u r more) ms off t on =
-    let p = both_off (has_tag u ms) (meets more ms) off in
+    let p = both_off (has_tag u ms) (shares_a_tag more ms) off in
     here_or t u ms (t == u) (has_tag t more) refl p.0 (meets_off more ms p.1 t) on
 meets_off (group c r inner more) ms off t on =
-    let p = both_off (has_tag c ms) (meets inner ms || meets more ms) off in
-    let q = both_off (meets inner ms) (meets more ms) p.1 in
+    let p = both_off (has_tag c ms) (shares_a_tag inner ms || shares_a_tag more ms) off in
+    let q = both_off (shares_a_tag inner ms) (shares_a_tag more ms) p.1 in
     here_or t c ms (t == c) (has_tag t inner || has_tag t more) refl p.0 (either t ms (has_tag t inner) (has_tag t more) (meets_off inner ms q.0 t) (meets_off more ms q.1 t)) on
 
-off_meets : (a ms : Shapes) → ((t : ℕ) → has_tag t a ≡ true → has_tag t ms ≡ false) → meets a ms ≡ false
+off_meets : (a ms : Shapes) → ((t : ℕ) → has_tag t a ≡ true → has_tag t ms ≡ false) → shares_a_tag a ms ≡ false
 off_meets no_more ms off = refl
-off_meets (plain u r more) ms off = or_off (has_tag u ms) (meets more ms) (off u (on_left (u == u) (has_tag u more) (same_here u))) (off_meets more ms (λ t on. off t (on_right (t == u) (has_tag t more) on)))
+off_meets (plain u r more) ms off = or_off (has_tag u ms) (shares_a_tag more ms) (off u (on_left (u == u) (has_tag u more) (same_here u))) (off_meets more ms (λ t on. off t (on_right (t == u) (has_tag t more) on)))
 off_meets (group c r inner more) ms off =
-    or_off (has_tag c ms) (meets inner ms || meets more ms) (off c (on_left (c == c) (has_tag c inner || has_tag c more) (same_here c)))
-    (or_off (meets inner ms) (meets more ms) (off_meets inner ms (λ t on. off t (on_right (t == c) (has_tag t inner || has_tag t more) (on_left (has_tag t inner) (has_tag t more) on)))) (off_meets more ms (λ t on. off t (on_right (t == c) (has_tag t inner || has_tag t more) (on_right (has_tag t inner) (has_tag t more) on)))))
+    or_off (has_tag c ms) (shares_a_tag inner ms || shares_a_tag more ms) (off c (on_left (c == c) (has_tag c inner || has_tag c more) (same_here c)))
+    (or_off (shares_a_tag inner ms) (shares_a_tag more ms) (off_meets inner ms (λ t on. off t (on_right (t == c) (has_tag t inner || has_tag t more) (on_left (has_tag t inner) (has_tag t more) on)))) (off_meets more ms (λ t on. off t (on_right (t == c) (has_tag t inner || has_tag t more) (on_right (has_tag t inner) (has_tag t more) on)))))
 
-led_is : (g : Shapes) → is_led g ≡ true → IsLed g
+led_is : (g : Shapes) → begins_plain g ≡ true → IsLed g
 led_is no_more h = absurd (false_true h)
 led_is (plain t r ms) h = tt
 led_is (group c r inner ms) h = absurd (false_true h)
 
-is_led_of : (g : Shapes) → IsLed g → is_led g ≡ true
+is_led_of : (g : Shapes) → IsLed g → begins_plain g ≡ true
 is_led_of no_more led = absurd led
 is_led_of (plain t r ms) led = refl
 is_led_of (group c r inner ms) led = absurd led
 
-pub told_is : (g : Shapes) → told g ≡ true → HasNoTwice g
+pub told_is : (g : Shapes) → has_distinct_tags g ≡ true → HasNoTwice g
 told_is no_more h = tt
-told_is (plain t r ms) h = let p = if_off (has_tag t ms) (told ms) h in (p.0, told_is ms p.1)
+told_is (plain t r ms) h = let p = if_off (has_tag t ms) (has_distinct_tags ms) h in (p.0, told_is ms p.1)
 told_is (group c r inner ms) h =
     let a = if_off (has_tag c inner) _ h in
     let b = if_off (has_tag c ms) _ a.1 in
-    let d = if_off (meets inner ms) _ b.1 in
-    let e = if_on (is_led inner) _ d.1 in
-    let f = if_on (told inner) (told ms) e.1 in
+    let d = if_off (shares_a_tag inner ms) _ b.1 in
+    let e = if_on (begins_plain inner) _ d.1 in
+    let f = if_on (has_distinct_tags inner) (has_distinct_tags ms) e.1 in
     (a.0, b.0, meets_off inner ms d.0, led_is inner e.0, told_is inner f.0, told_is ms f.1)
 
-pub is_told : (g : Shapes) → HasNoTwice g → told g ≡ true
+pub is_told : (g : Shapes) → HasNoTwice g → has_distinct_tags g ≡ true
 is_told no_more h = refl
 is_told (plain t r ms) h = rw h.0 (is_told ms h.1)
 is_told (group c r inner ms) h = rw (h.0, h.1, off_meets inner ms h.2, is_led_of inner h.3, is_told inner h.4) (is_told ms h.5)

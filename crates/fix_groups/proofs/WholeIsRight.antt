@@ -5,7 +5,7 @@ use Rattle.fix_fields.specs.NoTwice.{has_tag, HasNoTwice}
 use Rattle.fix_groups.specs.Tagged.{Tagged}
 use Rattle.fix_groups.specs.Looked.{or_else, some_has, group_at, at_level, owner, is_in}
 use Rattle.fix_groups.specs.Runs.{run_of, lead, behind_lead, behind, if_some, starts, begins_well, in_order}
-use Rattle.fix_groups.specs.Misfits.{judged, judged_at, count_misfit, is_within, stray_at, stray, first_misfit}
+use Rattle.fix_groups.specs.Misfits.{judged, judged_at, count_misfit, is_within, stray_at, outside_group, first_misfit}
 use Rattle.fix_groups.specs.Fits.{IsAllOf}
 use Rattle.fix_groups.specs.Flat.{mark}
 use Rattle.fix_groups.specs.Instances.{Instances, none, one, Stands, end, pass_plain, pass_group, takes_plain, takes_group, HasGroup, here, behind_plain, behind_group, IsWhole, over, other, grouped}
@@ -53,11 +53,11 @@ within_begins : (root : Shapes) (c : ℕ) (n : Option ℕ) (before : List Tagged
 within_begins root c n before = within-append root c false before (mark c n ∷ []) ∙ on_left (c == c) (is_within root c false before && is_in root c c) (same_here c)
 
 -- a member whose group's run goes on is no stray
-no_stray : (root : Shapes) (before fs : List Tagged) (f : Tagged) (d : ℕ) → owner f.tag root ≡ Some d → is_within root d false before ≡ true → stray root before (f ∷ fs) ≡ stray root (before ++ f ∷ []) fs
-no_stray root before fs f d own on = ap (λ o. or_else (stray_at root before o) (stray root (before ++ f ∷ []) fs)) own ∙ ap (λ b. or_else (if b then None else Some (Order d)) (stray root (before ++ f ∷ []) fs)) on
+no_stray : (root : Shapes) (before fs : List Tagged) (f : Tagged) (d : ℕ) → owner f.tag root ≡ Some d → is_within root d false before ≡ true → outside_group root before (f ∷ fs) ≡ outside_group root (before ++ f ∷ []) fs
+no_stray root before fs f d own on = ap (λ o. or_else (stray_at root before o) (outside_group root (before ++ f ∷ []) fs)) own ∙ ap (λ b. or_else (if b then None else Some (Order d)) (outside_group root (before ++ f ∷ []) fs)) on
 
-no_owner : (root : Shapes) (before fs : List Tagged) (f : Tagged) → owner f.tag root ≡ None → stray root before (f ∷ fs) ≡ stray root (before ++ f ∷ []) fs
-no_owner root before fs f own = ap (λ o. or_else (stray_at root before o) (stray root (before ++ f ∷ []) fs)) own
+no_owner : (root : Shapes) (before fs : List Tagged) (f : Tagged) → owner f.tag root ≡ None → outside_group root before (f ∷ fs) ≡ outside_group root (before ++ f ∷ []) fs
+no_owner root before fs f own = ap (λ o. or_else (stray_at root before o) (outside_group root (before ++ f ∷ []) fs)) own
 
 no_count : (root : Shapes) (fs : List Tagged) (f : Tagged) → group_at f.tag root ≡ None → count_misfit root (f ∷ fs) ≡ count_misfit root fs
 no_count root fs f at = ap (λ o. or_else (judged_at f fs o) (count_misfit root fs)) at
@@ -129,13 +129,13 @@ record InstanceFacts (root : Shapes) (d : ℕ) (g : Shapes) (run : List Tagged) 
   begins : begins_well g run ≡ true
   ordered : AnyOrder g run
   counts : (b : List Tagged) → AreOut root g b → count_misfit root (run ++ b) ≡ count_misfit root b
-  strays : (before b : List Tagged) → is_within root d false before ≡ true → stray root before (run ++ b) ≡ stray root (before ++ run) b
+  strays : (before b : List Tagged) → is_within root d false before ≡ true → outside_group root before (run ++ b) ≡ outside_group root (before ++ run) b
 
 record StandFacts (root : Shapes) (d : ℕ) (g left : Shapes) (fs : List Tagged) : Type 0 where
   all : IsAllOf left fs
   ordered : (more : List Tagged) → AnyOrder g more → in_order g left (fs ++ more) ≡ true
   counts : (b : List Tagged) → AreOut root g b → count_misfit root (fs ++ b) ≡ count_misfit root b
-  strays : (before b : List Tagged) → is_within root d false before ≡ true → stray root before (fs ++ b) ≡ stray root (before ++ fs) b
+  strays : (before b : List Tagged) → is_within root d false before ≡ true → outside_group root before (fs ++ b) ≡ outside_group root (before ++ fs) b
 
 no_instance : (root : Shapes) (d : ℕ) (g : Shapes) → InstanceFacts root d g [] 0
 no_instance root d g = record {
@@ -144,7 +144,7 @@ no_instance root d g = record {
   begins = refl;
   ordered = λ left. refl;
   counts = λ b out. refl;
-  strays = λ before b on. ap (λ l. stray root l b) (sym (append-nil before));
+  strays = λ before b on. ap (λ l. outside_group root l b) (sym (append-nil before));
 }
 
 out_or : (root g : Shapes) (d : ℕ) (more b : List Tagged) → HasNoTwice root → group_at d root ≡ Some g → begins_well g more ≡ true → AreOut root g b → AreOut root g (more ++ b)
@@ -174,7 +174,7 @@ one_facts root d t k n r ms stretch more twice at s i =
           let there : is_within root d false ((before ++ mark t n ∷ []) ++ stretch) ≡ true = within_keep root (plain t r ms) d (before ++ mark t n ∷ []) stretch at stretch_all here_ in
           let lists : ((before ++ mark t n ∷ []) ++ stretch) ++ more ≡ before ++ (mark t n ∷ (stretch ++ more)) = append_assoc (before ++ mark t n ∷ []) stretch more ∙ append_assoc before (mark t n ∷ []) (stretch ++ more) in
           no_stray root before ((stretch ++ more) ++ b) (mark t n) d (owner_level root d (plain t r ms) t twice at (on_left (t == t) (at_level t ms) (same_here t))) within
-          ∙ ap (stray root (before ++ mark t n ∷ [])) (append_assoc stretch more b) ∙ s.strays (before ++ mark t n ∷ []) (more ++ b) here_ ∙ i.strays ((before ++ mark t n ∷ []) ++ stretch) b there ∙ ap (λ l. stray root l b) lists;
+          ∙ ap (outside_group root (before ++ mark t n ∷ [])) (append_assoc stretch more b) ∙ s.strays (before ++ mark t n ∷ []) (more ++ b) here_ ∙ i.strays ((before ++ mark t n ∷ []) ++ stretch) b there ∙ ap (λ l. outside_group root l b) lists;
     }
 
 end_facts : (root : Shapes) (d : ℕ) (g left : Shapes) → StandFacts root d g left []
@@ -182,7 +182,7 @@ end_facts root d g left = record {
   all = tt;
   ordered = λ more any. any left;
   counts = λ b out. refl;
-  strays = λ before b on. ap (λ l. stray root l b) (sym (append-nil before));
+  strays = λ before b on. ap (λ l. outside_group root l b) (sym (append-nil before));
 }
 
 pass_plain_facts : (root : Shapes) (d : ℕ) (g : Shapes) (t : ℕ) (r : Bool) (ms : Shapes) (fs : List Tagged) → IsEnd root d g (plain t r ms) → StandFacts root d g ms fs → StandFacts root d g (plain t r ms) fs
@@ -210,7 +210,7 @@ takes_plain_facts root d g t n r ms fs twice at e s =
       counts = λ b out. no_count root (fs ++ b) (mark t n) e.known.0 ∙ s.counts b out;
       strays = λ before b within.
           no_stray root before (fs ++ b) (mark t n) d (owner_level root d g t twice at (e.level t (on_left (t == t) (at_level t ms) (same_here t)))) within
-          ∙ s.strays (before ++ mark t n ∷ []) b (within_keep root g d before (mark t n ∷ []) at (e.sub t on, tt) within) ∙ ap (λ l. stray root l b) (append_assoc before (mark t n ∷ []) fs);
+          ∙ s.strays (before ++ mark t n ∷ []) b (within_keep root g d before (mark t n ∷ []) at (e.sub t on, tt) within) ∙ ap (λ l. outside_group root l b) (append_assoc before (mark t n ∷ []) fs);
     }
 
 out_after : (root g : Shapes) (c : ℕ) (r : Bool) (inner ms : Shapes) (fs b : List Tagged) → HasNoTwice (group c r inner ms) → has_tag c g ≡ true → group_at c root ≡ Some inner → IsAllOf ms fs → AreOut root g b → IsOut inner (fs ++ b)
@@ -241,7 +241,7 @@ takes_group_facts root d g c k r inner ms run fs twice at led e i s =
           let there : is_within root d false ((before ++ mark c (Some k) ∷ []) ++ run) ≡ true = within_keep root g d (before ++ mark c (Some k) ∷ []) run at (all_sub (group c r inner ms) g run e.sub run_all) here_ in
           let lists : ((before ++ mark c (Some k) ∷ []) ++ run) ++ fs ≡ before ++ (mark c (Some k) ∷ (run ++ fs)) = append_assoc (before ++ mark c (Some k) ∷ []) run fs ∙ append_assoc before (mark c (Some k) ∷ []) (run ++ fs) in
           no_stray root before ((run ++ fs) ++ b) (mark c (Some k)) d (owner_level root d g c twice at (e.level c (on_left (c == c) (at_level c ms) (same_here c)))) within
-          ∙ ap (stray root (before ++ mark c (Some k) ∷ [])) (append_assoc run fs b) ∙ i.strays (before ++ mark c (Some k) ∷ []) (fs ++ b) (within_begins root c (Some k) before) ∙ s.strays ((before ++ mark c (Some k) ∷ []) ++ run) b there ∙ ap (λ l. stray root l b) lists;
+          ∙ ap (outside_group root (before ++ mark c (Some k) ∷ [])) (append_assoc run fs b) ∙ i.strays (before ++ mark c (Some k) ∷ []) (fs ++ b) (within_begins root c (Some k) before) ∙ s.strays ((before ++ mark c (Some k) ∷ []) ++ run) b there ∙ ap (λ l. outside_group root l b) lists;
     }
 
 -- ---- by cases
@@ -306,7 +306,7 @@ whole_out over c h twice at = tt
 whole_out {root} (other t n fs miss none_ w) c h twice at = unowned_off root h c t twice at none_
 whole_out {root} (grouped d k inner run fs top i w) c h twice at = unowned_off root h c d twice at (top_is top twice).none_
 
-whole_says : {root : Shapes} {fs : List Tagged} → IsWhole root fs → HasNoTwice root → (count_misfit root fs ≡ None) × ((before : List Tagged) → stray root before fs ≡ None)
+whole_says : {root : Shapes} {fs : List Tagged} → IsWhole root fs → HasNoTwice root → (count_misfit root fs ≡ None) × ((before : List Tagged) → outside_group root before fs ≡ None)
 whole_says over twice = (refl, λ before. refl)
 whole_says {root} (other t n fs miss none_ w) twice =
     let ih = whole_says w twice in
@@ -322,4 +322,4 @@ whole_says {root} (grouped c k inner run fs top i w) twice =
 
 -- where each group is of its instances, and no member stands outside, nothing is wrong
 pub whole_is_right : (root : Shapes) (fs : List Tagged) → HasNoTwice root → IsWhole root fs → first_misfit root fs ≡ None
-whole_is_right root fs twice w = let s = whole_says w twice in ap (λ o. or_else o (stray root [] fs)) s.0 ∙ s.1 []
+whole_is_right root fs twice w = let s = whole_says w twice in ap (λ o. or_else o (outside_group root [] fs)) s.0 ∙ s.1 []

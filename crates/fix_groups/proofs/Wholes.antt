@@ -6,7 +6,7 @@ use Rattle.fix_fields.specs.NoTwice.{has_tag, IsLed, HasNoTwice}
 use Rattle.fix_groups.specs.Tagged.{Tagged}
 use Rattle.fix_groups.specs.Looked.{some_has, group_at, at_level, owner, is_in}
 use Rattle.fix_groups.specs.Runs.{run_of, lead, behind, starts, begins_well, in_order}
-use Rattle.fix_groups.specs.Misfits.{count_misfit, is_within, stray_at, stray, first_misfit}
+use Rattle.fix_groups.specs.Misfits.{count_misfit, is_within, stray_at, outside_group, first_misfit}
 use Rattle.fix_groups.specs.Fits.{IsAllOf}
 use Rattle.fix_groups.specs.Flat.{mark}
 use Rattle.fix_groups.specs.Instances.{Instances, none, one, Stands, end, IsWhole, over, other, grouped}
@@ -19,20 +19,20 @@ use Rattle.fix_groups.proofs.Members.{false_true, same_here, deep_owned, owner_h
 
 -- ---- strays in front and behind
 
-pub stray_front : (root : Shapes) (before a b : List Tagged) → stray root before (a ++ b) ≡ None → stray root before a ≡ None
+pub stray_front : (root : Shapes) (before a b : List Tagged) → outside_group root before (a ++ b) ≡ None → outside_group root before a ≡ None
 stray_front root before [] b h = refl
-stray_front root before (f ∷ a) b h = let p = or_nones (stray_at root before (owner f.tag root)) (stray root (before ++ f ∷ []) (a ++ b)) h in rw p.0 (stray_front root (before ++ f ∷ []) a b p.1)
+stray_front root before (f ∷ a) b h = let p = or_nones (stray_at root before (owner f.tag root)) (outside_group root (before ++ f ∷ []) (a ++ b)) h in rw p.0 (stray_front root (before ++ f ∷ []) a b p.1)
 
-pub stray_behind : (root : Shapes) (before a b : List Tagged) → stray root before (a ++ b) ≡ None → stray root (before ++ a) b ≡ None
-stray_behind root before [] b h = subst (λ l. stray root l b ≡ None) (grind (arith, common_steps)) h
-stray_behind root before (f ∷ a) b h = subst (λ l. stray root l b ≡ None) (append_assoc before (f ∷ []) a) (stray_behind root (before ++ f ∷ []) a b (or_nones (stray_at root before (owner f.tag root)) (stray root (before ++ f ∷ []) (a ++ b)) h).1)
+pub stray_behind : (root : Shapes) (before a b : List Tagged) → outside_group root before (a ++ b) ≡ None → outside_group root (before ++ a) b ≡ None
+stray_behind root before [] b h = subst (λ l. outside_group root l b ≡ None) (grind (arith, common_steps)) h
+stray_behind root before (f ∷ a) b h = subst (λ l. outside_group root l b ≡ None) (append_assoc before (f ∷ []) a) (stray_behind root (before ++ f ∷ []) a b (or_nones (stray_at root before (owner f.tag root)) (outside_group root (before ++ f ∷ []) (a ++ b)) h).1)
 
 within_of : (c : ℕ) (b : Bool) → (if b then None else Some (Order c)) ≡ None → b ≡ true
 within_of c true h = refl
 within_of c false h = absurd (none_some h)
 
 -- a member that is no stray stands in a run of its group
-pub stray_within : (root : Shapes) (before fs : List Tagged) (f : Tagged) (c : ℕ) → stray root before (f ∷ fs) ≡ None → owner f.tag root ≡ Some c → is_within root c false before ≡ true
+pub stray_within : (root : Shapes) (before fs : List Tagged) (f : Tagged) (c : ℕ) → outside_group root before (f ∷ fs) ≡ None → owner f.tag root ≡ Some c → is_within root c false before ≡ true
 stray_within root before fs f c h own = within_of c (is_within root c false before) (ap (stray_at root before) (sym own) ∙ (or_nones _ _ h).0)
 
 -- ---- what runs are open
@@ -153,7 +153,7 @@ beyond_count g (f ∷ fs) = count_with g f fs (beyond g fs) (f.tag == lead g) re
 record AreRight (root g : Shapes) (before fs : List Tagged) : Type 0 where
   all : IsAllOf g fs
   counts : count_misfit root fs ≡ None
-  strays : stray root before fs ≡ None
+  strays : outside_group root before fs ≡ None
 
 right_back : (root g : Shapes) (before a b : List Tagged) → AreRight root g before (a ++ b) → AreRight root g (before ++ a) b
 right_back root g before a b r = record { all = all_back g a b r.all; counts = fault_back root a b r.counts; strays = stray_behind root before a b r.strays }
@@ -161,7 +161,7 @@ right_back root g before a b r = record { all = all_back g a b r.all; counts = f
 right_front : (root g : Shapes) (before a b : List Tagged) → AreOut root g b → AreRight root g before (a ++ b) → AreRight root g before a
 right_front root g before a b out r = record { all = all_front g a b r.all; counts = fault_front root g a b (all_front g a b r.all) out r.counts; strays = stray_front root before a b r.strays }
 
-level_with : (root g : Shapes) (before fs : List Tagged) (f : Tagged) (l : Bool) → at_level f.tag g ≡ l → IsPart root g → Closed root g before (f ∷ fs) → has_tag f.tag g ≡ true → stray root before (f ∷ fs) ≡ None → l ≡ true
+level_with : (root g : Shapes) (before fs : List Tagged) (f : Tagged) (l : Bool) → at_level f.tag g ≡ l → IsPart root g → Closed root g before (f ∷ fs) → has_tag f.tag g ≡ true → outside_group root before (f ∷ fs) ≡ None → l ≡ true
 level_with root g before fs f true is part closed on h = refl
 level_with root g before fs f false is part closed on h =
     let o = deep_owned f.tag g part.twice on is in
@@ -170,7 +170,7 @@ level_with root g before fs f false is part closed on h =
     absurd (true_false (sym o.has ∙ closed.each o.count o.inner tag (part.found o.count tag ∙ o.at) within))
 
 -- a member of the group that is no stray, where no run inside goes on, is one of its own level
-level_of : (root g : Shapes) (before fs : List Tagged) (f : Tagged) → IsPart root g → Closed root g before (f ∷ fs) → has_tag f.tag g ≡ true → stray root before (f ∷ fs) ≡ None → at_level f.tag g ≡ true
+level_of : (root g : Shapes) (before fs : List Tagged) (f : Tagged) → IsPart root g → Closed root g before (f ∷ fs) → has_tag f.tag g ≡ true → outside_group root before (f ∷ fs) ≡ None → at_level f.tag g ≡ true
 level_of root g before fs f part closed on h = level_with root g before fs f (at_level f.tag g) refl part closed on h
 
 -- the run behind a count
@@ -190,7 +190,7 @@ drop_whole g (f ∷ fs) = drop_with f fs (run_of g fs) (has_tag f.tag g) (drop_w
   drop_with f fs r true h = ap (λ l. f ∷ l) h
   drop_with f fs r false h = refl
 
-behind_count : (root h : Shapes) (before fs : List Tagged) (f : Tagged) → HasNoTwice root → group_at f.tag root ≡ Some h → count_misfit root (f ∷ fs) ≡ None → stray root before (f ∷ fs) ≡ None
+behind_count : (root h : Shapes) (before fs : List Tagged) (f : Tagged) → HasNoTwice root → group_at f.tag root ≡ Some h → count_misfit root (f ∷ fs) ≡ None → outside_group root before (f ∷ fs) ≡ None
     → (k : ℕ) × Behind root h before f fs (run_of h fs) (drop (length (run_of h fs)) fs) k
 behind_count root h before fs f twice at counts strays =
     let r = right_of root h f fs at counts in
@@ -198,7 +198,7 @@ behind_count root h before fs f twice at counts strays =
     let rest = drop (length (run_of h fs)) fs in
     let out : IsOut h rest = run_ends h (run_of h fs) rest (ap (run_of h) whole) in
     let inner_counts : count_misfit root (run_of h fs ++ rest) ≡ None = subst (λ l. count_misfit root l ≡ None) (sym whole) (or_nones _ _ counts).1 in
-    let inner_strays : stray root (before ++ f ∷ []) (run_of h fs ++ rest) ≡ None = subst (λ l. stray root (before ++ f ∷ []) l ≡ None) (sym whole) (or_nones _ _ strays).1 in (
+    let inner_strays : outside_group root (before ++ f ∷ []) (run_of h fs ++ rest) ≡ None = subst (λ l. outside_group root (before ++ f ∷ []) l ≡ None) (sym whole) (or_nones _ _ strays).1 in (
       r.number,
       record {
         whole = whole;
@@ -225,7 +225,7 @@ AllStand n root = (g left : Shapes) (fs before : List Tagged) → length fs ≤ 
     → starts g fs ≡ 0 → in_order g left fs ≡ true → AreRight root g before fs → Closed root g before fs → Stands left fs
 
 abbrev AllWhole : ℕ → Shapes → Type 0
-AllWhole n root = (fs before : List Tagged) → length fs ≤ n → count_misfit root fs ≡ None → stray root before fs ≡ None → Closed root root before fs → IsWhole root fs
+AllWhole n root = (fs before : List Tagged) → length fs ≤ n → count_misfit root fs ≡ None → outside_group root before fs ≡ None → Closed root root before fs → IsWhole root fs
 
 shorter_front : (a b fs : List Tagged) (n : ℕ) → a ++ b ≡ fs → length fs ≤ n → length a ≤ n
 shorter_front a b fs n e h = let l : length (a ++ b) ≡ length fs = ap length e in grind (arith, common_steps, l, h)
@@ -322,14 +322,14 @@ both (suc n) root twice = let ih = both n root twice in (inst_suc n root twice i
 
 -- ---- the whole list
 
-unowned_with : (root : Shapes) (before fs : List Tagged) (f : Tagged) (o : Option ℕ) → owner f.tag root ≡ o → HasNoTwice root → stray root before (f ∷ fs) ≡ None → Closed root root before (f ∷ fs) → o ≡ None
+unowned_with : (root : Shapes) (before fs : List Tagged) (f : Tagged) (o : Option ℕ) → owner f.tag root ≡ o → HasNoTwice root → outside_group root before (f ∷ fs) ≡ None → Closed root root before (f ∷ fs) → o ≡ None
 unowned_with root before fs f None is twice h closed = refl
 unowned_with root before fs f (Some c) is twice h closed =
     let o = owner_has f.tag c root twice is in
     let within = stray_within root before fs f o.count h o.owned in
     absurd (true_false (sym o.has ∙ closed.each o.count o.inner (found_tag o.count root o.inner o.at) o.at within))
 
-whole_at : (n : ℕ) (root : Shapes) → HasNoTwice root → AllWhole n root → (f : Tagged) (fs before : List Tagged) (o : Option Shapes) → group_at f.tag root ≡ o → owner f.tag root ≡ None → length fs ≤ n → count_misfit root (f ∷ fs) ≡ None → stray root before (f ∷ fs) ≡ None → Closed root root before (f ∷ fs) → IsWhole root (f ∷ fs)
+whole_at : (n : ℕ) (root : Shapes) → HasNoTwice root → AllWhole n root → (f : Tagged) (fs before : List Tagged) (o : Option Shapes) → group_at f.tag root ≡ o → owner f.tag root ≡ None → length fs ≤ n → count_misfit root (f ∷ fs) ≡ None → outside_group root before (f ∷ fs) ≡ None → Closed root root before (f ∷ fs) → IsWhole root (f ∷ fs)
 whole_at n root twice ih f fs before None miss none_ fits counts strays closed =
     other f.tag f.count fs miss none_ (ih fs (before ++ f ∷ []) fits (or_nones _ _ counts).1 (or_nones _ _ strays).1 (closed_plain root root before fs fs f miss closed))
 whole_at n root twice ih f fs before (Some h) at none_ fits counts strays closed =
@@ -338,7 +338,7 @@ whole_at n root twice ih f fs before (Some h) at none_ fits counts strays closed
     let rest = drop (length (run_of h fs)) fs in
     let i : Instances h run b.0 = subst (Instances h run) b.1.starts_ ((both n root twice).0 h h f.tag run (before ++ f ∷ []) (shorter_front run rest fs n b.1.whole fits) at b.1.begins b.1.ordered b.1.right) in
     let counts_rest : count_misfit root rest ≡ None = fault_back root run rest (subst (λ l. count_misfit root l ≡ None) (sym b.1.whole) (or_nones _ _ counts).1) in
-    let strays_rest : stray root ((before ++ f ∷ []) ++ run) rest ≡ None = stray_behind root (before ++ f ∷ []) run rest (subst (λ l. stray root (before ++ f ∷ []) l ≡ None) (sym b.1.whole) (or_nones _ _ strays).1) in
+    let strays_rest : outside_group root ((before ++ f ∷ []) ++ run) rest ≡ None = stray_behind root (before ++ f ∷ []) run rest (subst (λ l. outside_group root (before ++ f ∷ []) l ≡ None) (sym b.1.whole) (or_nones _ _ strays).1) in
     let w : IsWhole root rest = ih rest ((before ++ f ∷ []) ++ run) (shorter_back run rest fs n b.1.whole fits) counts_rest strays_rest (closed_behind root root h before run rest fs f twice at b.1.right.all b.1.out closed) in
     let g : IsWhole root (mark f.tag (Some b.0) ∷ run ++ rest) = grouped f.tag b.0 h run rest (top_group root f.tag h twice at none_) i w in
     subst (λ l. IsWhole root (f ∷ l)) b.1.whole (subst (λ x. IsWhole root (mark f.tag x ∷ run ++ rest)) (sym b.1.says) g)

@@ -43,4 +43,5 @@ IsPlainNumber v = get_or v 0 0 ≡ 48 → length v ≡ 1
 
 abbrev pub HasPlainCounts : Shapes → List Field → Type 0
 HasPlainCounts root [] = Unit {0}
-HasPlainCounts root (f ∷ fs) = ((g : Shapes) → group_at f.tag root ≡ Some g → IsPlainNumber f.value) × HasPlainCounts root fs
+HasPlainCounts root (f ∷ fs) = ((g : Shapes) → group_at f.tag root ≡ Some g → IsPlainNumber f.value)
+    × HasPlainCounts root fs

@@ -1,4 +1,4 @@
--- The members of layouts that stand one behind the other.
+-- The members of layouts that stand one after another.
 use Rattle.fix_fields.specs.Shapes.{Shapes, no_more, plain, group}
 
 abbrev pub joined : Shapes → Shapes → Shapes

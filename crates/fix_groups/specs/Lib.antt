@@ -1,7 +1,7 @@
 pub mod Tagged
 pub mod Joined
 pub mod Looked
-pub mod Told
+pub mod Distinct
 pub mod Runs
 pub mod Misfits
 pub mod Open

@@ -51,8 +51,11 @@ read (w ∷ ws) = joined w.0 w.1.0 w.1.1 (read ws)
 pub read-written : (s : Nodes) (rest : List Word) → read (written s rest) ≡ s ∷ read rest
 read-written stop rest = refl
 read-written (field t v ns) rest = ap (joined 1 t v) (read-written ns rest)
-read-written (group c is ns) rest = ap (joined 2 c []) (read-written is (written ns rest) ∙ ap (λ l. is ∷ l) (read-written ns rest))
-read-written (item t is) rest = ap (joined 3 0 []) (read-written t (written is rest) ∙ ap (λ l. t ∷ l) (read-written is rest))
+read-written (group c is ns) rest = ap (joined 2 c []) (read-written is (written ns rest) ∙ ap
+    (λ l. is ∷ l) (read-written ns rest))
+read-written (item t is) rest = ap (joined 3 0 []) (read-written t (written is rest) ∙ ap
+    (λ l. t ∷ l) (read-written is rest))
 
 abbrev pub nodes_code : Coded Nodes
-nodes_code = code_by (List Word) (coded_list (coded× coded_ℕ (coded× coded_ℕ (coded_list coded_ℕ)))) (λ s. written s []) (λ ws. first_of (read ws)) (λ s. ap first_of (read-written s []))
+nodes_code = code_by (List Word) (coded_list (coded× coded_ℕ (coded× coded_ℕ (coded_list coded_ℕ))))
+    (λ s. written s []) (λ ws. first_of (read ws)) (λ s. ap first_of (read-written s []))

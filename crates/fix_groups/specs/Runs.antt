@@ -31,16 +31,17 @@ abbrev pub begins_well : Shapes → List Tagged → Bool
 begins_well g [] = true
 begins_well g (f ∷ fs) = f.tag == lead g
 
--- the members behind that of the tag
+-- the members after that of the tag
 abbrev pub behind : ℕ → Shapes → Option Shapes
 behind t no_more = None
 behind t (plain u r ms) = if t == u then Some ms else behind t ms
 behind t (group c r inner ms) = if t == c then Some ms else behind t ms
 
--- the members that may still come in the instance behind a field, or None where it stands out of
+-- the members that may still come in the instance after a field, or None where it stands out of
 -- order; a tag of a group inside changes nothing
 abbrev pub left_after : Shapes → Shapes → ℕ → Option Shapes
-left_after g left t = if t == lead g then Some (behind_lead g) else or_else (behind t left) (if at_level t g then None else Some left)
+left_after g left t = if t == lead g then Some (behind_lead g) else or_else (behind t left)
+    (if at_level t g then None else Some left)
 
 -- the answer where there is none is no
 abbrev pub if_some : Option Shapes → (Shapes → Bool) → Bool

@@ -17,9 +17,11 @@ fault_of (Count c) = CountWrong c
 fault_of (Order c) = OrderWrong c
 
 -- Where every group is of its instances and no member stands outside, the tree of the fields; else
--- what is wrong first. Want of memory says nothing of the fields.
+-- what is wrong first. Out of memory says nothing of the fields.
 abbrev pub Answers : Shapes → List Field → Result Nodes GroupFault → Type 0
 Answers root fs (Ok tree) = IsTreeOf root fs tree × IsWhole root (all_tagged fs)
-Answers root fs (Err (CountWrong c)) = (first_misfit root (all_tagged fs) ≡ Some (Count c)) × (IsWhole root (all_tagged fs) → ⊥)
-Answers root fs (Err (OrderWrong c)) = (first_misfit root (all_tagged fs) ≡ Some (Order c)) × (IsWhole root (all_tagged fs) → ⊥)
+Answers root fs (Err (CountWrong c)) = (first_misfit root (all_tagged fs) ≡ Some (Count c))
+    × (IsWhole root (all_tagged fs) → ⊥)
+Answers root fs (Err (OrderWrong c)) = (first_misfit root (all_tagged fs) ≡ Some (Order c))
+    × (IsWhole root (all_tagged fs) → ⊥)
 Answers root fs (Err OutOfMemory) = Unit {0}

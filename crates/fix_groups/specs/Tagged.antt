@@ -10,7 +10,8 @@ pub record Tagged : Type 0 where
 
 -- the number that a NumInGroup field says: one to nine digits
 abbrev pub count_in : List ℕ → Option ℕ
-count_in v = if all_ascii_digits v && (nat_lt 0 (length v) && nat_le (length v) 9) then Some (digits_value 10 v) else None
+count_in v = if all_ascii_digits v && (nat_lt 0 (length v) && nat_le (length v) 9) then Some
+    (digits_value 10 v) else None
 
 abbrev pub tagged : Field → Tagged
 tagged f = record { tag = f.tag; count = count_in f.value }

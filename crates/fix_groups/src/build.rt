@@ -1,3 +1,5 @@
+//! Splits the fields of a message into a tree. `split` calls `misfits` first, and builds the tree only where
+//! nothing is wrong.
 ghost use Rattle.std.specs.Prelude.{◌≡◌, ◌<◌, ◌≤◌, ◌+◌, Some, None, true, List, IfOk, take, drop, length};
 ghost use Rattle.fix_base.specs.Fields.{Field};
 ghost use Rattle.fix_fields.specs.Faulty.{AreLeft};
@@ -136,7 +138,7 @@ fn fault_of(misfit: Misfit) -> GroupFault
 }
 
 /// The fields of a list as a tree of groups, or the first fault of their groups: in the order of the
-/// counts, for each group first CountWrong, then OrderWrong; behind all of them OrderWrong for the
+/// counts, for each group first CountWrong, then OrderWrong; after all of them OrderWrong for the
 /// first member that stands outside every run of its group. A count that isn't one to nine digits
 /// counts no run, and is CountWrong.
 ///

@@ -1,3 +1,4 @@
+//! What holds of groups and of their split, each law on a function that does nothing.
 ghost use Rattle.std.specs.Prelude.{◌≡◌, ◌↔◌, ℕ, List, None};
 ghost use Rattle.fix_base.specs.Fields.{Field, FieldsAfter};
 ghost use Rattle.fix_base.specs.Says.{fields_text};
@@ -19,10 +20,12 @@ pub fn no_misfit_is_whole()
 /// What was split is given back by `flatten`: the same fields in their order, counts of groups
 /// without leading zeros.
 pub fn a_split_is_given_back()
-    ensures { (root : Shapes) (fs : List Field) (tree : Nodes) → IsTreeOf root fs tree → fields_text (flat tree) ≡ fields_text (plainly root fs) }
+    ensures { (root : Shapes) (fs : List Field) (tree : Nodes) → IsTreeOf root fs tree → fields_text (flat tree)
+        ≡ fields_text (plainly root fs) }
 {}
 
 /// Bytes whose fields' counts have no leading zeros are given back as they are.
 pub fn plain_counts_are_given_back()
-    ensures { (root : Shapes) (bytes : List ℕ) (fs : List Field) (tree : Nodes) → FieldsAfter None bytes fs → IsTreeOf root fs tree → HasPlainCounts root fs → fields_text (flat tree) ≡ bytes }
+    ensures { (root : Shapes) (bytes : List ℕ) (fs : List Field) (tree : Nodes) → FieldsAfter None bytes fs
+        → IsTreeOf root fs tree → HasPlainCounts root fs → fields_text (flat tree) ≡ bytes }
 {}

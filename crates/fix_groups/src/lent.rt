@@ -1,3 +1,4 @@
+//! A field without a copy of its value. `build` makes a list of them, and fix_validate makes one of its own.
 ghost use Rattle.std.specs.Prelude.{◌≡◌};
 ghost use Rattle.fix_fields.specs.Lent.{field_of};
 

@@ -1,3 +1,5 @@
+//! Looks tags up in a layout and in the groups inside it. `build`, `distinct`, `runs`, `whole` and fix_validate
+//! call this.
 ghost use Rattle.std.specs.Prelude.{◌≡◌, ◌∷◌, []};
 ghost use Rattle.std.specs.Option.{option_copied};
 ghost use Rattle.fix_fields.specs.Members.{shapes_of};

@@ -1,3 +1,4 @@
+//! What is wrong with groups: as `misfits` finds it, and as `split` answers it.
 use fix_base::Tag;
 
 /// What is wrong with the groups of a list of fields. Both name the tag of the group's count.
@@ -17,6 +18,6 @@ pub enum GroupFault {
     CountWrong(Tag),
     /// The instances of the group with this count are out of order.
     OrderWrong(Tag),
-    /// Memory was refused.
+    /// Out of memory.
     OutOfMemory,
 }

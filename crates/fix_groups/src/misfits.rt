@@ -1,7 +1,9 @@
+//! Finds the first fault of the groups of a message. `build` calls this before it makes a tree, and
+//! fix_validate after it has judged each field.
 ghost use Rattle.std.specs.Prelude.{◌≡◌, [], IfOk, OnOk};
 ghost use Rattle.fix_groups.specs.Tagged.{all_tagged, tagged};
 ghost use Rattle.fix_groups.specs.Looked.{group_at, owner};
-ghost use Rattle.fix_groups.specs.Misfits.{judged, judged_at, count_misfit, stray, first_misfit};
+ghost use Rattle.fix_groups.specs.Misfits.{judged, judged_at, count_misfit, outside_group, first_misfit};
 ghost use Rattle.fix_groups.specs.Open.{kept, contains, passed, left_out};
 
 use crate::lent::Lent;
@@ -12,6 +14,37 @@ use crate::whole::Whole;
 use fix_base::{OutOfMemory, Tag};
 use fix_fields::Layout;
 use std::alloc::{AllocError, Global};
+
+/// What is wrong first with the groups of a whole message's fields, or None. Each group is judged
+/// whole at its count, in the order of the counts: first the number of its instances, then their
+/// order. After all of them come the members that stand outside every run of their group.
+pub fn first_misfit_of(
+    alloc: Global,
+    fields: &[Lent<'_>],
+    root: &Whole<'_>,
+) -> Result<Option<Misfit>, OutOfMemory>
+    ensures { IfOk result (λ fault. fault ≡ first_misfit root.now (all_tagged fields.now)) }
+{
+    if let Some(fault) = count_misfit(fields, root) {
+        return Ok(Some(fault));
+    }
+    Ok(outside_group(alloc, fields, root)?)
+}
+
+/// The same of fields of one layout.
+pub fn first_misfit(
+    alloc: Global,
+    fields: &[Lent<'_>],
+    root: &Layout,
+) -> Result<Option<Misfit>, OutOfMemory>
+    ensures { IfOk result (λ fault. fault ≡ first_misfit root.now (all_tagged fields.now)) }
+{
+    let none = Layout {
+        members: Vec::new(alloc),
+    };
+    let whole = Whole::new(&none, root, &none);
+    first_misfit_of(alloc, fields, &whole)
+}
 
 fn judge(count: Tag, number: Option<u64>, group: &Layout, run: &[Lent<'_>]) -> Option<Misfit>
     ensures { result ≡ judged count number group.now (all_tagged run.now) }
@@ -29,7 +62,7 @@ fn judge(count: Tag, number: Option<u64>, group: &Layout, run: &[Lent<'_>]) -> O
     }
 }
 
-/// The fault of the group whose count the field is, with the fields behind it.
+/// The fault of the group whose count the field is, with the fields after it.
 fn judge_at(field: &Lent<'_>, behind: &[Lent<'_>], root: &Whole<'_>) -> Option<Misfit>
     ensures { result ≡ judged_at (tagged field.now) (all_tagged behind.now) (group_at field.now.tag root.now) }
 {
@@ -113,8 +146,12 @@ fn left_out(counts: &[Tag], root: &Whole<'_>, tag: Tag) -> Option<Tag>
 }
 
 /// The first member that stands outside every run of its group.
-fn stray(alloc: Global, fields: &[Lent<'_>], root: &Whole<'_>) -> Result<Option<Misfit>, AllocError>
-    ensures { IfOk result (λ fault. fault ≡ stray root.now [] (all_tagged fields.now)) }
+fn outside_group(
+    alloc: Global,
+    fields: &[Lent<'_>],
+    root: &Whole<'_>,
+) -> Result<Option<Misfit>, AllocError>
+    ensures { IfOk result (λ fault. fault ≡ outside_group root.now [] (all_tagged fields.now)) }
 {
     let mut counts = Vec::new(alloc);
     for i in 0..fields.len() {
@@ -125,35 +162,4 @@ fn stray(alloc: Global, fields: &[Lent<'_>], root: &Whole<'_>) -> Result<Option<
         pass(&mut counts, root, tag)?;
     }
     Ok(None)
-}
-
-/// What is wrong first with the groups of a whole message's fields, or None. Each group is judged
-/// whole at its count, in the order of the counts: first the number of its instances, then their
-/// order. Behind all of them come the members that stand outside every run of their group.
-pub fn first_misfit_of(
-    alloc: Global,
-    fields: &[Lent<'_>],
-    root: &Whole<'_>,
-) -> Result<Option<Misfit>, OutOfMemory>
-    ensures { IfOk result (λ fault. fault ≡ first_misfit root.now (all_tagged fields.now)) }
-{
-    if let Some(fault) = count_misfit(fields, root) {
-        return Ok(Some(fault));
-    }
-    Ok(stray(alloc, fields, root)?)
-}
-
-/// The same of fields of one layout.
-pub fn first_misfit(
-    alloc: Global,
-    fields: &[Lent<'_>],
-    root: &Layout,
-) -> Result<Option<Misfit>, OutOfMemory>
-    ensures { IfOk result (λ fault. fault ≡ first_misfit root.now (all_tagged fields.now)) }
-{
-    let none = Layout {
-        members: Vec::new(alloc),
-    };
-    let whole = Whole::new(&none, root, &none);
-    first_misfit_of(alloc, fields, &whole)
 }

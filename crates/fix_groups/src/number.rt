@@ -1,3 +1,4 @@
+//! Reads the value of a count. `misfits` calls this for each group.
 ghost use Rattle.std.specs.Prelude.{◌≡◌};
 ghost use Rattle.fix_groups.specs.Tagged.{count_in};
 

@@ -1,3 +1,5 @@
+//! The run of a group in a list of fields, and how its instances stand. `misfits`, `build` and fix_validate
+//! call this.
 ghost use Rattle.std.specs.Prelude.{◌≡◌, Some, None, ◌≤◌, MatchOption, length, take};
 ghost use Rattle.fix_fields.specs.Members.{shapes_of};
 ghost use Rattle.fix_groups.specs.Tagged.{all_tagged};
@@ -44,18 +46,6 @@ pub fn starts(group: &Layout, run: &[Lent<'_>]) -> u64
     n
 }
 
-/// The members behind that of the tag.
-fn behind(members: &[Member], tag: Tag) -> Option<&[Member]>
-    ensures { MatchOption result (behind tag (shapes_of members.now) ≡ None) (λ rest. behind tag (shapes_of members.now) ≡ Some (shapes_of rest.now)) }
-{
-    for i in 0..members.len() {
-        if tag == tag_of(&members[i]) {
-            return Some(&members[i + 1..]);
-        }
-    }
-    None
-}
-
 /// Whether a run that isn't empty begins with the delimiter.
 pub fn begins_well(group: &Layout, run: &[Lent<'_>]) -> bool
     ensures { result ≡ begins_well group.now (all_tagged run.now) }
@@ -63,34 +53,6 @@ pub fn begins_well(group: &Layout, run: &[Lent<'_>]) -> bool
     match run.first() {
         Some(field) => field.tag().get() == lead(group),
         None => true,
-    }
-}
-
-fn behind_lead(group: &Layout) -> &[Member]
-    ensures { shapes_of result.now ≡ behind_lead group.now }
-{
-    match group.members.first() {
-        Some(_) => &group.members[1..],
-        None => &group.members,
-    }
-}
-
-/// The members that may still come in the instance behind a field.
-fn left_after<'a>(group: &'a Layout, left: &'a [Member], tag: Tag) -> Option<&'a [Member]>
-    ensures { MatchOption result (left_after group.now (shapes_of left.now) tag ≡ None) (λ rest. left_after group.now (shapes_of left.now) tag ≡ Some (shapes_of rest.now)) }
-{
-    if tag.get() == lead(group) {
-        return Some(behind_lead(group));
-    }
-    match behind(left, tag) {
-        Some(rest) => Some(rest),
-        None => {
-            if at_level(&group.members, tag) {
-                None
-            } else {
-                Some(left)
-            }
-        }
     }
 }
 
@@ -106,4 +68,46 @@ pub fn in_order(group: &Layout, run: &[Lent<'_>]) -> bool
         }
     }
     true
+}
+
+/// The members after that of the tag.
+fn behind(members: &[Member], tag: Tag) -> Option<&[Member]>
+    ensures { MatchOption result (behind tag (shapes_of members.now) ≡ None)
+        (λ rest. behind tag (shapes_of members.now) ≡ Some (shapes_of rest.now)) }
+{
+    for i in 0..members.len() {
+        if tag == tag_of(&members[i]) {
+            return Some(&members[i + 1..]);
+        }
+    }
+    None
+}
+
+fn behind_lead(group: &Layout) -> &[Member]
+    ensures { shapes_of result.now ≡ behind_lead group.now }
+{
+    match group.members.first() {
+        Some(_) => &group.members[1..],
+        None => &group.members,
+    }
+}
+
+/// The members that may still come in the instance after a field.
+fn left_after<'a>(group: &'a Layout, left: &'a [Member], tag: Tag) -> Option<&'a [Member]>
+    ensures { MatchOption result (left_after group.now (shapes_of left.now) tag ≡ None)
+        (λ rest. left_after group.now (shapes_of left.now) tag ≡ Some (shapes_of rest.now)) }
+{
+    if tag.get() == lead(group) {
+        return Some(behind_lead(group));
+    }
+    match behind(left, tag) {
+        Some(rest) => Some(rest),
+        None => {
+            if at_level(&group.members, tag) {
+                None
+            } else {
+                Some(left)
+            }
+        }
+    }
 }

@@ -1,3 +1,4 @@
+//! That messages are split and given back, and that wrong counts and wrong orders are told.
 use crate::{GroupFault, flatten, has_no_twice, split};
 use fix_base::Tag;
 use fix_fields::{Layout, Member, fields};

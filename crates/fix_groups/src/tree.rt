@@ -1,3 +1,4 @@
+//! The tree that a message is split into. `build` makes it, and `flatten` writes its bytes.
 ghost use Rattle.std.specs.Prelude.{◌≡◌, ◌++◌, decimal, OnOk, IfOk};
 ghost use Rattle.fix_base.specs.Says.{field_text, fields_text};
 ghost use Rattle.fix_base.specs.Payload.{field};
@@ -46,7 +47,7 @@ impl Model for Tree {
     ghost size_decreases = { λ a h. tree_falls a.nodes.items };
 }
 
-// Writes a group's count behind what is there.
+// Writes a group's count after what is there.
 fn push_count(out: &mut Vec<u8>, tag: Tag, count: usize) -> Result<(), AllocError>
     ensures { OnOk result (out.new.items ≡ out.old.items ++ field_text (field tag (decimal count))) }
 {

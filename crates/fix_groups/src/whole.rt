@@ -1,3 +1,4 @@
+//! Header, message and trailer as one layout, without a copy. `misfits` and fix_validate look tags up in it.
 ghost use Rattle.std.specs.Prelude.{◌≡◌};
 ghost use Rattle.std.specs.Option.{option_copied};
 ghost use Rattle.fix_fields.specs.NoTwice.{has_tag};
@@ -10,7 +11,7 @@ use fix_fields::Layout;
 use std::marker::Model;
 
 /// The layout of a whole message: its header, its own members and its trailer. Contracts see it as
-/// one layout, the three one behind the other.
+/// one layout, the three one after another.
 #[derive(Drop)]
 pub struct Whole<'a> {
     header: &'a Layout,

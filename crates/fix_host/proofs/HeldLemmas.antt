@@ -3,8 +3,8 @@ use Rattle.std.proofs.Common.{◌≡◌, ℕ, suc, zero, ◌+◌, ◌-◌, ◌<�
 use Rattle.std.proofs.lemmas.List.{drop_all, length-drop}
 use Rattle.std.proofs.Math.Seq.{drop-nil}
 use Rattle.fix_parts.specs.Link.{LinkSeen, LinkReads}
-use Rattle.fix_parts.specs.declared.link.ReadTurn.{ReadTurn}
-use Rattle.fix_parts.specs.declared.link.ReadTurn.TheVariants as read
+use Rattle.fix_outside.specs.declared.connection.ReadTurn.{ReadTurn}
+use Rattle.fix_outside.specs.declared.connection.ReadTurn.TheVariants as read
 use Rattle.fix_host.specs.Held.{HeldReads}
 use Rattle.fix_host.specs.Held as held
 

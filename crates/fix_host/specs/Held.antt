@@ -2,13 +2,13 @@
 use Rattle.std.specs.Prelude.{◌≡◌, ℕ, ◌<◌, min, List, [], length, take, drop, option_map}
 use Rattle.fix_base.specs.Parts.{left_before}
 use Rattle.fix_parts.specs.Link.{LinkSeen, LinkReads}
-use Rattle.fix_parts.specs.declared.link.ReadTurn.{ReadTurn}
-use Rattle.fix_parts.specs.declared.link.ReadTurn.TheVariants as read
+use Rattle.fix_outside.specs.declared.connection.ReadTurn.{ReadTurn}
+use Rattle.fix_outside.specs.declared.connection.ReadTurn.TheVariants as read
 use Rattle.fix_host.specs.declared.held.Held.{Held}
 
 -- the bytes that it gives first
 abbrev pub ahead_of : {L : Type 0} → Held L → List ℕ
-ahead_of h = drop h.given h.ahead.items
+ahead_of h = drop h.given h.unread.items
 
 -- the connection itself
 abbrev pub inner_of : {L : Type 0} → Held L → L
@@ -16,14 +16,15 @@ inner_of h = h.link
 
 -- what is seen of it, where this is seen of the connection itself: the bytes come as a piece in front
 abbrev pub held_seen : List ℕ → LinkSeen → LinkSeen
-held_seen ahead inner = record {
-  to_come = option_map (left_before ahead) inner.to_come;
+held_seen unread inner = record {
+  to_come = option_map (left_before unread) inner.to_come;
   written = inner.written;
   room = inner.room;
   faults = inner.faults;
 }
 
--- a read gives of the bytes ahead, and only behind these of the connection
+-- a read gives of the bytes ahead, and only after these of the connection
 pub data HeldReads (turn : ReadTurn) (room : List ℕ) : (old new : List ℕ) → (inner inner' : LinkSeen) → Type 0 where
-  of_ahead : (n : ℕ) (old : List ℕ) (inner : LinkSeen) → 0 < length old → n ≡ min (length old) (length room) → turn ≡ read.Bytes n → take n room ≡ take n old → HeldReads turn room old (drop n old) inner inner
+  of_ahead : (n : ℕ) (old : List ℕ) (inner : LinkSeen) → 0 < length old → n ≡ min (length old) (length room) → turn
+      ≡ read.Bytes n → take n room ≡ take n old → HeldReads turn room old (drop n old) inner inner
   of_link : {inner inner' : LinkSeen} → LinkReads turn room inner inner' → HeldReads turn room [] [] inner inner'

@@ -1,6 +1,6 @@
 -- What is seen of the world outside, and what its calls do to that.
 use Rattle.std.specs.Prelude.{◌≡◌, ℕ, zero, suc, ◌+◌, ◌*◌, min, List, Option, Some, None, Result}
-use Rattle.fix_base.specs.Seen.{Rises, LAST_COUNT}
+use Rattle.fix_base.specs.Trace.{Rises, LAST_COUNT}
 use Rattle.fix_host.specs.declared.world.MakeFault.{MakeFault}
 use Rattle.fix_host.specs.Made.{failures_with}
 
@@ -71,13 +71,13 @@ pub record Opens {T : Type 0} (result : Result T MakeFault) (old new : WorldSeen
 
 -- ---- parts that come back
 
--- a count behind a part that failed so often, where the part is of its kind
+-- a count after a part that failed so often, where the part is of its kind
 abbrev pub raised : (kind faults old : ℕ) → ℕ
 raised zero faults old = old
 raised (suc kind) zero old = old
 raised (suc kind) (suc faults) old = next old
 
--- the counts behind it
+-- the counts after it
 abbrev pub raised_by : (kind : Faults) → ℕ → Faults → Faults
 raised_by kind faults old = record {
   store = raised kind.store faults old.store;

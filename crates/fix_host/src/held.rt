@@ -1,3 +1,5 @@
+//! A link that may have unread bytes of its connection. A read takes from these first, and a write goes to the
+//! connection itself.
 ghost use Rattle.std.specs.Prelude.{◌≡◌, ◌≤◌, ◌<◌, [], length, take, min};
 ghost use Rattle.fix_parts.specs.Link.{LinkReads, LinkWrites};
 ghost use Rattle.fix_host.specs.Held.{ahead_of, inner_of, held_seen, HeldReads};
@@ -9,7 +11,7 @@ use std::alloc::Global;
 #[derive(Drop)]
 pub struct Held<L> {
     link: L,
-    ahead: Vec<u8>,
+    unread: Vec<u8>,
     // how many of these were given
     given: usize,
 }
@@ -17,12 +19,12 @@ pub struct Held<L> {
 impl<L: Link> Held<L> {
     /// A connection of which nothing was read yet.
     pub fn new(alloc: Global, link: L) -> Held<L>
-        ensures ahead { ahead_of result ≡ [] }
+        ensures unread { ahead_of result ≡ [] }
         ensures inner { inner_of result ≡ link }
     {
         Held {
             link,
-            ahead: Vec::new(alloc),
+            unread: Vec::new(alloc),
             given: 0,
         }
     }
@@ -45,20 +47,23 @@ impl<L: Link> Link for Held<L> {
 
     fn read(&mut self, room: &mut [u8]) -> ReadTurn
         requires { 0 < length room.old }
-        ensures moves { LinkReads result room.new (held_seen (ahead_of self.old) (L.link (inner_of self.old))) (held_seen (ahead_of self.new) (L.link (inner_of self.new))) }
-        ensures held { HeldReads result room.new (ahead_of self.old) (ahead_of self.new) (L.link (inner_of self.old)) (L.link (inner_of self.new)) }
+        ensures moves { LinkReads result room.new (held_seen (ahead_of self.old) (L.link (inner_of self.old)))
+            (held_seen (ahead_of self.new) (L.link (inner_of self.new))) }
+        ensures held { HeldReads result room.new (ahead_of self.old) (ahead_of self.new)
+            (L.link (inner_of self.old)) (L.link (inner_of self.new)) }
     {
-        if self.given >= self.ahead.len() {
+        if self.given >= self.unread.len() {
             return self.link.read(room);
         }
-        let count = give(&self.ahead[self.given..], room);
+        let count = give(&self.unread[self.given..], room);
         self.given += count;
         ReadTurn::Bytes(count)
     }
 
     fn write(&mut self, bytes: &[u8]) -> WriteTurn
-        ensures moves { LinkWrites result bytes.now (held_seen (ahead_of self.old) (L.link (inner_of self.old))) (held_seen (ahead_of self.new) (L.link (inner_of self.new))) }
-        ensures ahead { ahead_of self.new ≡ ahead_of self.old }
+        ensures moves { LinkWrites result bytes.now (held_seen (ahead_of self.old) (L.link (inner_of self.old)))
+            (held_seen (ahead_of self.new) (L.link (inner_of self.new))) }
+        ensures unread { ahead_of self.new ≡ ahead_of self.old }
         ensures inner { LinkWrites result bytes.now (L.link (inner_of self.old)) (L.link (inner_of self.new)) }
     {
         self.link.write(bytes)

@@ -1,3 +1,5 @@
+//! The place for one session's connection, for one thread and for several. Who accepts a connection offers it
+//! here, and the thread of the session takes it.
 ghost use Rattle.std.specs.Prelude.{◌≡◌};
 ghost use Rattle.fix_host.specs.Slot.{Offers, Takes, freed};
 

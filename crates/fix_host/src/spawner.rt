@@ -1,11 +1,13 @@
+//! Starts threads, and counts those that couldn't be started. A host has its spawner from its `World`.
 ghost use Rattle.std.specs.Prelude.{◌≡◌, ℕ, MatchBool, MatchResult};
-ghost use Rattle.fix_base.specs.Seen.{Rises};
+ghost use Rattle.fix_base.specs.Trace.{Rises};
 ghost use Rattle.fix_host.specs.Starts.{thread_faults, failing_faults};
 
 use std::thread;
 use std::thread::{Promise, PromisedHandle, Threads};
 
-/// What starts threads, and counts the starts that failed. An implementor says only whether a thread may be started;
+/// What starts threads, and counts the starts that failed. An implementor says only whether a thread may be
+/// started;
 /// `start` is the same for all.
 pub trait Spawner {
     /// How often a thread couldn't be started.
@@ -13,7 +15,8 @@ pub trait Spawner {
 
     /// Whether a thread may be started now. False counts as a fault.
     fn admits(&mut self) -> bool
-        ensures { MatchBool result (Rises 0 (faults self.old) (faults self.new)) (Rises 1 (faults self.old) (faults self.new)) };
+        ensures { MatchBool result (Rises 0 (faults self.old) (faults self.new))
+            (Rises 1 (faults self.old) (faults self.new)) };
 
     /// Counts a thread that the system didn't have.
     fn refused(&mut self)
@@ -31,7 +34,9 @@ pub trait Spawner {
         Self: Sized,
         requires runs { J.pre job }
         requires keeps { (r : T) → J.post job r → P.kept_by promise r }
-        ensures started { MatchResult result (λ h. (h.promise ≡ promise) × Rises 0 (faults self.old) (faults self.new)) (λ j. (j ≡ job) × Rises 1 (faults self.old) (faults self.new)) }
+        ensures started { MatchResult result
+            (λ h. (h.promise ≡ promise) × Rises 0 (faults self.old) (faults self.new))
+            (λ j. (j ≡ job) × Rises 1 (faults self.old) (faults self.new)) }
     {
         if !self.admits() {
             return Err(job);

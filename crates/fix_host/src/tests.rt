@@ -1,5 +1,6 @@
+//! That a slot has one connection at a time, and that a thread answers or couldn't be started.
 ghost use Rattle.std.specs.Prelude.{◌≡◌, ◌+◌, MatchOption};
-ghost use Rattle.fix_base.specs.Seen.{Rises};
+ghost use Rattle.fix_base.specs.Trace.{Rises};
 
 use crate::{FailingSpawner, LinkSlot, SlotState, Spawner, ThreadSpawner};
 use std::thread::{Promise, Threads};

@@ -1,7 +1,10 @@
+//! The traits of what is outside a host: where connections, disks, clocks, texts and threads come from. A host
+//! has its parts made here, and those whose faults are counted come back here.
 ghost use Rattle.std.specs.Prelude.{◌≡◌, ℕ, IfOk, IfErr};
-ghost use Rattle.fix_base.specs.Seen.{Rises};
+ghost use Rattle.fix_base.specs.Trace.{Rises};
 ghost use Rattle.fix_host.specs.Made.{failures_with};
-ghost use Rattle.fix_host.specs.World.{WorldSeen, Makes, Opens, Retires, RetiresDisk, new_world, of_store, of_link, of_app, of_threads, of_files};
+ghost use Rattle.fix_host.specs.World.{WorldSeen, Makes, Opens, Retires, RetiresDisk, new_world, of_store, of_link};
+ghost use Rattle.fix_host.specs.World.{of_app, of_threads, of_files};
 ghost use Rattle.fix_host.specs.Damaged.{IsDamage};
 
 use crate::Spawner;
@@ -56,8 +59,8 @@ pub trait World: Sized + Send + Drop + 'static {
 
     type Gate: Gate + Send + Drop + 'static;
 
-    /// How often each kind of part failed, how often it listened or dialled, how many disks came back, and the bytes
-    /// of the last of these, where they are told.
+    /// How often each kind of part failed, how often it listened or dialled, how many disks came back, and
+    /// the bytes of the last of these, where they are told.
     ghost world: { Self → WorldSeen };
 
     /// What takes connections at this host and port. Failed only where the count of links rose.
@@ -112,7 +115,8 @@ pub trait World: Sized + Send + Drop + 'static {
     /// damaged.
     fn retire_disk(&mut self, disk: Self::Disk, damaged: Option<u64>)
         requires { IsDamage damaged (Self.Disk.Disk.disk disk).bytes }
-        ensures moves { RetiresDisk (Self.Disk.Disk.disk disk).faults (Self.Disk.Disk.disk disk).bytes damaged (world self.old) (world self.new) };
+        ensures moves { RetiresDisk (Self.Disk.Disk.disk disk).faults (Self.Disk.Disk.disk disk).bytes damaged
+            (world self.old) (world self.new) };
 
     /// Lets a connection go. That it failed counts as a fault of the links.
     fn retire_link(&mut self, link: Self::Link)

@@ -1,7 +1,7 @@
 -- The two steps of an append, each a write with a sync behind it.
 use Rattle.std.proofs.Common.{◌≡◌, inl, ℕ, ◌+◌, ◌≤◌, List, [], ◌∷◌, ◌++◌, length, drop, get_or, Some, Result, Ok, Err, refl, ◌∙◌, ap, subst, arith, append_assoc, length-append}
 use Rattle.std.specs.Prelude.{OnOk, IfSome, Option, All}
-use Rattle.fix_disk.specs.Disk.{DiskSeen, IsLawful, Torn, Only, overwritten}
+use Rattle.fix_disk.specs.Disk.{DiskSeen, IsLawfulDisk, Torn, Only, overwritten}
 use Rattle.fix_disk.specs.Moments.{LeavesOnly}
 use Rattle.fix_disk.specs.declared.disk.DiskFailed.{DiskFailed}
 use Rattle.fix_journal.specs.Format.{OPEN, IsPayload, body_of, front, IsJournal}
@@ -26,7 +26,7 @@ some_is P o x is p = subst (λ q. IfSome q P) is p
 lengths : (f g b : List ℕ) (gate : ℕ) → f ++ gate ∷ (b ++ []) ≡ g ++ [] → length g ≡ length f + 1 + length b
 lengths f g b gate is = omega (arith, ap length is, length-append f (gate ∷ (b ++ [])), length-append b [], length-append g [])
 
-module _ (old mid : DiskSeen) (laws : IsLawful mid) (gate : ℕ) (bytes : List ℕ) (payloads : List (List ℕ)) (payload : List ℕ) (rests : IsAtRest old gate payloads) (fits : IsPayload payload) (is : bytes ≡ body_of payload ++ 0 ∷ []) where
+module _ (old mid : DiskSeen) (laws : IsLawfulDisk mid) (gate : ℕ) (bytes : List ℕ) (payloads : List (List ℕ)) (payload : List ℕ) (rests : IsAtRest old gate payloads) (fits : IsPayload payload) (is : bytes ≡ body_of payload ++ 0 ∷ []) where
   behind : gate + 1 ≡ length (front payloads) + 1
   behind = omega (arith, rests.at)
 
@@ -55,7 +55,7 @@ module _ (old mid : DiskSeen) (laws : IsLawful mid) (gate : ℕ) (bytes : List �
       let now = some_is (λ file. mid.bytes ≡ Some (overwritten (gate + 1) bytes file)) old.bytes rests.file rests.is writes.file ∙ ap Some file in
       record { gate = j.gate; rest = drop (length bytes) j.behind; is = now; durable = λ told. some_is (λ file. Only file mid.image) mid.bytes _ now (writes.durable told) }
 
-module _ (mid new : DiskSeen) (laws : IsLawful new) (gate : ℕ) (payloads : List (List ℕ)) (payload : List ℕ) (each : All IsPayload payloads) (fits : IsPayload payload) (at : gate ≡ length (front payloads)) (held : IsStaged mid payloads payload) where
+module _ (mid new : DiskSeen) (laws : IsLawfulDisk new) (gate : ℕ) (payloads : List (List ℕ)) (payload : List ℕ) (each : All IsPayload payloads) (fits : IsPayload payload) (at : gate ≡ length (front payloads)) (held : IsStaged mid payloads payload) where
   gate_left : mid.TellsImages → (c : List ℕ) → TornFrom mid gate (1 ∷ []) c → IsEither payloads payload c
   gate_left told c from =
       let behind = body_of payload ++ 0 ∷ held.rest in
@@ -85,7 +85,7 @@ module _ (mid new : DiskSeen) (laws : IsLawful new) (gate : ℕ) (payloads : Lis
         durable = λ told. some_is (λ file. Only file new.image) new.bytes file now (writes.durable told);
       }
 
-module _ (gate : ℕ) (bytes : List ℕ) (old mid : DiskSeen) (mid_laws : IsLawful mid) where
+module _ (gate : ℕ) (bytes : List ℕ) (old mid : DiskSeen) (mid_laws : IsLawfulDisk mid) where
   pub append_failed : {T : Type 0} (e : DiskFailed) → WritesSynced {T = T} (Err e) (gate + 1) bytes old mid → Appends {T = T} (Err e) gate bytes old mid
   append_failed e writes = record {
     kept = λ payloads payload rests fits is. tt;
@@ -100,7 +100,7 @@ module _ (gate : ℕ) (bytes : List ℕ) (old mid : DiskSeen) (mid_laws : IsLawf
     calls = λ some. omega (arith, writes.calls some);
   }
 
-  module _ {T U : Type 0} (x : U) (new : DiskSeen) (laws : IsLawful new) (first : WritesSynced {T = U} (Ok x) (gate + 1) bytes old mid) where
+  module _ {T U : Type 0} (x : U) (new : DiskSeen) (laws : IsLawfulDisk new) (first : WritesSynced {T = U} (Ok x) (gate + 1) bytes old mid) where
     kept_at : (answer : Result T DiskFailed) → WritesSynced answer gate (1 ∷ []) mid new → (payloads : List (List ℕ)) (payload : List ℕ) → IsAtRest old gate payloads → IsPayload payload → bytes ≡ body_of payload ++ 0 ∷ []
         → OnOk answer (IsAtRest new (gate + length bytes) (payloads ++ payload ∷ []))
     kept_at (Err e) second payloads payload rests fits is = tt

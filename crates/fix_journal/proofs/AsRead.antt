@@ -2,7 +2,7 @@
 -- holds so of what is read, also where a disk tells no images.
 use Rattle.std.proofs.Common.{◌≡◌, ℕ, List, length, Option, Some, None, Result, Ok, Err, refl, sym, ◌∙◌, ap, subst, true≢false}
 use Rattle.std.specs.Prelude.{IsSome, IfSome, OnOk, is_some}
-use Rattle.fix_disk.specs.Disk.{DiskSeen, IsLawful, Torn, Only}
+use Rattle.fix_disk.specs.Disk.{DiskSeen, IsLawfulDisk, Torn, Only}
 use Rattle.fix_disk.specs.declared.disk.DiskFailed.{DiskFailed}
 use Rattle.fix_journal.specs.Synced.{WritesSynced}
 use Rattle.fix_journal.specs.AtRest.{IsAtRest}
@@ -25,7 +25,7 @@ as_read seen = record {
   room = None;
 }
 
-pub lawful : (seen : DiskSeen) → IsLawful (as_read seen)
+pub lawful : (seen : DiskSeen) → IsLawfulDisk (as_read seen)
 lawful seen = record {
   tells_bytes = λ told. told;
   tells_now = λ p. absurd p;

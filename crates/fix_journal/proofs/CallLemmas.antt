@@ -1,7 +1,7 @@
 -- What the calls of a journal do to its disk.
 use Rattle.std.proofs.Common.{◌≡◌, ℕ, ◌+◌, ◌-◌, ◌<◌, ◌≤◌, suc, Bool, false, List, [], ◌∷◌, ◌++◌, length, take, drop, get_or, Some, Result, Ok, Err, refl, sym, ◌∙◌, ap, subst, arith, length-append, true≢false}
 use Rattle.std.specs.Prelude.{IfSome, IfOk, is_err}
-use Rattle.fix_disk.specs.Disk.{DiskSeen, IsLawful, DiskReads}
+use Rattle.fix_disk.specs.Disk.{DiskSeen, IsLawfulDisk, DiskReads}
 use Rattle.fix_disk.specs.Moments.{LeavesOnly}
 use Rattle.fix_disk.specs.declared.disk.DiskFailed.{DiskFailed}
 use Rattle.fix_journal.specs.declared.fault.AppendFault.TheVariants.{DiskFault}
@@ -64,7 +64,7 @@ module _ (old new : DiskSeen) (gates : List ℕ) (sound : IsSound old gates fals
           );
     }
 
-module _ (old new : DiskSeen) (laws : IsLawful old) where
+module _ (old new : DiskSeen) (laws : IsLawfulDisk old) where
   read_moment : {T : Type 0} (answer : Result T DiskFailed) (at : ℕ) (room : List ℕ) → DiskReads answer at room old new → LeavesOnly old new old.image
   read_moment answer at room reads = goes_on old old new old.image laws (started old old.image laws (λ p c left. left)) reads.time (λ p c left. (reads.same.images (laws.tells_now (reads.time.tells_past.0 p).0) c).0 left)
 

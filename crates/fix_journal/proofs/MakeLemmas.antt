@@ -3,7 +3,7 @@ use Rattle.std.proofs.Common.{◌≡◌, inl, inr, ℕ, List, [], ◌∷◌, ◌
 use Rattle.std.specs.Prelude.{IfSome, IsSome, is_some, OnOk}
 use Rattle.std.proofs.lemmas.Bool.{cases_eq}
 use Rattle.std.proofs.lemmas.List.Elements.{All-nil}
-use Rattle.fix_disk.specs.Disk.{DiskSeen, IsLawful, Torn, overwritten}
+use Rattle.fix_disk.specs.Disk.{DiskSeen, IsLawfulDisk, Torn, overwritten}
 use Rattle.fix_disk.specs.Moments.{LeavesOnly}
 use Rattle.fix_disk.specs.declared.disk.DiskFailed.{DiskFailed}
 use Rattle.fix_journal.specs.Format.{OPEN, NAME, IsPayload, IsJournal, HasRecords}
@@ -16,13 +16,13 @@ use Rattle.fix_journal.proofs.AsRead as read
 use Rattle.fix_journal.proofs.SoundLemmas.{some_same, told_case}
 
 -- what a crash leaves of a file at rest
-pub left_has : (seen : DiskSeen) (P : List ℕ → Type 0) → IsLawful seen → Rests seen P → seen.TellsImages → (d : List ℕ) → seen.image d → P d
+pub left_has : (seen : DiskSeen) (P : List ℕ → Type 0) → IsLawfulDisk seen → Rests seen P → seen.TellsImages → (d : List ℕ) → seen.image d → P d
 left_has seen P laws rests told d left =
     let there = at_told seen.bytes (laws.tells_bytes told) in
     let only = subst (λ o. IfSome o (λ file. (c : List ℕ) → seen.image c → c ≡ file)) there.1 (rests.durable told) in
     subst P (sym (only d left)) (subst (λ o. IfSome o P) there.1 rests.holds)
 
-module _ {T : Type 0} (answer : Result T DiskFailed) (at : ℕ) (bytes : List ℕ) (old new : DiskSeen) (P Q : List ℕ → Type 0) (laws : IsLawful old) (new_laws : IsLawful new) (rests : Rests old P) (writes : WritesSynced answer at bytes old new) (gives : (d c : List ℕ) → P d → Torn at (length bytes) d c → Q c) where
+module _ {T : Type 0} (answer : Result T DiskFailed) (at : ℕ) (bytes : List ℕ) (old new : DiskSeen) (P Q : List ℕ → Type 0) (laws : IsLawfulDisk old) (new_laws : IsLawfulDisk new) (rests : Rests old P) (writes : WritesSynced answer at bytes old new) (gives : (d c : List ℕ) → P d → Torn at (length bytes) d c → Q c) where
   left_by : old.TellsImages → (c : List ℕ) → TornFrom old at bytes c → Q c
   left_by told c from = gives from.0 c (left_has old P laws rests told from.0 from.1) from.2
 
@@ -101,7 +101,7 @@ ready_behind : (file : List ℕ) → IsReady file → drop 10 (overwritten 0 (1 
 ready_behind [] ready = refl
 ready_behind (x ∷ file) ready = refl
 
-module _ (old mid : DiskSeen) (laws : IsLawful old) (mid_laws : IsLawful mid) where
+module _ (old mid : DiskSeen) (laws : IsLawfulDisk old) (mid_laws : IsLawfulDisk mid) where
   module _ (rests : Rests old IsClosed) where
     pub closed_failed : {T : Type 0} (e : DiskFailed) → WritesSynced {T = T} (Err e) 1 (NAME ++ 0 ∷ []) old mid → Makes {T = T} (Err e) old mid
     closed_failed e writes = record {
@@ -115,7 +115,7 @@ module _ (old mid : DiskSeen) (laws : IsLawful old) (mid_laws : IsLawful mid) wh
       cause = writes.cause;
     }
 
-    pub closed_done : {T U : Type 0} (x : U) (answer : Result T DiskFailed) (new : DiskSeen) → IsLawful new → WritesSynced {T = U} (Ok x) 1 (NAME ++ 0 ∷ []) old mid → WritesSynced answer 0 (1 ∷ []) mid new → Makes answer old new
+    pub closed_done : {T U : Type 0} (x : U) (answer : Result T DiskFailed) (new : DiskSeen) → IsLawfulDisk new → WritesSynced {T = U} (Ok x) 1 (NAME ++ 0 ∷ []) old mid → WritesSynced answer 0 (1 ∷ []) mid new → Makes answer old new
     closed_done x answer new new_laws first second = record {
       kept = kept answer second;
       behind = behind answer second;

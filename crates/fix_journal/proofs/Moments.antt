@@ -1,10 +1,10 @@
 -- How a run of calls of a disk goes on.
 use Rattle.std.proofs.Common.{inl, inr, ⊎_elim, ℕ, ◌≤◌, List, arith}
-use Rattle.fix_disk.specs.Disk.{DiskSeen, IsLawful, Elapses}
+use Rattle.fix_disk.specs.Disk.{DiskSeen, IsLawfulDisk, Elapses}
 use Rattle.fix_disk.specs.Moments.{LeavesOnly}
 
 -- before the first call
-pub started : (old : DiskSeen) (P : List ℕ → Type 0) → IsLawful old → (old.TellsPast → (c : List ℕ) → old.image c → P c) → LeavesOnly old old P
+pub started : (old : DiskSeen) (P : List ℕ → Type 0) → IsLawfulDisk old → (old.TellsPast → (c : List ℕ) → old.image c → P c) → LeavesOnly old old P
 started old P laws here = record {
   told = λ p. p;
   later = λ p. omega arith;
@@ -13,7 +13,7 @@ started old P laws here = record {
 }
 
 -- one call more, behind which a crash leaves what has P
-pub goes_on : (old mid new : DiskSeen) (P : List ℕ → Type 0) → IsLawful mid → LeavesOnly old mid P → Elapses mid new → (new.TellsPast → (c : List ℕ) → new.image c → P c) → LeavesOnly old new P
+pub goes_on : (old mid new : DiskSeen) (P : List ℕ → Type 0) → IsLawfulDisk mid → LeavesOnly old mid P → Elapses mid new → (new.TellsPast → (c : List ℕ) → new.image c → P c) → LeavesOnly old new P
 goes_on old mid new P laws so_far time here = record {
   told = λ p. so_far.told (was p);
   later = λ p. omega (arith, so_far.later (was p), later p);

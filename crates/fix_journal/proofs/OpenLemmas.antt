@@ -2,8 +2,8 @@
 use Rattle.std.proofs.Common.{◌≡◌, inl, inr, ℕ, ◌-◌, Bool, true, false, List, [], length, Option, Some, None, Result, Ok, sym, ◌∙◌, ap, subst, arith}
 use Rattle.std.specs.Prelude.{IfSome, IsSome, is_some, Vec}
 use Rattle.std.specs.declared.alloc.Global.{Global}
-use Rattle.fix_base.specs.Seen.{Rises}
-use Rattle.fix_disk.specs.Disk.{DiskSeen, IsLawful, failures}
+use Rattle.fix_base.specs.Trace.{Rises}
+use Rattle.fix_disk.specs.Disk.{DiskSeen, IsLawfulDisk, failures}
 use Rattle.fix_disk.specs.declared.disk.DiskFailed.{DiskFailed}
 use Rattle.fix_journal.specs.declared.fault.OpenFault.{OpenFault}
 use Rattle.fix_journal.specs.declared.fault.OpenFault.TheVariants.{DiskFault, Damaged, OutOfMemory}
@@ -31,7 +31,7 @@ behind_later None old mid new is behind = subst (λ o. KeepsBehind o new.bytes) 
 behind_later (Some fault) old mid new is behind = tt
 
 -- an opening behind calls that write nothing
-pub opens_later : (fault : Option OpenFault) (old mid new : DiskSeen) → IsLawful mid → IsUntouched old mid → Rises 0 old.faults mid.faults → Opens fault mid new → Opens fault old new
+pub opens_later : (fault : Option OpenFault) (old mid new : DiskSeen) → IsLawfulDisk mid → IsUntouched old mid → Rises 0 old.faults mid.faults → Opens fault mid new → Opens fault old new
 opens_later fault old mid new laws untouched before opens = record {
   made_same = subst (λ o. IfSome o (λ file. IsMade file → new.bytes ≡ o)) untouched.bytes opens.made_same;
   behind = behind_later fault old mid new untouched.bytes opens.behind;
@@ -50,7 +50,7 @@ opens_later fault old mid new laws untouched before opens = record {
     left_later told c (inl left) = inl (untouched.images (untouched.tells_images.0 told) c left)
     left_later told c (inr left) = inr ((left.0.0, sym untouched.bytes ∙ left.0.1, left.0.2), left.1)
 
-module _ {T : Type 0} (answer : Result T DiskFailed) (is_short : Bool) (old new : DiskSeen) (laws : IsLawful old) (new_laws : IsLawful new) (rests : Rests old (IsUnmadeBy is_short)) (makes : Makes answer old new) where
+module _ {T : Type 0} (answer : Result T DiskFailed) (is_short : Bool) (old new : DiskSeen) (laws : IsLawfulDisk old) (new_laws : IsLawfulDisk new) (rests : Rests old (IsUnmadeBy is_short)) (makes : Makes answer old new) where
   unmade : IsSome old.bytes → (file : List ℕ) × (old.bytes ≡ Some file) × (IsMade file → ⊥)
   unmade some =
       let there = at_told old.bytes some in

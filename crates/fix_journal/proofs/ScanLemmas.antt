@@ -3,8 +3,8 @@ use Rattle.std.proofs.Common.{◌≡◌, ℕ, ◌+◌, ◌-◌, ◌<◌, ◌≤�
 use Rattle.std.specs.Prelude.{All, IfSome}
 use Rattle.std.proofs.lemmas.List.{take_at, drop-drop}
 use Rattle.std.proofs.lemmas.List.Elements.{All-push, All-nil}
-use Rattle.fix_base.specs.Seen.{Rises}
-use Rattle.fix_disk.specs.Disk.{DiskSeen, IsLawful}
+use Rattle.fix_base.specs.Trace.{Rises}
+use Rattle.fix_disk.specs.Disk.{DiskSeen, IsLawfulDisk}
 use Rattle.fix_journal.specs.declared.heads.Head.{Head}
 use Rattle.fix_journal.specs.declared.heads.Head.TheVariants.{Closed, Record, Broken}
 use Rattle.fix_journal.specs.Format.{OPEN, IsPayload, body_of, front, IsJournal, Breaks}
@@ -30,10 +30,10 @@ pub record IsScanning (old now : DiskSeen) (end gate : ℕ) (gates : List ℕ) :
   pub untouched : IsUntouched old now
   pub cause : Rises 0 old.faults now.faults
 
-pub untouched_start : (old : DiskSeen) → IsLawful old → IsUntouched old old
+pub untouched_start : (old : DiskSeen) → IsLawfulDisk old → IsUntouched old old
 untouched_start old laws = record { bytes = refl; tells_images = (λ t. t, λ t. t); images = λ told c left. left; moments = started old old.image laws (λ p c left. left) }
 
-pub untouched_on : (old mid new : DiskSeen) → IsLawful mid → IsUntouched old mid → IsUntouched mid new → IsUntouched old new
+pub untouched_on : (old mid new : DiskSeen) → IsLawfulDisk mid → IsUntouched old mid → IsUntouched mid new → IsUntouched old new
 untouched_on old mid new mid_laws first second = record {
   bytes = second.bytes ∙ first.bytes;
   tells_images = (λ t. first.tells_images.0 (second.tells_images.0 t), λ t. second.tells_images.1 (first.tells_images.1 t));
@@ -41,7 +41,7 @@ untouched_on old mid new mid_laws first second = record {
   moments = then_on old mid new old.image first.moments (weaker mid new mid.image old.image second.moments (λ p c left. first.images (first.tells_images.0 (mid_laws.tells_now (second.moments.told p))) c left));
 }
 
-pub begins : (old : DiskSeen) (end : ℕ) → IsLawful old → 10 ≤ end → HasLength old.bytes end → IfSome old.bytes IsNamed → IsScanning old old end 9 []
+pub begins : (old : DiskSeen) (end : ℕ) → IsLawfulDisk old → 10 ≤ end → HasLength old.bytes end → IfSome old.bytes IsNamed → IsScanning old old end 9 []
 begins old end laws le long named = record {
   within = le;
   long = long;
@@ -109,7 +109,7 @@ goes_past file gate size gates so_far there =
       gates_are = ap (λ l. l ++ (gate + (5 + size)) ∷ []) so_far.gates_are ∙ ap (λ n. gates_from 9 so_far.payloads ++ n ∷ []) (long ∙ length-front (so_far.payloads ++ payload ∷ [])) ∙ gates-push 9 so_far.payloads payload;
     }
 
-pub passes : (old mid new : DiskSeen) (end gate size : ℕ) (gates : List ℕ) (head : Head) → head ≡ Record size → IsLawful mid → IsScanning old mid end gate gates → IfSome mid.bytes (λ file. Judges head (drop gate file)) → IsWithin head (end - gate) → IsUntouched mid new → Rises 0 mid.faults new.faults
+pub passes : (old mid new : DiskSeen) (end gate size : ℕ) (gates : List ℕ) (head : Head) → head ≡ Record size → IsLawfulDisk mid → IsScanning old mid end gate gates → IfSome mid.bytes (λ file. Judges head (drop gate file)) → IsWithin head (end - gate) → IsUntouched mid new → Rises 0 mid.faults new.faults
     → IsScanning old new end (gate + (5 + size)) (gates ++ gate ∷ [])
 passes old mid new end gate size gates head head_is laws so_far there within untouched cause = record {
   within = omega (arith, lt, so_far.within);

@@ -1,7 +1,7 @@
 -- A write, and a write with a sync behind it.
 use Rattle.std.proofs.Common.{◌≡◌, ◌↔◌, ℕ, List, length, Option, Some, None, Result, Ok, Err, refl, sym, ◌∙◌, ap, subst, arith}
 use Rattle.std.specs.Prelude.{IsSome, IfSome, OnOk, is_some}
-use Rattle.fix_disk.specs.Disk.{DiskSeen, IsLawful, DiskWrites, DiskSyncs, WrittenAfter, Torn, Only, HasRange, overwritten}
+use Rattle.fix_disk.specs.Disk.{DiskSeen, IsLawfulDisk, DiskWrites, DiskSyncs, WrittenAfter, Torn, Only, HasRange, overwritten}
 use Rattle.fix_disk.specs.Moments.{LeavesOnly}
 use Rattle.fix_disk.specs.declared.disk.DiskFailed.{DiskFailed}
 use Rattle.fix_disk.proofs.WriteLemmas.{written_torn}
@@ -26,7 +26,7 @@ read_torn (Err e) at bytes (Some old) new range is = subst (λ o. IfSome o (Torn
 torn_self : (at count : ℕ) (c : List ℕ) → Torn at count c c
 torn_self at count c = record { no_shorter = omega arith; no_longer = omega arith; before = λ i lt below. refl; after = λ i lt behind. refl }
 
-module _ {T : Type 0} (answer : Result T DiskFailed) (at : ℕ) (bytes : List ℕ) (old mid : DiskSeen) (laws : IsLawful old) (range : HasRange old.bytes at 0) (writes : DiskWrites answer at bytes old mid) where
+module _ {T : Type 0} (answer : Result T DiskFailed) (at : ℕ) (bytes : List ℕ) (old mid : DiskSeen) (laws : IsLawfulDisk old) (range : HasRange old.bytes at 0) (writes : DiskWrites answer at bytes old mid) where
   now_torn : mid.TellsImages → (c : List ℕ) → mid.image c → TornFrom old at bytes c
   now_torn told c left = writes.torn (writes.time.tells_images.0 told) c left
 
@@ -57,7 +57,7 @@ on_any : {T : Type 0} (answer : Result T DiskFailed) {P : Type 0} → P → OnOk
 on_any (Ok x) p = p
 on_any (Err e) p = tt
 
-pub write_and_sync : {T : Type 0} (x : T) (answer : Result T DiskFailed) (at : ℕ) (bytes : List ℕ) (old mid new : DiskSeen) → IsLawful old → IsLawful mid → HasRange old.bytes at 0 → DiskWrites (Ok x) at bytes old mid → DiskSyncs answer mid new → WritesSynced answer at bytes old new
+pub write_and_sync : {T : Type 0} (x : T) (answer : Result T DiskFailed) (at : ℕ) (bytes : List ℕ) (old mid new : DiskSeen) → IsLawfulDisk old → IsLawfulDisk mid → HasRange old.bytes at 0 → DiskWrites (Ok x) at bytes old mid → DiskSyncs answer mid new → WritesSynced answer at bytes old new
 write_and_sync x answer at bytes old mid new laws mid_laws range writes syncs = record {
   file = on_any answer (subst (λ b. IfSome old.bytes (λ file. b ≡ Some (overwritten at bytes file))) (sym syncs.bytes) (written x at bytes old.bytes mid.bytes writes.written));
   durable = on_ok answer (λ only told. subst (λ b. IfSome b (λ file. Only file new.image)) (sym syncs.bytes) (only (syncs.time.tells_images.0 told))) syncs.durable;

@@ -3,8 +3,8 @@ use Rattle.std.proofs.Common.{◌≡◌, ℕ, ◌+◌, ◌-◌, ◌≤◌, min, 
 use Rattle.std.specs.Prelude.{IfSome, is_some}
 use Rattle.std.proofs.lemmas.List.{drop-take, drop-drop, length-take, take_at, take_min}
 use Rattle.std.proofs.Math.Seq.{take-add}
-use Rattle.fix_base.specs.Seen.{Rises}
-use Rattle.fix_disk.specs.Disk.{DiskSeen, IsLawful}
+use Rattle.fix_base.specs.Trace.{Rises}
+use Rattle.fix_disk.specs.Disk.{DiskSeen, IsLawfulDisk}
 use Rattle.fix_disk.specs.Moments.{NeedsRoom}
 use Rattle.fix_journal.proofs.RoomLemmas.{needs_then}
 use Rattle.fix_journal.specs.declared.heads.Head.{Head}
@@ -40,7 +40,7 @@ shown_is file held from at count end is long le reaches few =
     ∙ ap (λ n. take n there) (omega (arith, few, left))
     ∙ take_min 5 there
 
-pub walks_on : (old mid new : DiskSeen) (end gate size : ℕ) (gates : List ℕ) (w v : Window) (head : Head) → head ≡ Record size → IsLawful mid → IsWalking old mid end gate gates w → IfSome mid.bytes (λ file. Judges head (drop gate file)) → IsWithin head (end - gate) → IsUntouched mid new → Rises 0 mid.faults new.faults
+pub walks_on : (old mid new : DiskSeen) (end gate size : ℕ) (gates : List ℕ) (w v : Window) (head : Head) → head ≡ Record size → IsLawfulDisk mid → IsWalking old mid end gate gates w → IfSome mid.bytes (λ file. Judges head (drop gate file)) → IsWithin head (end - gate) → IsUntouched mid new → Rises 0 mid.faults new.faults
     → IsWindow new.bytes end v → v.from ≤ gate → GoesOn w.from v.from mid new → NeedsRoom 0 0 mid new → IsWalking old new end (gate + (5 + size)) (gates ++ gate ∷ []) v
 walks_on old mid new end gate size gates w v head is laws so_far there within untouched cause shows behind calls room = record {
   scanning = passes old mid new end gate size gates head is laws so_far.scanning there within untouched cause;

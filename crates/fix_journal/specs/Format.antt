@@ -8,7 +8,7 @@
 use Rattle.std.specs.Prelude.{◌≡◌, ◌≢◌, ◌⊎◌, ℕ, ◌+◌, ◌≤◌, List, [], ◌∷◌, ◌++◌, length, take, drop, slice_index, All}
 use Rattle.std.specs.Int.{w32, to_be_bytes}
 
--- a gate that lets what stands behind it count; any other byte is a closed gate
+-- a gate that lets what stands after it count; any other byte is a closed gate
 abbrev pub OPEN : ℕ
 OPEN = 1
 
@@ -22,7 +22,7 @@ MOST_PAYLOAD = 1114112
 abbrev pub IsPayload : List ℕ → Type 0
 IsPayload payload = (1 ≤ length payload) × (length payload ≤ MOST_PAYLOAD)
 
--- the length and the payload, as they stand behind a record's gate
+-- the length and the payload, as they stand after a record's gate
 abbrev pub body_of : List ℕ → List ℕ
 body_of payload = to_be_bytes w32 (length payload) ++ payload
 
@@ -30,18 +30,18 @@ abbrev pub recorded : List (List ℕ) → List ℕ
 recorded [] = []
 recorded (payload ∷ payloads) = OPEN ∷ (body_of payload ++ recorded payloads)
 
--- a made file up to the gate behind these records
+-- a made file up to the gate after these records
 abbrev pub front : List (List ℕ) → List ℕ
 front payloads = OPEN ∷ (NAME ++ recorded payloads)
 
--- the length of a file up to the closed gate behind these records, and with it
+-- the length of a file up to the closed gate after these records, and with it
 abbrev pub file_size : List (List ℕ) → ℕ
 file_size payloads = length (front payloads) + 1
 
 abbrev pub IsMade : List ℕ → Type 0
 IsMade file = (10 ≤ length file) × (slice_index file 0 ≡ OPEN)
 
--- the records before the first closed gate are these; what stands behind it has no meaning
+-- the records before the first closed gate are these; what stands after it has no meaning
 pub record IsJournal (file : List ℕ) (payloads : List (List ℕ)) : Type 0 where
   pub gate : ℕ
   pub behind : List ℕ
@@ -53,11 +53,12 @@ pub record IsJournal (file : List ℕ) (payloads : List (List ℕ)) : Type 0 whe
 abbrev pub HasRecords : List ℕ → List (List ℕ) → Type 0
 HasRecords file payloads = ((IsMade file → ⊥) × (payloads ≡ [])) ⊎ IsJournal file payloads
 
--- no record stands there with one more byte behind it
+-- no record stands there with one more byte after it
 abbrev pub HoldsNoRecord : List ℕ → Type 0
-HoldsNoRecord rest = (payload : List ℕ) (next : ℕ) (later : List ℕ) → IsPayload payload → rest ≡ body_of payload ++ next ∷ later → ⊥
+HoldsNoRecord rest = (payload : List ℕ) (next : ℕ) (later : List ℕ) → IsPayload payload → rest ≡ body_of payload
+    ++ next ∷ later → ⊥
 
--- an open gate behind these records, and no record there
+-- an open gate after these records, and no record there
 pub record Breaks (file : List ℕ) (place : ℕ) : Type 0 where
   pub payloads : List (List ℕ)
   pub rest : List ℕ

@@ -1,6 +1,7 @@
 -- What is seen of a journal, and what its calls do.
-use Rattle.std.specs.Prelude.{◌≡◌, ◌↔◌, ℕ, ◌+◌, ◌<◌, ◌≤◌, Bool, true, false, List, [], ◌∷◌, ◌++◌, length, slice_get, Some, IsSome, IfSome, Result, Ok, Err, OnOk}
-use Rattle.fix_base.specs.Seen.{Rises}
+use Rattle.std.specs.Prelude.{◌≡◌, ◌↔◌, ℕ, ◌+◌, ◌<◌, ◌≤◌, Bool, true, false, List, [], ◌∷◌, ◌++◌, length, slice_get}
+use Rattle.std.specs.Prelude.{Some, IsSome, IfSome, Result, Ok, Err, OnOk}
+use Rattle.fix_base.specs.Trace.{Rises}
 use Rattle.fix_disk.specs.Disk.{DiskSeen, LeavesAsIs}
 use Rattle.fix_disk.specs.Moments.{LeavesOnly}
 use Rattle.fix_journal.specs.declared.fault.AppendFault.{AppendFault}
@@ -16,15 +17,17 @@ pub record JournalSeen (D : Type 0) : Type 0 where
   pub count : ℕ  -- how many records there are
   pub stopped : Bool  -- the disk failed at some call
 
--- the places of these records' gates from one on, and that of the closed gate behind them
+-- the places of these records' gates from one on, and that of the closed gate after them
 abbrev pub gates_from : ℕ → List (List ℕ) → List ℕ
 gates_from at [] = at ∷ []
 gates_from at (payload ∷ payloads) = at ∷ gates_from (at + 1 + length (body_of payload)) payloads
 
--- while the disk hasn't failed, and where it tells its bytes, its file has records, is on the disk, and the gates are its gates
+-- while the disk hasn't failed, and where it tells its bytes, its file has records, is on the disk, and the
+-- gates are its gates
 pub record IsSound (seen : DiskSeen) (gates : List ℕ) (stopped : Bool) : Type 0 where
   pub some : 1 ≤ length gates
-  pub rests : stopped ≡ false → IsSome seen.bytes → (payloads : List (List ℕ)) × IsAtRest seen (length (front payloads)) payloads × (gates ≡ gates_from 9 payloads)
+  pub rests : stopped ≡ false → IsSome seen.bytes → (payloads : List (List ℕ))
+      × IsAtRest seen (length (front payloads)) payloads × (gates ≡ gates_from 9 payloads)
 
 -- the disk tells a file with these records
 abbrev pub Holds : DiskSeen → List (List ℕ) → Type 0
@@ -36,11 +39,13 @@ Lasts seen payloads = seen.TellsImages → (c : List ℕ) → seen.image c → I
 
 -- when each answer comes, of a payload of so many bytes, and what the journal is then
 abbrev pub AppendAnswers : {D : Type 0} → Result ℕ AppendFault → ℕ → JournalSeen D → JournalSeen D → Type 0
-AppendAnswers (Ok index) size old new = (old.stopped ≡ false) × (size ≤ MOST_PAYLOAD) × (index ≡ old.count) × (new.count ≡ old.count + 1) × (new.stopped ≡ false)
+AppendAnswers (Ok index) size old new = (old.stopped ≡ false) × (size ≤ MOST_PAYLOAD) × (index ≡ old.count)
+    × (new.count ≡ old.count + 1) × (new.stopped ≡ false)
 AppendAnswers (Err append.Stopped) size old new = (old.stopped ≡ true) × (new ≡ old)
 AppendAnswers (Err append.TooLong) size old new = (old.stopped ≡ false) × (MOST_PAYLOAD < size) × (new ≡ old)
 AppendAnswers (Err append.OutOfMemory) size old new = (old.stopped ≡ false) × (size ≤ MOST_PAYLOAD) × (new ≡ old)
-AppendAnswers (Err append.DiskFault) size old new = (old.stopped ≡ false) × (size ≤ MOST_PAYLOAD) × (new.count ≡ old.count) × (new.stopped ≡ true)
+AppendAnswers (Err append.DiskFault) size old new = (old.stopped ≡ false) × (size ≤ MOST_PAYLOAD)
+    × (new.count ≡ old.count) × (new.stopped ≡ true)
 
 abbrev pub append_failures : Result ℕ AppendFault → ℕ
 append_failures (Ok index) = 0
@@ -52,11 +57,13 @@ append_failures (Err append.DiskFault) = 1
 -- what an append does to the disk of a journal that isn't stopped
 pub record JournalAppends (answer : Result ℕ AppendFault) (payload : List ℕ) (old new : DiskSeen) : Type 0 where
   -- an acknowledged record is there, and is in whatever a crash leaves
-  pub kept : OnOk answer ((payloads : List (List ℕ)) → Holds old payloads → Holds new (payloads ++ payload ∷ []) × Lasts new (payloads ++ payload ∷ []))
+  pub kept : OnOk answer ((payloads : List (List ℕ)) → Holds old payloads → Holds new (payloads ++ payload ∷ [])
+      × Lasts new (payloads ++ payload ∷ []))
   -- a crash at any moment of it leaves the records from before, or those and the new one
   pub any_moment : (payloads : List (List ℕ)) → Holds old payloads → LeavesOnly old new (IsEither payloads payload)
-  -- and so does a crash behind it
-  pub now : (payloads : List (List ℕ)) → Holds old payloads → new.TellsImages → (c : List ℕ) → new.image c → IsEither payloads payload c
+  -- and so does a crash after it
+  pub now : (payloads : List (List ℕ)) → Holds old payloads → new.TellsImages → (c : List ℕ) → new.image c
+      → IsEither payloads payload c
   -- what is read then has these or those, whatever was answered
   pub as_read : (payloads : List (List ℕ)) → Holds old payloads → IfSome new.bytes (IsEither payloads payload)
   pub tells_bytes : IsSome new.bytes ↔ IsSome old.bytes
@@ -78,7 +85,8 @@ read_failures (Err read.OutOfMemory) = 0
 read_failures (Err read.DiskFault) = 1
 
 -- what a read of the record of this index gives, and does to the disk
-pub record JournalReads {T : Type 0} (answer : Result T ReadFault) (index : ℕ) (into : List ℕ) (old new : DiskSeen) : Type 0 where
+pub record JournalReads {T : Type 0} (answer : Result T ReadFault) (index : ℕ) (into : List ℕ)
+    (old new : DiskSeen) : Type 0 where
   pub read : OnOk answer ((payloads : List (List ℕ)) → Holds old payloads → slice_get payloads index ≡ Some into)
   pub same : LeavesAsIs old new
   -- a crash at any moment of it leaves what one had left before

@@ -1,6 +1,8 @@
 -- What the opening of a journal finds in its file, and does to it.
-use Rattle.std.specs.Prelude.{◌≡◌, ◌≢◌, ◌⊎◌, ◌↔◌, ℕ, ◌+◌, ◌<◌, ◌≤◌, Bool, true, false, List, [], ◌∷◌, ◌++◌, length, take, drop, slice_index, Option, Some, None, IsSome, IfSome, Vec, Result, Ok, Err, OnOk, ⊤}
-use Rattle.fix_base.specs.Seen.{Rises}
+use Rattle.std.specs.Prelude.{◌≡◌, ◌≢◌, ◌⊎◌, ◌↔◌, ℕ, ◌+◌, ◌<◌, ◌≤◌, Bool, true, false, List, [], ◌∷◌, ◌++◌, length}
+use Rattle.std.specs.Prelude.{take, drop, slice_index, Option, Some, None, IsSome, IfSome, Vec, Result, Ok, Err}
+use Rattle.std.specs.Prelude.{OnOk, ⊤}
+use Rattle.fix_base.specs.Trace.{Rises}
 use Rattle.fix_disk.specs.Disk.{DiskSeen, Only, failures}
 use Rattle.fix_disk.specs.Moments.{LeavesOnly, NeedsRoom}
 use Rattle.fix_disk.specs.declared.disk.DiskFailed.{DiskFailed}
@@ -12,16 +14,18 @@ use Rattle.fix_journal.specs.declared.fault.OpenFault.TheVariants.{DiskFault, Da
 use Rattle.fix_journal.specs.Journal.{JournalSeen, Holds, Lasts, gates_from}
 use Rattle.fix_journal.specs.declared.surveying.Kind.{Kind}
 use Rattle.fix_journal.specs.declared.surveying.Kind.TheVariants.{Unmade, Named, Misnamed}
-use Rattle.fix_journal.specs.Format.{OPEN, NAME, IsPayload, body_of, front, IsMade, IsJournal, HasRecords, HoldsNoRecord, Breaks, IsDamagedAt}
+use Rattle.fix_journal.specs.Format.{OPEN, NAME, IsPayload, body_of, front, IsMade, IsJournal, HasRecords}
+use Rattle.fix_journal.specs.Format.{HoldsNoRecord, Breaks, IsDamagedAt}
 use Rattle.fix_journal.specs.AtRest.{IsAtRest}
 
 -- of the bytes from a gate on
 abbrev pub Judges : Head → List ℕ → Type 0
 Judges Closed rest = slice_index rest 0 ≢ OPEN
-Judges (Record size) rest = (payload : List ℕ) × IsPayload payload × (length payload ≡ size) × (rest ≡ OPEN ∷ (body_of payload ++ drop size (drop 5 rest)))
+Judges (Record size) rest = (payload : List ℕ) × IsPayload payload × (length payload ≡ size)
+    × (rest ≡ OPEN ∷ (body_of payload ++ drop size (drop 5 rest)))
 Judges Broken rest = (slice_index rest 0 ≡ OPEN) × HoldsNoRecord (drop 1 rest)
 
--- the record and the gate behind it end within so many bytes
+-- the record and the gate after it end within so many bytes
 abbrev pub IsWithin : Head → ℕ → Type 0
 IsWithin Closed left = ⊤
 IsWithin (Record size) left = 5 + size < left
@@ -86,11 +90,12 @@ HasTen (Unmade is_short) = ⊤
 HasTen (Named end) = 10 ≤ end
 HasTen Misnamed = ⊤
 
--- what stands behind the first ten bytes stays
+-- what stands after the first ten bytes stays
 abbrev pub KeepsBehind : Option (List ℕ) → Option (List ℕ) → Type 0
 KeepsBehind old new = IfSome old (λ file. IfSome new (λ now. drop 10 now ≡ drop 10 file))
 
--- what the making of a journal does to a disk: a crash at any moment of it leaves an unmade file or a journal without records
+-- what the making of a journal does to a disk: a crash at any moment of it leaves an unmade file or a journal
+-- without records
 pub record Makes {T : Type 0} (answer : Result T DiskFailed) (old new : DiskSeen) : Type 0 where
   pub kept : OnOk answer (Rests new (λ file. IsJournal file []))
   pub behind : OnOk answer (KeepsBehind old.bytes new.bytes)
@@ -98,29 +103,33 @@ pub record Makes {T : Type 0} (answer : Result T DiskFailed) (old new : DiskSeen
   pub tells_images : new.TellsImages ↔ old.TellsImages
   pub any_moment : LeavesOnly old new (λ c. HasRecords c [])
   pub now : new.TellsImages → (c : List ℕ) → new.image c → HasRecords c []
-  -- what is read behind it, whatever was answered
+  -- what is read after it, whatever was answered
   pub as_read : IfSome new.bytes (λ file. HasRecords file [])
   pub cause : Rises (failures answer) old.faults new.faults
 
--- the gates that were found, of the file as it is read at first, and how it is then; the first place at which it breaks the format
+-- the gates that were found, of the file as it is read at first, and how it is then; the first place at which
+-- it breaks the format
 abbrev pub Finds : Result (Vec ℕ Global) OpenFault → DiskSeen → List ℕ → Type 0
-Finds (Ok gates) new file = (payloads : List (List ℕ)) × HasRecords file payloads × IsAtRest new (length (front payloads)) payloads × (gates.items ≡ gates_from 9 payloads)
+Finds (Ok gates) new file = (payloads : List (List ℕ)) × HasRecords file payloads
+    × IsAtRest new (length (front payloads)) payloads × (gates.items ≡ gates_from 9 payloads)
 Finds (Err DiskFault) new file = ⊤
 Finds (Err (Damaged place)) new file = IsDamagedAt file place
 Finds (Err OutOfMemory) new file = ⊤
 
--- what a crash may leave of a journal that is being opened: what it might have left before, and of an unmade file one that is unmade or has no records
+-- what a crash may leave of a journal that is being opened: what it might have left before, and of an unmade
+-- file one that is unmade or has no records
 abbrev pub IsLeftByOpening : DiskSeen → List ℕ → Type 0
-IsLeftByOpening old c = old.image c ⊎ (((file : List ℕ) × (old.bytes ≡ Some file) × (IsMade file → ⊥)) × HasRecords c [])
+IsLeftByOpening old c = old.image c
+    ⊎ (((file : List ℕ) × (old.bytes ≡ Some file) × (IsMade file → ⊥)) × HasRecords c [])
 
--- a refusal for want of memory leaves the bytes as they are
+-- out of memory leaves the bytes as they are
 abbrev pub StaysWithoutMemory : Option OpenFault → DiskSeen → DiskSeen → Type 0
 StaysWithoutMemory None old new = ⊤
 StaysWithoutMemory (Some DiskFault) old new = ⊤
 StaysWithoutMemory (Some (Damaged place)) old new = ⊤
 StaysWithoutMemory (Some OutOfMemory) old new = new.bytes ≡ old.bytes
 
--- what stands in an opened file behind the first ten bytes stays
+-- what stands in an opened file after the first ten bytes stays
 abbrev pub KeepsWhereOpened : Option OpenFault → DiskSeen → DiskSeen → Type 0
 KeepsWhereOpened None old new = KeepsBehind old.bytes new.bytes
 KeepsWhereOpened (Some fault) old new = ⊤
@@ -133,7 +142,7 @@ pub record Opens (fault : Option OpenFault) (old new : DiskSeen) : Type 0 where
   pub behind : KeepsWhereOpened fault old new
   pub any_moment : LeavesOnly old new (IsLeftByOpening old)
   pub now : new.TellsImages → (c : List ℕ) → new.image c → IsLeftByOpening old c
-  -- what is read behind it of an unmade file is unmade or has no records, whatever was answered
+  -- what is read after it of an unmade file is unmade or has no records, whatever was answered
   pub as_read : IfSome old.bytes (λ file. (IsMade file → ⊥) → IfSome new.bytes (λ c. HasRecords c []))
   pub tells_bytes : IsSome new.bytes ↔ IsSome old.bytes
   pub tells_images : new.TellsImages ↔ old.TellsImages
@@ -142,7 +151,9 @@ pub record Opens (fault : Option OpenFault) (old new : DiskSeen) : Type 0 where
 -- a journal that was opened has the records of the file as it was read at first, and a crash leaves them
 pub record IsOpened {D : Type 0} (disk : D → DiskSeen) (old : DiskSeen) (journal : JournalSeen D) : Type 0 where
   pub goes_on : journal.stopped ≡ false
-  pub records : IfSome old.bytes (λ file. (payloads : List (List ℕ)) × HasRecords file payloads × (journal.count ≡ length payloads) × Holds (disk journal.disk) payloads × Lasts (disk journal.disk) payloads)
+  pub records : IfSome old.bytes
+      (λ file. (payloads : List (List ℕ)) × HasRecords file payloads × (journal.count ≡ length payloads)
+      × Holds (disk journal.disk) payloads × Lasts (disk journal.disk) payloads)
 
 -- a file is damaged at the first place at which it breaks the format
 abbrev pub IsCause : OpenFault → List ℕ → Type 0

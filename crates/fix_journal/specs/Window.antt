@@ -1,5 +1,6 @@
 -- The part of a file that an opening keeps while it goes over it, and how many calls of the disk that takes.
-use Rattle.std.specs.Prelude.{◌≡◌, ℕ, ◌+◌, ◌-◌, ◌*◌, ◌/◌, ◌≤◌, min, List, length, take, drop, vec_capacity, Option, IsSome, IfSome}
+use Rattle.std.specs.Prelude.{◌≡◌, ℕ, ◌+◌, ◌-◌, ◌*◌, ◌/◌, ◌≤◌, min, List, length, take, drop, vec_capacity, Option}
+use Rattle.std.specs.Prelude.{IsSome, IfSome}
 use Rattle.fix_disk.specs.Disk.{DiskSeen}
 use Rattle.fix_journal.specs.declared.window.Window.{Window}
 use Rattle.fix_journal.specs.Format.{IsMade}

@@ -1,3 +1,5 @@
+//! Appends a record by two synced writes, of which the second opens its gate. `Journal::append` calls this with
+//! the bytes that it staged.
 ghost use Rattle.std.specs.Prelude.{◌<◌, ◌+◌, ◌^◌, length};
 ghost use Rattle.fix_disk.specs.Disk.{HasRange, failures};
 ghost use Rattle.fix_disk.specs.Moments.{NeedsRoom};

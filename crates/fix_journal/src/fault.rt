@@ -1,3 +1,6 @@
+//! The faults of a journal's calls: one type each for `open`, `append` and `read`. `opening`, `scanning` and
+//! `journal` answer with them.
+
 /// Why a journal wasn't opened.
 #[derive(Clone, Copy, Debug, PartialEq, Eq)]
 pub enum OpenFault {

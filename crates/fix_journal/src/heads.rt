@@ -1,10 +1,12 @@
+//! Judges a gate by its first bytes and by how much of the file is left. `scanning` calls this for each gate,
+//! and `journal` takes the bound of a payload from here.
 ghost use Rattle.std.specs.Prelude.{◌≡◌, ◌+◌, ◌≤◌, min, take, List, ℕ, length};
 ghost use Rattle.fix_journal.specs.Opening.{Judges, IsWithin};
 
 // The most bytes of a payload.
 pub(crate) const MOST_PAYLOAD: u64 = 1_114_112;
 
-// What stands at a gate: it is closed; there is a record of so many bytes and a gate behind it; it
+// What stands at a gate: it is closed; there is a record of so many bytes and a gate after it; it
 // is open and there is no record.
 #[derive(Clone, Copy)]
 pub(crate) enum Head {

@@ -1,7 +1,11 @@
-ghost use Rattle.std.specs.Prelude.{◌≡◌, ◌+◌, ◌^◌, ◌<◌, ◌≤◌, ◌++◌, ◌∷◌, [], false, List, ℕ, take, length, vec_len, vec_capacity, IfOk, IfErr, IfSome, Some, None};
+//! The calls of a journal, for `fix_store`. `open` runs the stage `opening`, `append` runs `appending`, and
+//! `read` is one read of the disk.
+ghost use Rattle.std.specs.Prelude.{◌≡◌, ◌+◌, ◌^◌, ◌<◌, ◌≤◌, ◌++◌, ◌∷◌, [], false, List, ℕ, take, length, vec_len};
+ghost use Rattle.std.specs.Prelude.{vec_capacity, IfOk, IfErr, IfSome, Some, None};
 ghost use Rattle.fix_disk.specs.Moments.{NeedsRoom};
 ghost use Rattle.fix_journal.specs.Format.{body_of, front, file_size};
-ghost use Rattle.fix_journal.specs.Journal.{Holds, AppendAnswers, JournalAppends, append_failures, ReadAnswers, JournalReads, read_failures};
+ghost use Rattle.fix_journal.specs.Journal.{Holds, AppendAnswers, JournalAppends, append_failures, ReadAnswers};
+ghost use Rattle.fix_journal.specs.Journal.{JournalReads, read_failures};
 ghost use Rattle.fix_journal.specs.Opening.{IsOpened, IsCause, Opens, OpenRoom};
 ghost use Rattle.fix_journal.specs.Window.{OpenCalls};
 
@@ -17,7 +21,7 @@ use std::marker::Model;
 #[derive(Drop)]
 pub struct Journal<D: Disk> {
     disk: D,
-    // The places of the records' gates, and behind them that of the closed gate.
+    // The places of the records' gates, and after them that of the closed gate.
     gates: Vec<u64>,
     // The bytes of an append. They are kept to be used again.
     staged: Vec<u8>,
@@ -71,9 +75,12 @@ impl<D: Disk> Journal<D> {
     pub fn append(&mut self, payload: &[u8]) -> Result<u64, AppendFault>
         requires { 1 ≤ length payload.now }
         ensures answers { AppendAnswers result (length payload.now) self.old self.new }
-        ensures moves { self.old.stopped ≡ false → JournalAppends result payload.now (D.disk self.old.disk) (D.disk self.new.disk) }
+        ensures moves { self.old.stopped ≡ false
+            → JournalAppends result payload.now (D.disk self.old.disk) (D.disk self.new.disk) }
         ensures room { (D.disk self.new.disk).room ≡ (D.disk self.old.disk).room }
-        ensures need { (payloads : List (List ℕ)) → Holds (D.disk self.old.disk) payloads → NeedsRoom (append_failures result) (file_size (payloads ++ payload.now ∷ [])) (D.disk self.old.disk) (D.disk self.new.disk) }
+        ensures need { (payloads : List (List ℕ)) → Holds (D.disk self.old.disk) payloads
+            → NeedsRoom (append_failures result) (file_size (payloads ++ payload.now ∷ [])) (D.disk self.old.disk)
+            (D.disk self.new.disk) }
     {
         if self.stopped {
             return Err(AppendFault::Stopped);
@@ -132,7 +139,8 @@ impl<D: Disk> Journal<D> {
     /// The place in the file of the gate of the record with this index.
     pub fn place(&self, index: u64) -> u64
         requires { index < self.now.count }
-        ensures { self.now.stopped ≡ false → (payloads : List (List ℕ)) → Holds (D.disk self.now.disk) payloads → result ≡ length (front (take index payloads)) }
+        ensures { self.now.stopped ≡ false → (payloads : List (List ℕ)) → Holds (D.disk self.now.disk) payloads
+            → result ≡ length (front (take index payloads)) }
     {
         self.gates[index as usize]
     }

@@ -1,6 +1,9 @@
+//! Opens the file of a journal: `surveying` says what it is, and then `making` makes it or `scanning` finds its
+//! records. `Journal::open` calls this.
 ghost use Rattle.std.specs.Prelude.{◌≤◌, length, IfOk, IfSome};
 ghost use Rattle.fix_disk.specs.Moments.{NeedsRoom};
-ghost use Rattle.fix_journal.specs.Opening.{Rests, IsUnmadeBy, IsNamed, HasLength, Finds, Opens, OpenRoom, open_failures, fault_of};
+ghost use Rattle.fix_journal.specs.Opening.{Rests, IsUnmadeBy, IsNamed, HasLength, Finds, Opens, OpenRoom};
+ghost use Rattle.fix_journal.specs.Opening.{open_failures, fault_of};
 ghost use Rattle.fix_journal.specs.Window.{CallsAtMost, OpenCalls};
 
 use crate::OpenFault;
@@ -9,6 +12,22 @@ use crate::scanning::scan;
 use crate::surveying::{Kind, survey};
 use fix_disk::{Disk, DiskFailed};
 use std::alloc::Global;
+
+// Finds the gates of a journal, which it makes in an unmade file.
+pub(crate) fn find<D: Disk>(alloc: Global, disk: &mut D) -> Result<Vec<u64>, OpenFault>
+    ensures some { IfOk result (λ gates. 1 ≤ length gates.items) }
+    ensures finds { IfSome (D.disk disk.old).bytes (Finds result (D.disk disk.new)) }
+    ensures opens { Opens (fault_of result) (D.disk disk.old) (D.disk disk.new) }
+    ensures calls { OpenCalls (D.disk disk.old) (D.disk disk.new) }
+    ensures room { OpenRoom (fault_of result) (D.disk disk.old) (D.disk disk.new) }
+{
+    match survey(disk) {
+        Ok(Kind::Unmade(is_short)) => start(alloc, disk, is_short),
+        Ok(Kind::Named(end)) => scan(alloc, disk, end),
+        Ok(Kind::Misnamed) => Err(OpenFault::Damaged(1)),
+        Err(DiskFailed) => Err(OpenFault::DiskFault),
+    }
+}
 
 // Makes the journal in an unmade file, and gives the place of its closed gate.
 fn start<D: Disk>(alloc: Global, disk: &mut D, is_short: bool) -> Result<Vec<u64>, OpenFault>
@@ -25,22 +44,6 @@ fn start<D: Disk>(alloc: Global, disk: &mut D, is_short: bool) -> Result<Vec<u64
     }
     match make(disk, is_short) {
         Ok(()) => Ok(gates),
-        Err(DiskFailed) => Err(OpenFault::DiskFault),
-    }
-}
-
-// Finds the gates of a journal, which it makes in an unmade file.
-pub(crate) fn find<D: Disk>(alloc: Global, disk: &mut D) -> Result<Vec<u64>, OpenFault>
-    ensures some { IfOk result (λ gates. 1 ≤ length gates.items) }
-    ensures finds { IfSome (D.disk disk.old).bytes (Finds result (D.disk disk.new)) }
-    ensures opens { Opens (fault_of result) (D.disk disk.old) (D.disk disk.new) }
-    ensures calls { OpenCalls (D.disk disk.old) (D.disk disk.new) }
-    ensures room { OpenRoom (fault_of result) (D.disk disk.old) (D.disk disk.new) }
-{
-    match survey(disk) {
-        Ok(Kind::Unmade(is_short)) => start(alloc, disk, is_short),
-        Ok(Kind::Named(end)) => scan(alloc, disk, end),
-        Ok(Kind::Misnamed) => Err(OpenFault::Damaged(1)),
         Err(DiskFailed) => Err(OpenFault::DiskFault),
     }
 }

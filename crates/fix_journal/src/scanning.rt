@@ -1,8 +1,11 @@
+//! Goes through a made file from gate to gate, and gives their places, or the place where the file is damaged.
+//! `opening` calls this.
 ghost use Rattle.std.specs.Prelude.{◌≡◌, ◌+◌, ◌<◌, ◌≤◌, ◌-◌, ◌*◌, ◌/◌, drop, length, IfOk, IfSome, IsSome};
-ghost use Rattle.fix_base.specs.Seen.{Rises};
+ghost use Rattle.fix_base.specs.Trace.{Rises};
 ghost use Rattle.fix_disk.specs.Disk.{failures};
 ghost use Rattle.fix_disk.specs.Moments.{NeedsRoom};
-ghost use Rattle.fix_journal.specs.Opening.{Judges, IsWithin, IsUntouched, Scans, open_failures, fault_of, HasLength, IsNamed};
+ghost use Rattle.fix_journal.specs.Opening.{Judges, IsWithin, IsUntouched, Scans, open_failures, fault_of};
+ghost use Rattle.fix_journal.specs.Opening.{HasLength, IsNamed};
 ghost use Rattle.fix_journal.specs.Window.{IsWindow, GoesOn, CallsAtMost};
 
 use crate::OpenFault;
@@ -10,6 +13,28 @@ use crate::heads::{Head, judge};
 use crate::window::{Window, blank_window, reach, read_from, shown};
 use fix_disk::{Disk, DiskFailed};
 use std::alloc::Global;
+
+// Finds the gates of a made file of `end` bytes with the name in it. Its room is taken before the
+// first read, and does not grow with the file.
+pub(crate) fn scan<D: Disk>(alloc: Global, disk: &mut D, end: u64) -> Result<Vec<u64>, OpenFault>
+    requires long { 10 ≤ end }
+    requires told { HasLength (D.disk disk.old).bytes end }
+    requires named { IfSome (D.disk disk.old).bytes IsNamed }
+    ensures some { IfOk result (λ gates. 1 ≤ length gates.items) }
+    ensures found { IfSome (D.disk disk.old).bytes (Scans result) }
+    ensures untouched { IsUntouched (D.disk disk.old) (D.disk disk.new) }
+    ensures cause { Rises (open_failures (fault_of result)) (D.disk disk.old).faults (D.disk disk.new).faults }
+    ensures room { NeedsRoom (open_failures (fault_of result)) 0 (D.disk disk.old) (D.disk disk.new) }
+    ensures calls { CallsAtMost (1 + end / 65532) (D.disk disk.old) (D.disk disk.new) }
+{
+    let Ok(mut window) = blank_window(alloc) else {
+        return Err(OpenFault::OutOfMemory);
+    };
+    match read_from(disk, &mut window, 9, end) {
+        Ok(()) => walk(alloc, disk, &mut window, end),
+        Err(DiskFailed) => Err(OpenFault::DiskFault),
+    }
+}
 
 // Looks at a gate of a file of `end` bytes.
 fn look_at<D: Disk>(
@@ -71,27 +96,5 @@ fn walk<D: Disk>(
             Ok(Head::Broken) => return Err(OpenFault::Damaged(gate)),
             Err(DiskFailed) => return Err(OpenFault::DiskFault),
         }
-    }
-}
-
-// Finds the gates of a made file of `end` bytes with the name in it. Its room is taken before the
-// first read, and does not grow with the file.
-pub(crate) fn scan<D: Disk>(alloc: Global, disk: &mut D, end: u64) -> Result<Vec<u64>, OpenFault>
-    requires long { 10 ≤ end }
-    requires told { HasLength (D.disk disk.old).bytes end }
-    requires named { IfSome (D.disk disk.old).bytes IsNamed }
-    ensures some { IfOk result (λ gates. 1 ≤ length gates.items) }
-    ensures found { IfSome (D.disk disk.old).bytes (Scans result) }
-    ensures untouched { IsUntouched (D.disk disk.old) (D.disk disk.new) }
-    ensures cause { Rises (open_failures (fault_of result)) (D.disk disk.old).faults (D.disk disk.new).faults }
-    ensures room { NeedsRoom (open_failures (fault_of result)) 0 (D.disk disk.old) (D.disk disk.new) }
-    ensures calls { CallsAtMost (1 + end / 65532) (D.disk disk.old) (D.disk disk.new) }
-{
-    let Ok(mut window) = blank_window(alloc) else {
-        return Err(OpenFault::OutOfMemory);
-    };
-    match read_from(disk, &mut window, 9, end) {
-        Ok(()) => walk(alloc, disk, &mut window, end),
-        Err(DiskFailed) => Err(OpenFault::DiskFault),
     }
 }

@@ -1,5 +1,7 @@
+//! The first stage of an opening: syncs the disk, asks for the length, and reads up to nine bytes. `opening`
+//! calls this.
 ghost use Rattle.std.specs.Prelude.{◌≡◌, ◌≤◌, min, take, List, ℕ, length, IfOk, IfSome};
-ghost use Rattle.fix_base.specs.Seen.{Rises};
+ghost use Rattle.fix_base.specs.Trace.{Rises};
 ghost use Rattle.fix_disk.specs.Disk.{failures};
 ghost use Rattle.fix_disk.specs.Moments.{NeedsRoom};
 ghost use Rattle.fix_journal.specs.Window.{CallsAtMost};
@@ -14,6 +16,25 @@ pub(crate) enum Kind {
     Unmade(bool),
     Named(u64),
     Misnamed,
+}
+
+// Has the disk keep what is read, and says what the file is.
+pub(crate) fn survey<D: Disk>(disk: &mut D) -> Result<Kind, DiskFailed>
+    ensures rests { IfOk result (λ kind. Rests (D.disk disk.new) (IsKind kind)) }
+    ensures ten { IfOk result HasTen }
+    ensures untouched { IsUntouched (D.disk disk.old) (D.disk disk.new) }
+    ensures cause { Rises (failures result) (D.disk disk.old).faults (D.disk disk.new).faults }
+    ensures room { NeedsRoom (failures result) 0 (D.disk disk.old) (D.disk disk.new) }
+    ensures calls { CallsAtMost 3 (D.disk disk.old) (D.disk disk.new) }
+{
+    match disk.sync() {
+        Ok(()) => {}
+        Err(DiskFailed) => return Err(DiskFailed),
+    }
+    match disk.len() {
+        Ok(end) => kind_of(disk, end),
+        Err(DiskFailed) => Err(DiskFailed),
+    }
 }
 
 // What a file of `end` bytes is, by its first nine.
@@ -53,25 +74,6 @@ fn kind_of<D: Disk>(disk: &mut D, end: u64) -> Result<Kind, DiskFailed>
     let count = end.min(9) as usize;
     match disk.read_at(0, &mut head[..count]) {
         Ok(()) => Ok(kind_by(&head[..count], end)),
-        Err(DiskFailed) => Err(DiskFailed),
-    }
-}
-
-// Has the disk keep what is read, and says what the file is.
-pub(crate) fn survey<D: Disk>(disk: &mut D) -> Result<Kind, DiskFailed>
-    ensures rests { IfOk result (λ kind. Rests (D.disk disk.new) (IsKind kind)) }
-    ensures ten { IfOk result HasTen }
-    ensures untouched { IsUntouched (D.disk disk.old) (D.disk disk.new) }
-    ensures cause { Rises (failures result) (D.disk disk.old).faults (D.disk disk.new).faults }
-    ensures room { NeedsRoom (failures result) 0 (D.disk disk.old) (D.disk disk.new) }
-    ensures calls { CallsAtMost 3 (D.disk disk.old) (D.disk disk.new) }
-{
-    match disk.sync() {
-        Ok(()) => {}
-        Err(DiskFailed) => return Err(DiskFailed),
-    }
-    match disk.len() {
-        Ok(end) => kind_of(disk, end),
         Err(DiskFailed) => Err(DiskFailed),
     }
 }

@@ -1,3 +1,4 @@
+//! A write with its sync. `appending` and `making` call this for each of their writes.
 ghost use Rattle.std.specs.Prelude.{◌+◌, length};
 ghost use Rattle.fix_disk.specs.Disk.{HasRange, failures};
 ghost use Rattle.fix_disk.specs.Moments.{NeedsRoom};

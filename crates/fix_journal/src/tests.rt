@@ -1,3 +1,4 @@
+//! The bytes of a journal's file, which files are damaged, and what a stop at a call of the disk leaves.
 use super::*;
 use fix_base::OutOfMemory;
 use fix_disk::{Disk, MemoryDisk};
@@ -193,7 +194,7 @@ fn a_stop_in_the_making_leaves_no_record(rt: HostRuntime) -> Result<(), Fail> {
     Ok(())
 }
 
-// Records of one byte, more than one read holds, and one that is longer than a read behind them.
+// Records of one byte, more than one read holds, and one that is longer than a read after them.
 fn many(alloc: Global, count: usize) -> Result<Vec<u8>, OutOfMemory> {
     let mut file = Vec::from_slice(alloc, b"\x01FIXJRNL1")?;
     for _ in 0..count {
@@ -226,7 +227,7 @@ fn records_are_found_behind_what_one_read_gives(rt: HostRuntime) -> Result<(), F
     assert!(rt; journal.count() > 20_000);
     assert!(rt; journal.read(20_000, &mut into).is_ok());
     assert_eq!(rt; into.len(), 100_000);
-    // Without the gate behind it the last record is none.
+    // Without the gate after it the last record is none.
     file.truncate(file.len().saturating_sub(1));
     assert_eq!(rt;
         found(alloc, large(alloc, &file)?),

@@ -1,5 +1,6 @@
+//! Reads a file piece by piece into room that is taken once. `scanning` reads the gates by this.
 ghost use Rattle.std.specs.Prelude.{◌≡◌, ◌+◌, ◌-◌, ◌<◌, ◌≤◌, min, length, take, drop, vec_capacity, IfOk, IfSome, OnOk};
-ghost use Rattle.fix_base.specs.Seen.{Rises};
+ghost use Rattle.fix_base.specs.Trace.{Rises};
 ghost use Rattle.fix_disk.specs.Disk.{failures};
 ghost use Rattle.fix_disk.specs.Moments.{NeedsRoom};
 ghost use Rattle.fix_journal.specs.Opening.{IsUntouched, HasLength};
@@ -26,18 +27,6 @@ pub(crate) fn blank_window(alloc: Global) -> Result<Window, AllocError>
         held: Vec::with_capacity(alloc, MOST_HELD as usize)?,
         from: 0,
     })
-}
-
-// So many bytes, in room that is there.
-fn fill_up(held: &mut Vec<u8>, count: usize)
-    requires { count ≤ vec_capacity held.old }
-    ensures length { length held.new.items ≡ count }
-    ensures capacity { vec_capacity held.old ≤ vec_capacity held.new }
-{
-    match held.resize(count, 0) {
-        Ok(()) => {}
-        Err(_) => unreachable!(),
-    }
 }
 
 // Reads a file of `end` bytes from a place on.
@@ -98,4 +87,16 @@ pub(crate) fn shown(window: &Window, at: u64, count: u64) -> &[u8]
 {
     let start = (at - window.from) as usize;
     &window.held[start..start + count as usize]
+}
+
+// So many bytes, in room that is there.
+fn fill_up(held: &mut Vec<u8>, count: usize)
+    requires { count ≤ vec_capacity held.old }
+    ensures length { length held.new.items ≡ count }
+    ensures capacity { vec_capacity held.old ≤ vec_capacity held.new }
+{
+    match held.resize(count, 0) {
+        Ok(()) => {}
+        Err(_) => unreachable!(),
+    }
 }

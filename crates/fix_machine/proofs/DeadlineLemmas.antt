@@ -22,28 +22,28 @@ passed_at_once after since now none = grind (arith, nat_tests)
 -- a test that is true from a time on
 capped_by : (s : MachineState) (p : ℕ → Bool) (at : ℕ) (b : Bool) → nat_le at LAST_TIME ≡ b → s.reading < at
     → ((u : ℕ) → at ≤ u → p u ≡ true) → ((u : ℕ) → s.reading < u → u < at → p u ≡ false) → IsFirst s p (cond b (Some at) None)
-capped_by s p at true e above from before = first at (record { above = above; last = leb-true at LAST_TIME e }) (from at (omega arith)) (λ u ahead below. before u ahead.above below)
+capped_by s p at true e above from before = first at (record { above = above; last = leb-true at LAST_TIME e }) (from at (omega arith)) (λ u unread below. before u unread.above below)
 capped_by s p at false e above from before =
     let late : LAST_TIME < at = grind (arith, nat_tests) in
-    never (λ u ahead. before u ahead.above (omega (arith, ahead.last, late)))
+    never (λ u unread. before u unread.above (omega (arith, unread.last, late)))
 
 pub first_capped : (s : MachineState) (p : ℕ → Bool) (at : ℕ) → s.reading < at → ((u : ℕ) → at ≤ u → p u ≡ true) → ((u : ℕ) → s.reading < u → u < at → p u ≡ false) → IsFirst s p (capped at)
 first_capped s p at above from before = capped_by s p at (nat_le at LAST_TIME) refl above from before
 
 -- the same test
 pub first_same : (s : MachineState) (p q : ℕ → Bool) (o : Option ℕ) → ((u : ℕ) → q u ≡ p u) → IsFirst s p o → IsFirst s q o
-first_same s p q o same (first t ahead is least) = first t ahead (same t ∙ is) (λ u a b. same u ∙ least u a b)
+first_same s p q o same (first t unread is least) = first t unread (same t ∙ is) (λ u a b. same u ∙ least u a b)
 first_same s p q o same (never none) = never (λ u a. same u ∙ none u a)
 
 -- of two tests the earlier
 pub earlier_first : (s : MachineState) (p q : ℕ → Bool) (a b : Option ℕ) → IsFirst s p a → IsFirst s q b → IsFirst s (λ u. p u || q u) (earlier a b)
 earlier_first s p q a b (never x) (never y) = never (λ u h. rw (x u h, y u h) refl)
-earlier_first s p q a b (never x) (first u ahead is least) = first u ahead (rw (x u ahead, is) refl) (λ v h below. rw (x v h, least v h below) refl)
-earlier_first s p q a b (first t ahead is least) (never y) = first t ahead (rw is refl) (λ v h below. rw (y v h, least v h below) refl)
-earlier_first s p q a b (first t ahead is least) (first u ahead2 is2 least2) =
+earlier_first s p q a b (never x) (first u unread is least) = first u unread (rw (x u unread, is) refl) (λ v h below. rw (x v h, least v h below) refl)
+earlier_first s p q a b (first t unread is least) (never y) = first t unread (rw is refl) (λ v h below. rw (y v h, least v h below) refl)
+earlier_first s p q a b (first t unread is least) (first u ahead2 is2 least2) =
     elim (cases_lt t u) [
       | inl lt ↦ (let e : min t u ≡ t = omega arith in
-          rw e (first t ahead (rw is refl) (λ v h below. rw (least v h below, least2 v h (omega arith)) refl)))
+          rw e (first t unread (rw is refl) (λ v h below. rw (least v h below, least2 v h (omega arith)) refl)))
       | inr le ↦ (let e : min t u ≡ u = omega arith in
           rw e (first u ahead2 (elim (cases_lt u t) [
             | inl lt ↦ rw (least u ahead2 lt, is2) refl
@@ -65,7 +65,7 @@ some_or true b d e = refl
 some_or false b d e = due_some b e
 
 pub when_down : (o : Options) (s : MachineState) → s.phase ≡ Down → IsDeadline o s None
-when_down o s e = never (λ u ahead. nothing u)
+when_down o s e = never (λ u unread. nothing u)
   where
     nothing : (u : ℕ) → is_some (due_at o s u) ≡ false
     nothing u = ap (λ p. is_some (due_in p o s u)) e
@@ -80,7 +80,7 @@ quiet_up : (h : ℕ) (d : Option Due) → h ≡ 0 → is_some (cond (nat_eq h 0)
 quiet_up h d e = grind (arith, nat_tests)
 
 pub when_quiet : (o : Options) (s : MachineState) → s.phase ≡ Up → s.heart ≡ 0 → IsDeadline o s None
-when_quiet o s e z = never (λ u ahead. ap (λ p. is_some (due_in p o s u)) e ∙ quiet_up s.heart (listened s.test_request_sent_at s u) z)
+when_quiet o s e z = never (λ u unread. ap (λ p. is_some (due_in p o s u)) e ∙ quiet_up s.heart (listened s.test_request_sent_at s u) z)
 
 up_some : (h u since sent : ℕ) (d : Due) → is_some (cond (is_silent h since u) (Some d) (due_if (has_gone h sent u) due.Heartbeat)) ≡ (has_passed (1200000 * h) since u || has_passed (1000000 * h) sent u)
 up_some h u since sent d = rw (← silent_is_passed h since u) (some_or _ _ d due.Heartbeat)

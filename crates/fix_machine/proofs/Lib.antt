@@ -4,3 +4,4 @@ mod EventLemmas
 mod NumberLemmas
 mod RowLemmas
 mod OrderLemmas
+mod RisesLemmas

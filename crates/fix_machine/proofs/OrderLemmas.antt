@@ -99,7 +99,7 @@ early_by_passive found.Fine o n i s = early_passive i.verdict o n s
 early_by_passive (found.Reject fault) o n i s = ask_passive o n s
 early_by_passive (found.RejectAndClose fault text cause) o n i s = ask_passive o n s
 
-high_passive : (o : Options) (n : ℕ) (i : Inbound) (s : MachineState) → IsPassive s (on.too_high o n i s)
+pub high_passive : (o : Options) (n : ℕ) (i : Inbound) (s : MachineState) → IsPassive s (on.too_high o n i s)
 high_passive o n i s =
     either (on.is_early i) (on.early_by (checked o s i) o n i s) (if i.full then on.then_ask o n [] s else on.then_ask o n (Stash ∷ []) s) (early_by_passive (checked o s i) o n i s)
     (either i.full (on.then_ask o n [] s) (on.then_ask o n (Stash ∷ []) s) (ask_passive o n s) (step_passive o n s Stash tt))
@@ -117,14 +117,14 @@ too_high o s i n up own number reset above =
 
 -- ---- what doesn't move the expected number
 
-record IsKept (s : MachineState) (x : Answered) : Type 0 where
+pub record IsKept (s : MachineState) (x : Answered) : Type 0 where
   pub kept : x.next.expected ≡ s.expected
 
 keep : {s : MachineState} (b : Bool) (x y : Answered) → IsKept s x → IsKept s y → IsKept s (if b then x else y)
 keep true x y p q = p
 keep false x y p q = q
 
-low_kept : (n : ℕ) (i : Inbound) (s : MachineState) → IsKept s (on.too_low n i s)
+pub low_kept : (n : ℕ) (i : Inbound) (s : MachineState) → IsKept s (on.too_low n i s)
 low_kept n i s = keep (names i.header.poss_dup (codes "Y")) (silent s) (refuse_with (text.TooLow s.expected n) n refusal.TooLow s) (record { kept = refl }) (record { kept = refl })
 
 not_above : (a b : ℕ) → b < a → nat_lt a b ≡ false

@@ -1,5 +1,6 @@
--- Answers to an event: the steps, and the state behind them.
-use Rattle.std.specs.Prelude.{◌≡◌, ℕ, ◌+◌, ◌-◌, min, ◌==◌, nat_le, if◌then◌else◌, List, [], ◌∷◌, ◌++◌, take, Bool, true, false, not, ◌&&◌, Option, Some, None, bytes_eq, codes}
+-- Answers to an event: the steps, and the state after them.
+use Rattle.std.specs.Prelude.{◌≡◌, ℕ, ◌+◌, ◌-◌, min, ◌==◌, nat_le, if◌then◌else◌, List, [], ◌∷◌, ◌++◌, take, Bool}
+use Rattle.std.specs.Prelude.{true, false, not, ◌&&◌, Option, Some, None, bytes_eq, codes}
 use Rattle.fix_base.specs.declared.fault.Fault.{Fault}
 use Rattle.fix_base.specs.declared.identity.Identity.{Identity}
 use Rattle.fix_base.specs.Session.{begin_string_of}
@@ -17,7 +18,8 @@ use Rattle.fix_machine.specs.declared.event.Decision.{Decision}
 use Rattle.fix_machine.specs.declared.event.Refusal.{Refusal}
 use Rattle.fix_machine.specs.declared.event.Why.{Why}
 use Rattle.fix_machine.specs.declared.event.Why.TheVariants.{Refused}
-use Rattle.fix_machine.specs.Event.{Inbound, VerdictSeen, App, Admin, Bad, StepSeen, Send, Serve, Hand, Stash, Expect, Reset, Confirm, Close, Nothing, step_seen}
+use Rattle.fix_machine.specs.Event.{Inbound, VerdictSeen, App, Admin, Bad, StepSeen, Send, Serve, Hand, Stash}
+use Rattle.fix_machine.specs.Event.{Expect, Reset, Confirm, Close, Nothing, step_seen}
 use Rattle.fix_machine.specs.State.{Options, MachineState, sent, counted, closed, requested}
 
 -- four steps: those that are not used are nothing, and stand last
@@ -54,7 +56,8 @@ task_seen t task.Heartbeat = Send (say.Heartbeat None)
 task_seen t task.HeartbeatBack = Send (say.Heartbeat (Some t.id))
 task_seen t task.TestRequest = Send say.TestRequest
 task_seen t (task.ResendRequest from to) = Send (say.ResendRequest from to)
-task_seen t (task.Reject about reason tag) = Send (say.Reject about t.type (record { reason = reason; tag = in_range tag }))
+task_seen t (task.Reject about reason tag) = Send
+    (say.Reject about t.type (record { reason = reason; tag = in_range tag }))
 task_seen t (task.Logout text) = Send (say.Logout text)
 task_seen t (task.Logon heart reset version) = Send (say.Logon heart reset version)
 task_seen t (task.Serve from to) = Serve from to
@@ -67,7 +70,13 @@ task_seen t (task.Close why) = Close why
 task_seen t task.Nothing = Nothing
 
 abbrev pub planned : Task → Task → Task → Task → MachineState → Answer
-planned first second third fourth next = record { first = first; second = second; third = third; fourth = fourth; next = next }
+planned first second third fourth next = record {
+  first = first;
+  second = second;
+  third = third;
+  fourth = fourth;
+  next = next;
+}
 
 -- the answer of the code
 abbrev pub answered_by : Texts → Answer → Answered
@@ -124,7 +133,7 @@ silent s = answer [] s
 abbrev pub refuse : ℕ → Refusal → MachineState → Answered
 refuse n cause s = answer (Close (Refused n cause) ∷ []) (closed s)
 
--- the same behind a Logout (5) with a text
+-- the same after a Logout (5) with a text
 abbrev pub refuse_with : LogoutText → ℕ → Refusal → MachineState → Answered
 refuse_with text n cause s = answer (Send (Logout text) ∷ Close (Refused n cause) ∷ []) (closed (sent s))
 

@@ -1,5 +1,6 @@
 -- The first message on a connection. The first line that applies is the answer.
-use Rattle.std.specs.Prelude.{ℕ, ◌+◌, ◌==◌, nat_lt, if◌then◌else◌, List, [], ◌∷◌, Bool, true, false, not, ◌&&◌, ◌||◌, Option, Some, None, codes, ℤ}
+use Rattle.std.specs.Prelude.{ℕ, ◌+◌, ◌==◌, nat_lt, if◌then◌else◌, List, [], ◌∷◌, Bool, true, false, not, ◌&&◌}
+use Rattle.std.specs.Prelude.{◌||◌, Option, Some, None, codes, ℤ}
 use Rattle.fix_base.specs.declared.identity.Identity.{Identity}
 use Rattle.fix_fields.specs.Header.{Header}
 use Rattle.fix_admin.specs.Admin as admin
@@ -11,7 +12,8 @@ use Rattle.fix_machine.specs.declared.state.Role.TheVariants.{Acceptor, Initiato
 use Rattle.fix_machine.specs.declared.event.Refusal.TheVariants as refusal
 use Rattle.fix_machine.specs.Event.{Inbound, VerdictSeen, App, Admin, Bad, StepSeen, Send, Expect, Reset, Confirm}
 use Rattle.fix_machine.specs.State.{Options, MachineState, sent, counted, emptied, up}
-use Rattle.fix_machine.specs.Answer.{Answered, answer, names, is_of_session, number_or_0, refuse, refuse_with, ask_step, asked}
+use Rattle.fix_machine.specs.Answer.{Answered, answer, names, is_of_session, number_or_0, refuse, refuse_with}
+use Rattle.fix_machine.specs.Answer.{ask_step, asked}
 use Rattle.fix_machine.specs.Checks.{is_timely}
 
 -- ---- what is looked at
@@ -107,7 +109,8 @@ initiator_answer o reset n s =
     if s.reset_asked then
     (if reset then answer (Confirm ∷ Expect (n + 1) ∷ []) (counted n (confirmed s))
     else refuse n refusal.ResetUnanswered s)
-    else (if reset then refuse n refusal.ResetAsked s else answer (count_or_ask o n (up s) ∷ []) (counted_or_asked o n (up s)))
+    else (if reset then refuse n refusal.ResetAsked s else answer (count_or_ask o n (up s) ∷ [])
+    (counted_or_asked o n (up s)))
 
 abbrev pub taken : Role → Options → Bool → ℕ → ℕ → MachineState → Answered
 taken Acceptor o reset n heart s = acceptor_answer o reset n heart s

@@ -1,5 +1,6 @@
--- The checks of a message behind the Logon that don't look at its MsgSeqNum (34), in their order.
-use Rattle.std.specs.Prelude.{ℕ, ◌+◌, ◌*◌, if◌then◌else◌, List, Bool, true, false, not, ◌&&◌, Option, Some, None, is_none, codes, bytes_eq, ℤ, pos, ◌+ℤ◌, int_le, int_lt}
+-- The checks of a message after the Logon that don't look at its MsgSeqNum (34), in their order.
+use Rattle.std.specs.Prelude.{ℕ, ◌+◌, ◌*◌, if◌then◌else◌, List, Bool, true, false, not, ◌&&◌, Option, Some, None}
+use Rattle.std.specs.Prelude.{is_none, codes, bytes_eq, ℤ, pos, ◌+ℤ◌, int_le, int_lt}
 use Rattle.fix_base.specs.declared.identity.Identity.{Identity}
 use Rattle.fix_fields.specs.Header.{Header}
 use Rattle.fix_admin.specs.Values.{fault_of}

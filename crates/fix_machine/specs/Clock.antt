@@ -1,5 +1,6 @@
 -- A reading of the clock. The first line that applies is the answer.
-use Rattle.std.specs.Prelude.{ℕ, ◌-◌, ◌*◌, ◌==◌, nat_lt, nat_le, if◌then◌else◌, List, [], ◌∷◌, Bool, true, false, Option, Some, None}
+use Rattle.std.specs.Prelude.{ℕ, ◌-◌, ◌*◌, ◌==◌, nat_lt, nat_le, if◌then◌else◌, List, [], ◌∷◌, Bool, true, false}
+use Rattle.std.specs.Prelude.{Option, Some, None}
 use Rattle.fix_admin.specs.Say.{Heartbeat, TestRequest, Logout}
 use Rattle.fix_admin.specs.declared.say.LogoutText.TheVariants as text
 use Rattle.fix_machine.specs.declared.state.Phase.{Phase}
@@ -67,7 +68,8 @@ due_answer None s = silent s
 due_answer (Some due.LogonLate) s = closed_by (LogonLate s.begun s.reading) s
 due_answer (Some due.LogoutLate) s = closed_by (LogoutLate s.left_at s.reading) s
 due_answer (Some (due.Silent since)) s = closed_by (Silent since s.reading) s
-due_answer (Some due.TestRequest) s = answer (Send TestRequest ∷ []) (record (sent s) { test_request_sent_at = Some s.reading })
+due_answer (Some due.TestRequest) s = answer (Send TestRequest ∷ [])
+    (record (sent s) { test_request_sent_at = Some s.reading })
 due_answer (Some due.Heartbeat) s = answer (Send (Heartbeat None) ∷ []) (sent s)
 
 -- ---- the table, at the last reading

@@ -1,5 +1,6 @@
 -- When a session has next to look at the clock.
-use Rattle.std.specs.Prelude.{◌≡◌, ℕ, ◌<◌, ◌≤◌, nat_le, min, if◌then◌else◌, Bool, true, false, Option, Some, None, is_some}
+use Rattle.std.specs.Prelude.{◌≡◌, ℕ, ◌<◌, ◌≤◌, nat_le, min, if◌then◌else◌, Bool, true, false, Option, Some, None}
+use Rattle.std.specs.Prelude.{is_some}
 use Rattle.fix_base.specs.Payload.{LAST_TIME}
 use Rattle.fix_machine.specs.State.{Options, MachineState}
 use Rattle.fix_machine.specs.Clock.{elapsed, due_at}

@@ -27,7 +27,8 @@ abbrev pub moved_in : Option Requested → Options → MachineState → Answered
 moved_in None o s = silent s
 moved_in (Some gap) o s =
     if nat_lt gap.above s.expected then silent (record s { resend_requested = None })
-    else (if nat_lt 0 o.chunk && nat_lt gap.end s.expected then answer (ask_step o gap.above s ∷ []) (asked o gap.above s)
+    else (if nat_lt 0 o.chunk && nat_lt gap.end s.expected then answer (ask_step o gap.above s ∷ [])
+    (asked o gap.above s)
     else silent s)
 
 -- a session leaves by a Logout (5)

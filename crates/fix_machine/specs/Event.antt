@@ -16,7 +16,7 @@ use Rattle.fix_machine.specs.declared.event.Why.{Why}
 use Rattle.fix_machine.specs.declared.event.Step.{Step}
 use Rattle.fix_machine.specs.declared.event.Step.TheVariants as step
 
--- what a message is behind its header
+-- what a message is after its header
 pub data VerdictSeen : Type 0 where
   App : VerdictSeen
   Admin : (admin : AdminSeen) → VerdictSeen

@@ -1,5 +1,6 @@
--- A message behind the Logon, in the phases Up and LogoutSent. The steps are tried in order.
-use Rattle.std.specs.Prelude.{ℕ, ◌+◌, nat_lt, nat_le, if◌then◌else◌, List, [], ◌∷◌, ◌++◌, Bool, true, false, not, ◌&&◌, ◌||◌, Option, Some, None, is_none, codes}
+-- A message after the Logon, in the phases Up and LogoutSent. The steps are tried in order.
+use Rattle.std.specs.Prelude.{ℕ, ◌+◌, nat_lt, nat_le, if◌then◌else◌, List, [], ◌∷◌, ◌++◌, Bool, true, false, not}
+use Rattle.std.specs.Prelude.{◌&&◌, ◌||◌, Option, Some, None, is_none, codes}
 use Rattle.fix_base.specs.declared.fault.Fault.{Fault}
 use Rattle.fix_admin.specs.Values.{fault_of}
 use Rattle.fix_admin.specs.Admin as admin
@@ -12,9 +13,11 @@ use Rattle.fix_machine.specs.declared.state.Phase.TheVariants.{Down, AwaitLogon,
 use Rattle.fix_machine.specs.declared.event.Refusal.{Refusal}
 use Rattle.fix_machine.specs.declared.event.Refusal.TheVariants as refusal
 use Rattle.fix_machine.specs.declared.event.Why.TheVariants.{LoggedOut, Refused}
-use Rattle.fix_machine.specs.Event.{Inbound, VerdictSeen, App, Admin, Bad, StepSeen, Send, Serve, Hand, Stash, Expect, Close}
+use Rattle.fix_machine.specs.Event.{Inbound, VerdictSeen, App, Admin, Bad, StepSeen, Send, Serve, Hand, Stash}
+use Rattle.fix_machine.specs.Event.{Expect, Close}
 use Rattle.fix_machine.specs.State.{Options, MachineState, sent, expecting, counted, closed}
-use Rattle.fix_machine.specs.Answer.{Answered, answer, names, is_of_session, number_or_0, type_in, silent, refuse_with, reject, ask_step, asked}
+use Rattle.fix_machine.specs.Answer.{Answered, answer, names, is_of_session, number_or_0, type_in, silent}
+use Rattle.fix_machine.specs.Answer.{refuse_with, reject, ask_step, asked}
 use Rattle.fix_machine.specs.Checks as found
 use Rattle.fix_machine.specs.Checks.{FindingSeen, checked}
 
@@ -50,7 +53,8 @@ abbrev pub reset_by : FindingSeen → ℕ → Inbound → MachineState → Answe
 reset_by found.Fine n i s = reset_to (new_seq_no_in i.verdict) n i s
 reset_by (found.Reject fault) n i s = answer (reject n (type_in i.header) fault ∷ []) (sent s)
 reset_by (found.RejectAndClose fault text cause) n i s =
-    answer (reject n (type_in i.header) fault ∷ Send (Logout text) ∷ Close (Refused n cause) ∷ []) (closed (sent (sent s)))
+    answer (reject n (type_in i.header) fault ∷ Send (Logout text) ∷ Close (Refused n cause) ∷ [])
+    (closed (sent (sent s)))
 
 -- ---- 4. MsgSeqNum (34) above the expected one: ResendRequest (2) and Logout (5) are served at once,
 -- others wait; and the gap is asked for, once
@@ -130,7 +134,8 @@ count n s = answer (Expect (n + 1) ∷ []) (counted n s)
 
 -- a SequenceReset with GapFillFlag (123) may not go back
 abbrev pub filled : ℕ → ℕ → Inbound → MachineState → Answered
-filled next n i s = if nat_lt n next then answer (Expect next ∷ []) (expecting next s) else rejected (fault_of 5 36) n i s
+filled next n i s = if nat_lt n next then answer (Expect next ∷ []) (expecting next s) else rejected
+    (fault_of 5 36) n i s
 
 -- a Logon in the middle of a connection may not reset
 abbrev pub logged_on_again : Bool → ℕ → MachineState → Answered
@@ -188,5 +193,6 @@ by_number o (Some n) i s = numbered o n i s
 
 abbrev pub logged_on : Options → MachineState → Inbound → Answered
 logged_on o s i =
-    if not (is_of_session o.identity i.header) then refuse_with text.BeginString (number_or_0 i.header.number) refusal.BeginString s
+    if not (is_of_session o.identity i.header) then refuse_with text.BeginString
+    (number_or_0 i.header.number) refusal.BeginString s
     else by_number o i.header.number i s

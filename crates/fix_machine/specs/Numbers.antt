@@ -1,7 +1,7 @@
 -- What the steps of an answer do to the numbers, one step after the other. Where an answer ends at one
--- of its steps, since no number is left, a write or a hand-over failed, or memory was refused, the
+-- of its steps, since no number is left, a write or a hand-over failed, or out of memory, the
 -- steps before it stand, a count among them, and no later one is done.
-use Rattle.std.specs.Prelude.{◌≡◌, ℕ, ◌+◌, List, [], ◌∷◌, take, Bool, true, false}
+use Rattle.std.specs.Prelude.{◌≡◌, ◌≤◌, ℕ, ◌+◌, List, [], ◌∷◌, take, Bool, true, false}
 use Rattle.std.specs.List.{list_any, AllByRecursion}
 use Rattle.fix_admin.specs.Say.{SaySeen, Heartbeat, TestRequest, ResendRequest, Reject, GapFill, Logout, Logon}
 use Rattle.fix_machine.specs.declared.state.Phase.{Phase}
@@ -67,7 +67,7 @@ is_after_a_flush Nothing = false
 abbrev pub begins_with_a_flush : List StepSeen → Bool
 begins_with_a_flush steps = list_any is_after_a_flush steps
 
--- the state behind an answer has the numbers that its steps say
+-- the state after an answer has the numbers that its steps say
 pub record Adds (s : MachineState) (x : Answered) : Type 0 where
   pub expected : x.next.expected ≡ expected_after x.steps s.expected
   pub last : x.next.last ≡ last_after x.steps s.last
@@ -98,7 +98,7 @@ pub record IsPassive (s : MachineState) (x : Answered) : Type 0 where
   pub expected : x.next.expected ≡ s.expected
   pub quiet : AllByRecursion IsNoReject x.steps
 
--- the phases behind the Logon
+-- the phases after the Logon
 abbrev pub IsLoggedOn : Phase → Type 0
 IsLoggedOn phase.Down = ⊥
 IsLoggedOn phase.AwaitLogon = ⊥
@@ -115,3 +115,9 @@ IsNoMessage (event.Clock now inside) = Unit {0}
 IsNoMessage (event.Leave now) = Unit {0}
 IsNoMessage event.Ended = Unit {0}
 IsNoMessage (event.Wrote now) = Unit {0}
+
+-- the expected number doesn't fall, or a reset by Logon is answered
+pub data Rises (s : MachineState) (x : Answered) : Type 0 where
+  rises : s.expected ≤ x.next.expected → Rises s x
+  resets : (steps : List StepSeen) → x.steps ≡ event.Reset ∷ steps → Rises s x
+  confirms : (steps : List StepSeen) → x.steps ≡ Confirm ∷ steps → Rises s x

@@ -10,13 +10,21 @@ use Rattle.fix_machine.specs.declared.state.Phase.TheVariants as phase
 use Rattle.fix_machine.specs.declared.state.Role.{Role}
 use Rattle.fix_machine.specs.declared.state.Role.TheVariants.{Acceptor, Initiator}
 use Rattle.fix_machine.specs.declared.event.Refusal.TheVariants as refusal
-use Rattle.fix_machine.specs.declared.event.Why.TheVariants.{Refused, LoggedOut, Silent, LogonLate, LogoutLate, OutOfWindow}
-use Rattle.fix_machine.specs.Event.{Inbound, VerdictSeen, App, Admin, Bad, EventSeen, Begin, First, Frame, Moved, Clock, Leave, Ended, Wrote, StepSeen, Send, Serve, Hand, Stash, Expect, Reset, Confirm, Close}
-use Rattle.fix_machine.specs.State.{Options, MachineState, read_clock, sent, counted, expecting, emptied, requested, up, closed}
+use Rattle.fix_machine.specs.declared.event.Why.TheVariants.{Refused, LoggedOut, Silent, LogonLate, LogoutLate}
+use Rattle.fix_machine.specs.declared.event.Why.TheVariants.{OutOfWindow}
+use Rattle.fix_machine.specs.Event.{Inbound, VerdictSeen, App, Admin, Bad, EventSeen, Begin, First, Frame, Moved}
+use Rattle.fix_machine.specs.Event.{Clock, Leave, Ended, Wrote, StepSeen, Send, Serve, Hand, Stash, Expect, Reset}
+use Rattle.fix_machine.specs.Event.{Confirm, Close}
+use Rattle.fix_machine.specs.State.{Options, MachineState, read_clock, sent, counted, expecting, emptied, requested}
+use Rattle.fix_machine.specs.State.{up, closed}
 use Rattle.fix_machine.specs.Answer.{answer}
 use Rattle.fix_machine.specs.AwaitLogon.{answered}
 use Rattle.fix_machine.specs.Decide.{answer_to}
-use Rattle.fix_machine.specs.Worked.{Row, row, IsAnswered, T, own, chunked, lenient, resetting, fixt, idle, waits, on, left, asks, testing, unbeaten, head, of_version, from_nobody, to_nobody, from_whom, to_whom, untimed, flagged, marked, again, inbound, of, reads, cramped, fills, resets, unread, dated, dated_first, plain, resetting_logon, rejects, a1, a5, a9, i1, i5, u2}
+use Rattle.fix_machine.specs.Worked.{Row, row, IsAnswered, T, own, chunked, lenient, resetting, fixt, idle, waits}
+use Rattle.fix_machine.specs.Worked.{on, left, asks, testing, unbeaten, head, of_version, from_nobody, to_nobody}
+use Rattle.fix_machine.specs.Worked.{from_whom, to_whom, untimed, flagged, marked, again, inbound, of, reads}
+use Rattle.fix_machine.specs.Worked.{cramped, fills, resets, unread, dated, dated_first, plain, resetting_logon}
+use Rattle.fix_machine.specs.Worked.{rejects, a1, a5, a9, i1, i5, u2}
 use Rattle.fix_machine.specs.RowsOfLogon.{FIRST_MESSAGES}
 
 -- ---- later messages: version and number
@@ -152,7 +160,8 @@ CHECKS =
     ∷
     -- 121 seconds early
     row own u2 (dated (T - 121000000) (of (codes "D") 2) App)
-    (rejects 2 (codes "D") 10 52 ∷ Expect 3 ∷ Send (say.Logout text.SendingTime) ∷ Close (Refused 2 refusal.SendingTime) ∷ [])
+    (rejects 2 (codes "D") 10 52 ∷ Expect 3 ∷ Send (say.Logout text.SendingTime) ∷ Close
+    (Refused 2 refusal.SendingTime) ∷ [])
     (closed (sent (counted 2 (sent u2))))
     ∷
     -- 120 seconds early
@@ -175,7 +184,8 @@ CHECKS =
     ∷
     -- OrigSendingTime later than SendingTime
     row own u2 (dated_first (T + 1) (again (of (codes "D") 2)) App)
-    (rejects 2 (codes "D") 10 122 ∷ Expect 3 ∷ Send (say.Logout text.SendingTime) ∷ Close (Refused 2 refusal.SendingTime) ∷ [])
+    (rejects 2 (codes "D") 10 122 ∷ Expect 3 ∷ Send (say.Logout text.SendingTime) ∷ Close
+    (Refused 2 refusal.SendingTime) ∷ [])
     (closed (sent (counted 2 (sent u2))))
     ∷
     -- an order that is sent again

@@ -13,9 +13,13 @@ use Rattle.fix_machine.specs.declared.state.Phase.TheVariants as phase
 use Rattle.fix_machine.specs.declared.state.Role.{Role}
 use Rattle.fix_machine.specs.declared.state.Role.TheVariants.{Acceptor, Initiator}
 use Rattle.fix_machine.specs.declared.event.Refusal.TheVariants as refusal
-use Rattle.fix_machine.specs.declared.event.Why.TheVariants.{Refused, LoggedOut, Silent, LogonLate, LogoutLate, OutOfWindow}
-use Rattle.fix_machine.specs.Event.{Inbound, VerdictSeen, App, Admin, Bad, EventSeen, Begin, First, Frame, Moved, Clock, Leave, Ended, Wrote, StepSeen, Send, Serve, Hand, Stash, Expect, Reset, Confirm, Close}
-use Rattle.fix_machine.specs.State.{Options, MachineState, read_clock, sent, counted, expecting, emptied, requested, up, closed}
+use Rattle.fix_machine.specs.declared.event.Why.TheVariants.{Refused, LoggedOut, Silent, LogonLate, LogoutLate}
+use Rattle.fix_machine.specs.declared.event.Why.TheVariants.{OutOfWindow}
+use Rattle.fix_machine.specs.Event.{Inbound, VerdictSeen, App, Admin, Bad, EventSeen, Begin, First, Frame, Moved}
+use Rattle.fix_machine.specs.Event.{Clock, Leave, Ended, Wrote, StepSeen, Send, Serve, Hand, Stash, Expect, Reset}
+use Rattle.fix_machine.specs.Event.{Confirm, Close}
+use Rattle.fix_machine.specs.State.{Options, MachineState, read_clock, sent, counted, expecting, emptied, requested}
+use Rattle.fix_machine.specs.State.{up, closed}
 use Rattle.fix_machine.specs.Answer.{answer}
 use Rattle.fix_machine.specs.AwaitLogon.{answered}
 use Rattle.fix_machine.specs.Decide.{answer_to}
@@ -28,7 +32,13 @@ pub record Row : Type 0 where
   pub next : MachineState
 
 abbrev pub row : Options → MachineState → EventSeen → List StepSeen → MachineState → Row
-row options state event steps next = record { options = options; state = state; event = event; steps = steps; next = next }
+row options state event steps next = record {
+  options = options;
+  state = state;
+  event = event;
+  steps = steps;
+  next = next;
+}
 
 -- the row holds
 abbrev pub IsAnswered : Row → Type 0

@@ -1,3 +1,5 @@
+//! The answer of a stage, as tasks and the state after them, and the parts that an answer is built from.
+//! `await_logon`, `logged_on`, `clock` and `machine` call these.
 ghost use Rattle.std.specs.Prelude.{◌≡◌, ◌≤◌, ◌∷◌, [], option_map};
 ghost use Rattle.fix_admin.specs.Values.{fault_of};
 ghost use Rattle.fix_fields.specs.Header.{header_of};
@@ -59,6 +61,13 @@ pub struct Answer {
     pub third: Task,
     pub fourth: Task,
     pub next: MachineState,
+}
+
+/// SessionRejectReason (373) and RefTagID (371), as numbers.
+#[derive(Clone, Copy, Debug, PartialEq, Eq)]
+pub struct Wrong {
+    pub reason: u16,
+    pub tag: Option<u32>,
 }
 
 // Nothing is done.
@@ -193,13 +202,6 @@ pub fn readable(number: Option<SeqNum>) -> u32
     }
 }
 
-/// SessionRejectReason (373) and RefTagID (371), as numbers.
-#[derive(Clone, Copy, Debug, PartialEq, Eq)]
-pub struct Wrong {
-    pub reason: u16,
-    pub tag: Option<u32>,
-}
-
 // A fault at a tag.
 pub fn wrong_at(reason: u16, tag: u32) -> Wrong
     requires first { 1 ≤ tag }
@@ -223,13 +225,6 @@ pub fn sent(state: MachineState) -> MachineState
         sent_at: state.reading,
         ..state
     }
-}
-
-// The number after the last; at 999,999,999 there is none.
-fn after(last: u32) -> u32
-    ensures { result ≡ number_after last }
-{
-    if last < LAST_SEQ_NUM { last + 1 } else { last }
 }
 
 // This number is expected next.
@@ -268,4 +263,11 @@ pub fn read_clock(now: u64, state: MachineState) -> MachineState
         reading: now.min(LAST_TIME),
         ..state
     }
+}
+
+// The number after the last; at 999,999,999 there is none.
+fn after(last: u32) -> u32
+    ensures { result ≡ number_after last }
+{
+    if last < LAST_SEQ_NUM { last + 1 } else { last }
 }

@@ -1,3 +1,5 @@
+//! Answers the first message on a connection, which must be a Logon. `machine` calls this in the phase
+//! AwaitLogon.
 ghost use Rattle.std.specs.Prelude.{◌≡◌, ◌≤◌, ◌<◌, ◌∷◌, [], map, option_map};
 ghost use Rattle.fix_base.specs.Payload.{LAST_TIME};
 ghost use Rattle.fix_fields.specs.Header.{header_of};

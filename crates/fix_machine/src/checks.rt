@@ -1,3 +1,5 @@
+//! Checks the CompIDs, times, PossDupFlag and content of a message, and gives the first fault. `logged_on`
+//! calls `checked`, and `await_logon` calls `is_timely` alone.
 ghost use Rattle.std.specs.Prelude.{◌≡◌, ◌≤◌, option_map};
 ghost use Rattle.fix_base.specs.Payload.{LAST_TIME};
 ghost use Rattle.fix_fields.specs.Header.{header_of};
@@ -38,6 +40,37 @@ pub fn checked(options: &Options, state: &MachineState, inbound: &Inbound<'_>) -
     match comp_ids(&options.identity, inbound.head) {
         Finding::Fine => times(options, state, inbound),
         found => found,
+    }
+}
+
+// Whether the time is at most so many seconds from the reading.
+pub fn is_timely(latency: Option<u32>, reading: u64, time: i64) -> bool
+    requires { reading ≤ LAST_TIME }
+    ensures { result ≡ checks.is_timely latency reading time }
+{
+    match latency {
+        None => true,
+        Some(seconds) => {
+            let most = i64::from(seconds) * 1_000_000;
+            let reading = reading as i64;
+            time <= reading + most && reading <= time.saturating_add(most)
+        }
+    }
+}
+
+// A fault as its numbers.
+pub fn wrong_of(fault: &Fault) -> Wrong
+    ensures { wrong_seen result ≡ fault.now }
+{
+    match fault.tag {
+        None => Wrong {
+            reason: fault.reason,
+            tag: None,
+        },
+        Some(tag) => Wrong {
+            reason: fault.reason,
+            tag: Some(tag.get()),
+        },
     }
 }
 
@@ -95,21 +128,6 @@ fn wrong_comp_id(tag: u32) -> Finding
         fault: wrong_at(9, tag),
         text: LogoutText::CompId,
         cause: Refusal::CompId,
-    }
-}
-
-// Whether the time is at most so many seconds from the reading.
-pub fn is_timely(latency: Option<u32>, reading: u64, time: i64) -> bool
-    requires { reading ≤ LAST_TIME }
-    ensures { result ≡ checks.is_timely latency reading time }
-{
-    match latency {
-        None => true,
-        Some(seconds) => {
-            let most = i64::from(seconds) * 1_000_000;
-            let reading = reading as i64;
-            time <= reading + most && reading <= time.saturating_add(most)
-        }
     }
 }
 
@@ -199,21 +217,5 @@ fn content(verdict: &Verdict<'_>) -> Finding
         Verdict::App => Finding::Fine,
         Verdict::Admin(_) => Finding::Fine,
         Verdict::Bad(fault) => Finding::Reject(wrong_of(fault)),
-    }
-}
-
-// A fault as its numbers.
-pub fn wrong_of(fault: &Fault) -> Wrong
-    ensures { wrong_seen result ≡ fault.now }
-{
-    match fault.tag {
-        None => Wrong {
-            reason: fault.reason,
-            tag: None,
-        },
-        Some(tag) => Wrong {
-            reason: fault.reason,
-            tag: Some(tag.get()),
-        },
     }
 }

@@ -1,3 +1,5 @@
+//! Answers a reading of the clock: what is due then, or the end of the session's time. `machine` calls this
+//! for the event `Clock`.
 ghost use Rattle.std.specs.Prelude.{◌≡◌, ◌≤◌};
 ghost use Rattle.fix_machine.specs.State.{IsTimed};
 ghost use Rattle.fix_base.specs.Payload.{LAST_TIME};

@@ -1,3 +1,4 @@
+//! Tells when `clock` next has something to do. `Machine::deadline` calls this.
 ghost use Rattle.std.specs.Prelude.{◌≡◌, ◌≤◌};
 ghost use Rattle.fix_base.specs.Payload.{LAST_TIME as LAST};
 ghost use Rattle.fix_machine.specs.State.{IsTimed};

@@ -1,9 +1,11 @@
+//! What a decision is about, and what it comes to: events, steps, and why a connection is closed. `machine`
+//! takes an event and gives the steps.
 use crate::Role;
 use fix_admin::{Admin, Say};
 use fix_base::Fault;
 use fix_fields::Envelope;
 
-/// What a message is behind its header.
+/// What a message is after its header.
 #[derive(Clone, Copy, Debug)]
 pub enum Verdict<'a> {
     /// An application message in which no fault was found.

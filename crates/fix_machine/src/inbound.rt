@@ -1,3 +1,4 @@
+//! The message that `machine` gives to `await_logon` and `logged_on`: what the event says, and its times read.
 use crate::Verdict;
 use fix_fields::Envelope;
 

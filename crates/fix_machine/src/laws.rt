@@ -6,7 +6,7 @@ ghost use Rattle.fix_machine.specs.Answer.{answer, is_of_session};
 ghost use Rattle.fix_machine.specs.Checks.{Fine, checked};
 ghost use Rattle.fix_machine.specs.LoggedOn.{is_reset};
 ghost use Rattle.fix_machine.specs.Decide.{answer_to, started};
-ghost use Rattle.fix_machine.specs.Numbers.{Adds, IsLoggedOn, IsPassive, IsNoMessage};
+ghost use Rattle.fix_machine.specs.Numbers.{Adds, IsLoggedOn, IsPassive, IsNoMessage, Rises};
 ghost use Rattle.fix_machine.specs.Rows.{RowsHold};
 
 /// The steps of an answer say all that it does to the numbers: who carries them out one by one has
@@ -47,6 +47,12 @@ pub fn only_the_expected_number_moves_it()
 pub fn only_a_message_moves_it()
     ensures { (o : Options) (s : MachineState) (e : EventSeen) → IsNoMessage e → (answer_to o s e).next.expected
         ≡ s.expected }
+{}
+
+/// The expected number never falls, but where a reset by Logon is answered: then the answer begins
+/// with the reset, or with what confirms it.
+pub fn the_expected_number_never_falls()
+    ensures { (o : Options) (s : MachineState) (e : EventSeen) → Rises s (answer_to o s e) }
 {}
 
 /// The worked rows of `specs/Rows.antt` hold: in each state an event has the steps that a reader of

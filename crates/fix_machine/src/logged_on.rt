@@ -1,3 +1,5 @@
+//! Answers a message after the Logon, by its number, its first fault and its type. `machine` calls this in the
+//! phases Up and LogoutSent.
 ghost use Rattle.std.specs.Prelude.{◌≡◌, ◌≤◌, ◌∷◌, []};
 ghost use Rattle.fix_base.specs.Payload.{LAST_TIME};
 ghost use Rattle.fix_fields.specs.Header.{header_of};

@@ -1,3 +1,5 @@
+//! Decides the answer to each event, and keeps the state after it. This is the stage that is called from
+//! outside the crate: it calls `await_logon` or `logged_on` for a message, and `clock` for a reading.
 ghost use Rattle.std.specs.Prelude.{◌≡◌, ◌≤◌, Some, option_map};
 ghost use Rattle.fix_base.specs.Payload.{LAST_TIME};
 ghost use Rattle.fix_machine.specs.Event.{EventSeen, Frame, IsEvent, IsSaid};

@@ -1,3 +1,4 @@
+//! The settings that a session decides by, and its state. `machine` keeps both, and the stages read them.
 use fix_base::Identity;
 
 /// The phase of a session.

@@ -1,3 +1,4 @@
+//! That an acceptor takes a Logon, sends a Heartbeat when it is due and leaves, with the deadline after each.
 use crate::{Decision, Event, Machine, Options, Phase, Refusal, Role, Step, Verdict, Why};
 use fix_admin::{Admin, LogoutText, Say};
 use fix_base::{Begin, Bytes, Identity, OutOfMemory, SeqNum, Stored};

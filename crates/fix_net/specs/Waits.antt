@@ -1,9 +1,9 @@
 -- How long reads of a socket wait.
 use Rattle.std.specs.Prelude.{ℕ, ◌*◌, ◌==◌, min, if◌then◌else◌}
-use Rattle.fix_parts.specs.declared.link.ReadTurn.{ReadTurn}
-use Rattle.fix_parts.specs.declared.link.ReadTurn.TheVariants as read
+use Rattle.fix_outside.specs.declared.connection.ReadTurn.{ReadTurn}
+use Rattle.fix_outside.specs.declared.connection.ReadTurn.TheVariants as read
 
--- behind a read that came to this and waited so many milliseconds: only where nothing came there is a wait, at first
+-- after a read that came to this and waited so many milliseconds: only where nothing came there is a wait, at first
 -- of one, then of twice the last, and of 16 at most
 abbrev pub wait_after : ReadTurn → ℕ → ℕ
 wait_after read.Idle wait = if wait == 0 then 1 else min (2 * wait) 16

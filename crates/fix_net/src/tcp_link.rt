@@ -1,5 +1,7 @@
+//! The link of a session over a TCP socket: how long each read waits, and what an error of the socket comes to.
 ghost use Rattle.std.specs.Prelude.{◌≡◌, ◌≤◌, ◌<◌, length, IfErr};
-ghost use Rattle.fix_parts.specs.Link.{LinkReads, LinkWrites, IsInRoom};
+ghost use Rattle.fix_parts.specs.Link.{LinkReads, LinkWrites};
+ghost use Rattle.fix_outside.specs.Connection.{IsInRoom};
 ghost use Rattle.fix_net.specs.Waits.{wait_after};
 
 use fix_disk::write_out;
@@ -15,8 +17,8 @@ const LONGEST_WAIT: u64 = 16;
 /// How long a write may wait while the other side takes nothing, in seconds.
 const WRITE_SECONDS: u64 = 10;
 
-/// A connection over a socket. A read behind bytes or behind a write doesn't wait, so that a session whose
-/// connection is busy goes on at once. A read behind an Idle one waits a millisecond, the next one two, and so on up
+/// A connection over a socket. A read after bytes or after a write doesn't wait, so that a session whose
+/// connection is busy goes on at once. A read after an Idle one waits a millisecond, the next one two, and so on up
 /// to 16. A write fails where the other side has taken nothing for ten seconds. It tells no content.
 #[derive(Drop)]
 pub struct TcpLink<S> {
@@ -94,7 +96,7 @@ fn write_waiting<S: Write + OpenStream>(stream: &mut S, bytes: &[u8]) -> Result<
     write_out(stream, bytes)
 }
 
-// How long the read behind this one waits.
+// How long the read after this one waits.
 fn next_wait(turn: ReadTurn, wait: u64) -> u64
     ensures { result ≡ wait_after turn wait }
 {

@@ -1,8 +1,9 @@
+//! That two links over loopback read each other's bytes. Nothing comes before these are sent, or after the end.
 use crate::TcpLink;
 use fix_parts::{Link, ReadTurn, WriteTurn};
 use std::net::{Net, TcpListener, TcpStream};
 
-// What comes of a connection over loopback: a read with nothing sent, bytes each way, and a read behind the other
+// What comes of a connection over loopback: a read with nothing sent, bytes each way, and a read after the other
 // side's end.
 fn over_loopback<R: Net<Listener = TcpListener, Stream = TcpStream>>(rt: &R) -> Option<[bool; 6]> {
     let listener = TcpListener::bind(rt, "127.0.0.1:0").ok()?;

@@ -1,5 +1,5 @@
 pub mod TotalLemmas
 pub mod MergeLemmas
 pub mod OrderLemmas
-pub mod ShutLemmas
+pub mod ClosingLemmas
 pub mod SettleLemmas

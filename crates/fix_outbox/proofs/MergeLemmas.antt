@@ -3,8 +3,8 @@ use Rattle.std.proofs.Common.{◌≡◌, ◌≢◌, ◌⊎◌, ℕ, zero, suc, �
 use Rattle.std.specs.List.{AllByRecursion}
 use mathlib.Core.Logic.{dite}
 use native.Mathlib.Decide.{ℕ_discrete}
-use Rattle.fix_outbox.specs.declared.line.Item.{Item}
-use Rattle.fix_outbox.specs.Line.{of, total, AreApart}
+use Rattle.fix_outbox.specs.declared.queue.Item.{Item}
+use Rattle.fix_outbox.specs.Queue.{of, total, AreApart}
 use Rattle.fix_outbox.specs.Merge.{Merge, all_empty, from_one}
 
 abbrev parts_of : List ℕ → List Item → List (List Item)

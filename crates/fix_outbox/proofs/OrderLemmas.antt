@@ -9,13 +9,13 @@ use Rattle.std.proofs.lemmas.List.{append-nil}
 use Rattle.std.proofs.lemmas.List.Elements.{filter-append, All-weaker, All-cons, All-nil}
 use Rattle.crossbeam_queue.specs.Fifo.{Pushes, Pops, Forks, Merges, Learns}
 use Rattle.crossbeam_queue.proofs.Lists.{at_set}
-use Rattle.fix_outbox.specs.declared.line.Item.{Item}
-use Rattle.fix_outbox.specs.declared.line.Ended.{Ended}
-use Rattle.fix_outbox.specs.declared.line.Part.{Part}
+use Rattle.fix_outbox.specs.declared.queue.Item.{Item}
+use Rattle.fix_outbox.specs.declared.queue.Ended.{Ended}
+use Rattle.fix_outbox.specs.declared.queue.Part.{Part}
 use Rattle.std.specs.List.{AllByRecursion}
 use Rattle.std.proofs.lemmas.List.{length-append}
 use Rattle.std.proofs.lemmas.List.Elements.{recursion_from_All}
-use Rattle.fix_outbox.specs.Line.{of, ended, taker, sender, spent, with_list, count_posted, numbers, AreApart, items_of, senders_of, total, Rests, Fits, InOrder, Appended, Took, MayHold}
+use Rattle.fix_outbox.specs.Queue.{of, ended, taker, sender, spent, with_list, count_posted, numbers, AreApart, items_of, senders_of, total, Rests, Fits, InOrder, Appended, Took, CanContain}
 use Rattle.fix_outbox.proofs.TotalLemmas.{total_set, total_append_one, all_of_one, items_of_taker, senders_of_taker, items_of_sender, senders_of_sender, idle_holds_nothing}
 
 off : {A : Type 0} → false ≡ true → A
@@ -256,5 +256,5 @@ merges pass v other u may none_taken sends items views h at apart there =
     )
 
 -- whatever the queue holds at a look, the outbox may hold it
-pub learns : (pass : ℕ) (v : Part) → Learns InOrder pass v (MayHold v)
+pub learns : (pass : ℕ) (v : Part) → Learns InOrder pass v (CanContain v)
 learns pass v items views h at = (pass, views, h, at)

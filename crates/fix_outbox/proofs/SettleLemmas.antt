@@ -5,14 +5,14 @@ use Rattle.std.specs.List.{AllByRecursion}
 use Rattle.std.proofs.lemmas.List.{append-nil, length-append, length-map}
 use Rattle.crossbeam_queue.specs.Fifo.{Held}
 use Rattle.std.proofs.lemmas.List.Elements.{All-from_recursion, recursion_from_All, All-weaker, All-same, All-push}
-use Rattle.fix_outbox.specs.declared.line.Item.{Item}
-use Rattle.fix_outbox.specs.declared.line.Ended.{Ended}
-use Rattle.fix_outbox.specs.declared.line.Part.{Part}
+use Rattle.fix_outbox.specs.declared.queue.Item.{Item}
+use Rattle.fix_outbox.specs.declared.queue.Ended.{Ended}
+use Rattle.fix_outbox.specs.declared.queue.Part.{Part}
 use Rattle.fix_outbox.specs.declared.pass.SenderPass.{SenderPass}
-use Rattle.fix_outbox.specs.Line.{of, taker, with_list, total, count_posted, numbers, AreApart, Rests, MayHold}
+use Rattle.fix_outbox.specs.Queue.{of, taker, with_list, total, count_posted, numbers, AreApart, Rests, CanContain}
 use Rattle.fix_outbox.specs.Passes.{posted, found, ended_of, Settles, AreClean}
 use Rattle.fix_outbox.specs.Merge.{Merge}
-use Rattle.fix_outbox.specs.Shut.{Clean}
+use Rattle.fix_outbox.specs.Closing.{Clean}
 use Rattle.fix_outbox.proofs.OrderLemmas.{of_both, all_counted}
 use Rattle.fix_outbox.proofs.MergeLemmas.{is_merge}
 
@@ -20,7 +20,7 @@ use Rattle.fix_outbox.proofs.MergeLemmas.{is_merge}
 abbrev Known : Part → List Item → Type 0
 Known v items = AreApart (numbers v.known) × AllByRecursion (λ (e : Ended). e.posted ≡ of e.number (v.list ++ items)) v.known
 
-known : (v : Part) (items : List Item) → v.takes ≡ true → MayHold v items → Known v items
+known : (v : Part) (items : List Item) → v.takes ≡ true → CanContain v items → Known v items
 known v items may m =
     let h = m.2 in
     let mine = (h.8 m.0 v m.3).0 may in
@@ -30,7 +30,7 @@ known v items may m =
     )
 
 -- where it took in all of them, what they posted is what it took and what the queue holds
-pub counted : (v : Part) (items : List Item) → v.takes ≡ true → length v.known ≡ v.number → MayHold v items → length v.list + length items ≡ count_posted v.known
+pub counted : (v : Part) (items : List Item) → v.takes ≡ true → length v.known ≡ v.number → CanContain v items → length v.list + length items ≡ count_posted v.known
 counted v items may every m =
     let h = m.2 in
     let mine = (h.8 m.0 v m.3).0 may in
@@ -42,7 +42,7 @@ in_all v w senders is none_in every =
     ap (λ (u : Part). length u.known) is ∙ ap (λ (es : List Ended). length (map ended_of senders ++ es)) none_in ∙ ap (λ (es : List Ended). length es) (append-nil (map ended_of senders)) ∙ length-map senders ended_of ∙ every ∙ sym (ap (λ (u : Part). u.number) is)
 
 -- the room that has the queue's capacity is enough for what the queue holds
-pub room_enough : (w : Part) (n cap room : ℕ) → w.takes ≡ true → length w.known ≡ w.number → n ≤ cap → Held n (MayHold w) → cap ≤ room → count_posted w.known ≤ length w.list + room
+pub room_enough : (w : Part) (n cap room : ℕ) → w.takes ≡ true → length w.known ≡ w.number → n ≤ cap → Held n (CanContain w) → cap ≤ room → count_posted w.known ≤ length w.list + room
 room_enough w n cap room may every few held more =
     let sum = counted w held.0 may every held.2 in
     let many = held.1 in
@@ -66,7 +66,7 @@ sizes_are all (e ∷ es) h =
     let more = sizes_are all es h.1 in
     omega arith
 
-settled : (number : ℕ) (before rest : List Item) (senders : List SenderPass) → length senders ≡ number → MayHold (taker number (before ++ rest) (map ended_of senders)) [] → Settles before rest senders
+settled : (number : ℕ) (before rest : List Item) (senders : List SenderPass) → length senders ≡ number → CanContain (taker number (before ++ rest) (map ended_of senders)) [] → Settles before rest senders
 settled number before rest senders every m =
     let es = map ended_of senders in
     let all = before ++ rest in
@@ -84,11 +84,11 @@ settled number before rest senders every m =
 all_in : (v w : Part) (senders : List SenderPass) (rest : List Item) → w ≡ taker v.number v.list (map ended_of senders ++ v.known) → v.known ≡ [] → with_list w (w.list ++ rest) ≡ taker v.number (v.list ++ rest) (map ended_of senders)
 all_in v w senders rest is none_in = ap (λ (u : Part). with_list u (u.list ++ rest)) is ∙ ap (λ es. taker v.number (v.list ++ rest) (map ended_of senders ++ es)) none_in ∙ ap (λ es. taker v.number (v.list ++ rest) es) (append-nil (map ended_of senders))
 
-pub settles : (v w : Part) (senders : List SenderPass) (rest : List Item) → w ≡ taker v.number v.list (map ended_of senders ++ v.known) → v.known ≡ [] → length senders ≡ v.number → MayHold (with_list w (w.list ++ rest)) [] → Settles v.list rest senders
-settles v w senders rest is none_in every m = settled v.number v.list rest senders every (subst (λ (u : Part). MayHold u []) (all_in v w senders rest is none_in) m)
+pub settles : (v w : Part) (senders : List SenderPass) (rest : List Item) → w ≡ taker v.number v.list (map ended_of senders ++ v.known) → v.known ≡ [] → length senders ≡ v.number → CanContain (with_list w (w.list ++ rest)) [] → Settles v.list rest senders
+settles v w senders rest is none_in every m = settled v.number v.list rest senders every (subst (λ (u : Part). CanContain u []) (all_in v w senders rest is none_in) m)
 
 -- no more is left than the capacity
-pub few_left : (w : Part) (rest : List Item) (n cap : ℕ) → w.takes ≡ true → length w.known ≡ w.number → n ≤ cap → Held n (MayHold w) → MayHold (with_list w (w.list ++ rest)) [] → length rest ≤ cap
+pub few_left : (w : Part) (rest : List Item) (n cap : ℕ) → w.takes ≡ true → length w.known ≡ w.number → n ≤ cap → Held n (CanContain w) → CanContain (with_list w (w.list ++ rest)) [] → length rest ≤ cap
 few_left w rest n cap may every few held m =
     let sum = counted w held.0 may every held.2 in
     let end = counted (with_list w (w.list ++ rest)) [] may every m in
@@ -101,8 +101,8 @@ nil_of [] e = refl
 nil_of (x ∷ xs) e = absurd (omega arith)
 
 -- a look at an empty queue
-pub at_empty : (v w : Part) → v ≡ w → Held 0 (MayHold v) → MayHold w []
-at_empty v w same held = subst (λ (u : Part). MayHold u []) same (subst (λ (l : List Item). MayHold v l) (nil_of held.0 held.1) held.2)
+pub at_empty : (v w : Part) → v ≡ w → Held 0 (CanContain v) → CanContain w []
+at_empty v w same held = subst (λ (u : Part). CanContain u []) same (subst (λ (l : List Item). CanContain v l) (nil_of held.0 held.1) held.2)
 
 parts : (P : ℕ → Type 0) (xs ys : List ℕ) → AllByRecursion P (xs ++ ys) → AllByRecursion P xs × AllByRecursion P ys
 parts P [] ys h = (tt, h)

@@ -2,9 +2,9 @@
 use Rattle.std.proofs.Common.{◌≡◌, ℕ, zero, suc, ◌+◌, ◌≤◌, List, [], ◌∷◌, ◌++◌, length, set, true, false, true≢false, Bool, refl, sym, ap, ◌∙◌, arith}
 use mathlib.Core.Option.{Option, none, some, some-ne-none, some-injective}
 use lib.ListN.{get_elem?}
-use Rattle.fix_outbox.specs.declared.line.Ended.{Ended}
-use Rattle.fix_outbox.specs.declared.line.Part.{Part}
-use Rattle.fix_outbox.specs.Line.{count_posted, either, items_of, senders_of, total}
+use Rattle.fix_outbox.specs.declared.queue.Ended.{Ended}
+use Rattle.fix_outbox.specs.declared.queue.Part.{Part}
+use Rattle.fix_outbox.specs.Queue.{count_posted, either, items_of, senders_of, total}
 
 pub total_set : {A : Type 0} (f : A → ℕ) (xs : List A) (i : ℕ) (v w : A) → get_elem? xs i ≡ some v → f v + total f (set xs i w) ≡ f w + total f xs
 total_set f [] i v w e = absurd (some-ne-none v (sym e))

@@ -1,4 +1,4 @@
 pub mod Merge
-pub mod Line
-pub mod Shut
+pub mod Queue
+pub mod Closing
 pub mod Passes

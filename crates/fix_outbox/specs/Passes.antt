@@ -1,18 +1,20 @@
 -- What a contract says of an outbox and of its passes.
-use Rattle.std.specs.Prelude.{◌≤◌, vec_capacity, ◌≡◌, ◌⊎◌, ℕ, ◌<◌, ◌+◌, Bool, true, false, List, [], ◌∷◌, ◌++◌, All, map, Result, Ok, Err, ⊤, length, slice_index_or, MatchResult, Option, Some, None, replicate, drop}
+use Rattle.std.specs.Prelude.{◌≤◌, vec_capacity, ◌≡◌, ◌⊎◌, ℕ, ◌<◌, ◌+◌, Bool, true, false, List, [], ◌∷◌, ◌++◌, All}
+use Rattle.std.specs.Prelude.{map, Result, Ok, Err, ⊤, length, slice_index_or, MatchResult, Option, Some, None}
+use Rattle.std.specs.Prelude.{replicate, drop}
 use Rattle.crossbeam_queue.specs.Passes.{view, ruled_capacity}
 use Rattle.crossbeam_queue.specs.Fifo.{Held}
 use Rattle.fix_fields.specs.Drafted.{DraftText}
-use Rattle.fix_outbox.specs.declared.line.Item.{Item}
-use Rattle.fix_outbox.specs.declared.line.Ended.{Ended}
-use Rattle.fix_outbox.specs.declared.line.Part.{Part}
+use Rattle.fix_outbox.specs.declared.queue.Item.{Item}
+use Rattle.fix_outbox.specs.declared.queue.Ended.{Ended}
+use Rattle.fix_outbox.specs.declared.queue.Part.{Part}
 use Rattle.fix_outbox.specs.declared.pass.Outbox.{Outbox}
 use Rattle.fix_outbox.specs.declared.pass.SenderPass.{SenderPass}
 use Rattle.fix_outbox.specs.declared.pass.TakerPass.{TakerPass}
 use Rattle.fix_outbox.specs.declared.pass.PostFault.{PostFault}
 use Rattle.fix_outbox.specs.declared.pass.PostFault.TheVariants.{Closed, Full}
-use Rattle.fix_outbox.specs.Shut.{Clean}
-use Rattle.fix_outbox.specs.Line.{of, ended, MayHold}
+use Rattle.fix_outbox.specs.Closing.{Clean}
+use Rattle.fix_outbox.specs.Queue.{of, ended, CanContain}
 use Rattle.fix_outbox.specs.Merge.{Merge}
 
 abbrev pub capacity_of : Outbox → ℕ
@@ -23,7 +25,8 @@ abbrev pub IsSenderOf : Outbox → SenderPass → Type 0
 IsSenderOf o p = (p.place.table_id ≡ o.queue.table.shared.table_id) × (p.watch.table_id ≡ o.gate.shared.table_id)
 
 abbrev pub IsTakerOf : Outbox → TakerPass → Type 0
-IsTakerOf o p = (p.place.table_id ≡ o.queue.table.shared.table_id) × (p.watch.table_id ≡ o.gate.shared.table_id) × (capacity_of o ≤ vec_capacity p.room)
+IsTakerOf o p = (p.place.table_id ≡ o.queue.table.shared.table_id) × (p.watch.table_id ≡ o.gate.shared.table_id)
+    × (capacity_of o ≤ vec_capacity p.room)
 
 -- how many senders the outbox was made with
 abbrev pub count_of : TakerPass → ℕ
@@ -67,9 +70,10 @@ back_of (Full d) = d
 abbrev pub HasCause : ℕ → ℕ → Part → Result ⊤ PostFault → Type 0
 HasCause n capacity v (Ok _) = n ≡ 0
 HasCause n capacity v (Err (Closed _)) = n ≡ 1
-HasCause n capacity v (Err (Full _)) = (n ≡ 0) × Held capacity (MayHold v)
+HasCause n capacity v (Err (Full _)) = (n ≡ 0) × Held capacity (CanContain v)
 
--- what each sender posted is what was taken of its number and then what is left of it; all together is a merge of what they posted
+-- what each sender posted is what was taken of its number and then what is left of it; all together is a
+-- merge of what they posted
 abbrev pub Settles : List Item → List Item → List SenderPass → Type 0
 Settles before rest senders =
     All (λ (p : SenderPass). posted p ≡ of (number_of p) before ++ of (number_of p) rest) senders

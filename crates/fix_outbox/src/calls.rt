@@ -2,12 +2,13 @@
 ghost use Rattle.std.specs.Prelude.{◌≡◌, ℕ, true, [], ◌∷◌, ◌++◌, MatchResult, MatchOption};
 ghost use Rattle.crossbeam_queue.specs.Passes.{view};
 ghost use Rattle.crossbeam_queue.specs.Fifo.{Held};
-ghost use Rattle.fix_outbox.specs.Line.{MayHold};
-ghost use Rattle.fix_outbox.specs.Passes.{capacity_of, IsSenderOf, IsTakerOf, count_of, number_of, posted, found, taken, closed, item, back_of, HasCause};
+ghost use Rattle.fix_outbox.specs.Queue.{CanContain};
+ghost use Rattle.fix_outbox.specs.Passes.{capacity_of, IsSenderOf, IsTakerOf, count_of, number_of, posted, found};
+ghost use Rattle.fix_outbox.specs.Passes.{taken, closed, item, back_of, HasCause};
 
-use crate::gate::{Finds, Shutting};
-use crate::line::{Appends, Item, Takes};
+use crate::closing::{ClosesWord, LoadsWord};
 use crate::pass::{Outbox, PostFault, SenderPass, TakerPass};
+use crate::queue::{Appends, Item, Takes};
 use fix_fields::Draft;
 use std::sync::Wait;
 
@@ -30,10 +31,13 @@ impl Outbox {
     ) -> Result<(), PostFault>
         requires { IsSenderOf self.now pass.old }
         ensures pass { IsSenderOf self.now pass.new × (number_of pass.new ≡ number_of pass.old) }
-        ensures posted { MatchResult result (λ _. posted pass.new ≡ posted pass.old ++ item (number_of pass.old) draft ∷ []) (λ e. (back_of e ≡ draft) × (posted pass.new ≡ posted pass.old)) }
-        ensures cause { (n : ℕ) × (found pass.new ≡ found pass.old ++ n ∷ []) × HasCause n (capacity_of self.now) (view pass.old.place) result }
+        ensures posted { MatchResult result
+            (λ _. posted pass.new ≡ posted pass.old ++ item (number_of pass.old) draft ∷ [])
+            (λ e. (back_of e ≡ draft) × (posted pass.new ≡ posted pass.old)) }
+        ensures cause { (n : ℕ) × (found pass.new ≡ found pass.old ++ n ∷ [])
+            × HasCause n (capacity_of self.now) (view pass.old.place) result }
     {
-        if self.gate.shared.load::<Finds>(&mut pass.watch, 0) == 1 {
+        if self.gate.shared.load::<LoadsWord>(&mut pass.watch, 0) == 1 {
             return Err(PostFault::Closed(draft));
         }
         let item = Item {
@@ -50,8 +54,11 @@ impl Outbox {
     #[tactic(auto, using(crate::proofs::OrderLemmas::takes, crate::proofs::OrderLemmas::learns))]
     pub fn take<R: Wait>(&self, rt: &R, pass: &mut TakerPass) -> Option<Draft>
         requires { IsTakerOf self.now pass.old }
-        ensures pass { IsTakerOf self.now pass.new × (closed pass.new ≡ closed pass.old) × (count_of pass.new ≡ count_of pass.old) }
-        ensures taken { MatchOption result ((taken pass.new ≡ taken pass.old) × Held 0 (MayHold (view pass.old.place))) (λ d. (i : ℕ) × (taken pass.new ≡ taken pass.old ++ item i d ∷ [])) }
+        ensures pass { IsTakerOf self.now pass.new × (closed pass.new ≡ closed pass.old)
+            × (count_of pass.new ≡ count_of pass.old) }
+        ensures taken { MatchOption result ((taken pass.new ≡ taken pass.old)
+            × Held 0 (CanContain (view pass.old.place)))
+            (λ d. (i : ℕ) × (taken pass.new ≡ taken pass.old ++ item i d ∷ [])) }
     {
         match self.queue.pop_as::<Takes, R>(rt, &mut pass.place) {
             Some(item) => Some(item.draft),
@@ -63,9 +70,10 @@ impl Outbox {
     /// are in it can still be taken.
     pub fn close<R: Wait>(&self, _rt: &R, pass: &mut TakerPass)
         requires { IsTakerOf self.now pass.old }
-        ensures pass { IsTakerOf self.now pass.new × (taken pass.new ≡ taken pass.old) × (count_of pass.new ≡ count_of pass.old) }
+        ensures pass { IsTakerOf self.now pass.new × (taken pass.new ≡ taken pass.old)
+            × (count_of pass.new ≡ count_of pass.old) }
         ensures closed { closed pass.new ≡ true }
     {
-        self.gate.shared.store::<Shutting>(&mut pass.watch, 0, 1);
+        self.gate.shared.store::<ClosesWord>(&mut pass.watch, 0, 1);
     }
 }

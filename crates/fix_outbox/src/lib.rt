@@ -3,10 +3,10 @@
 #![tactic(auto)]
 
 mod calls;
-mod gate;
-mod line;
+mod closing;
 mod opening;
 mod pass;
+mod queue;
 mod settling;
 #[cfg(test)]
 mod tests;

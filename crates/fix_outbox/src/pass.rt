@@ -1,10 +1,10 @@
 //! An outbox and its passes.
 ghost use Rattle.std.specs.Prelude.{◌≡◌, true, false, []};
 ghost use Rattle.crossbeam_queue.specs.Passes.{view};
-ghost use Rattle.fix_outbox.specs.Line.{IsSender, IsTaker};
+ghost use Rattle.fix_outbox.specs.Queue.{IsSender, IsTaker};
 
-use crate::gate::{Gate, Watch};
-use crate::line::{Place, Queue};
+use crate::closing::{ClosingSeat, ClosingWord};
+use crate::queue::{Place, Queue};
 use fix_fields::Draft;
 
 /// A bounded queue of drafts, and a word that closes it. Threads share it by a reference; what each
@@ -12,7 +12,7 @@ use fix_fields::Draft;
 #[derive(Drop)]
 pub struct Outbox {
     pub(crate) queue: Queue,
-    pub(crate) gate: Gate,
+    pub(crate) gate: ClosingWord,
     ghost one_word: { gate.shared.table_id.words ≡ 1 },
 }
 
@@ -21,7 +21,7 @@ pub struct Outbox {
 pub struct SenderPass {
     pub(crate) number: u32,
     pub(crate) place: Place,
-    pub(crate) watch: Watch,
+    pub(crate) watch: ClosingSeat,
     ghost sends: { IsSender number (view place) × (place.me.1 ≡ []) × (watch.me.0.takes ≡ false) × (watch.me.1 ≡ []) },
 }
 
@@ -30,7 +30,7 @@ pub struct SenderPass {
 #[derive(Drop)]
 pub struct TakerPass {
     pub(crate) place: Place,
-    pub(crate) watch: Watch,
+    pub(crate) watch: ClosingSeat,
     pub(crate) room: Vec<Draft>,
     ghost takes: { IsTaker (view place) × (place.me.1 ≡ []) × (watch.me.0.takes ≡ true) },
     ghost none_in: { (view place).known ≡ [] },

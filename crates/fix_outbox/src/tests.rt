@@ -1,3 +1,4 @@
+//! Two senders and one taker at once, and posts into an outbox that is full and then closed.
 ghost use Rattle.std.specs.Prelude.{◌≡◌, ◌+◌, ◌<◌, All, length, vec_capacity};
 ghost use Rattle.fix_outbox.specs.Passes.{IsSenderOf, IsTakerOf, count_of};
 
@@ -184,7 +185,8 @@ fn fill<R: Wait>(rt: &R, alloc: Global, outbox: &Outbox, pass: &mut SenderPass) 
     true
 }
 
-// What a post of this order comes to: 0 for Ok, 1 for Full, 2 for Closed; with the number of the order that came back.
+// What a post of this order comes to: 0 for Ok, 1 for Full, 2 for Closed; with the number of the order that
+// came back.
 fn post_of<R: Wait>(
     rt: &R,
     outbox: &Outbox,
@@ -201,7 +203,7 @@ fn post_of<R: Wait>(
     }
 }
 
-// What two more posts into a full outbox come to, the second one behind `close`; and the numbers left.
+// What two more posts into a full outbox come to, the second one after `close`; and the numbers left.
 fn one_full<R: Wait>(rt: &R, alloc: Global) -> Option<([(u8, Option<u32>); 2], usize, bool)> {
     let (outbox, mut taker, mut senders) = Outbox::new(alloc, CAPACITY, 1).ok()?;
     let mut pass = senders.pop()?;

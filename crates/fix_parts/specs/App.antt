@@ -1,11 +1,10 @@
 -- What is seen of an application, and what a hand-over does to that.
-use Rattle.std.specs.Prelude.{◌≡◌, ◌⊎◌, ℕ, codes, List, [], ◌∷◌, ◌++◌, length, Option}
-use Rattle.fix_base.specs.Lists.{IsPrefixOf}
-use Rattle.fix_base.specs.Seen.{Rises}
+use Rattle.std.specs.Prelude.{◌≡◌, ◌⊎◌, ℕ, List, [], ◌∷◌, ◌++◌, length, Option}
+use Rattle.fix_base.specs.Trace.{Rises}
 use Rattle.fix_parts.specs.declared.app.Given.{Given}
-use Rattle.fix_parts.specs.declared.app.Handed.{Handed}
-use Rattle.fix_parts.specs.declared.app.Said.{Said}
-use Rattle.fix_parts.specs.declared.app.Said.TheVariants as said
+use Rattle.fix_outside.specs.declared.handing.Handed.{Handed}
+use Rattle.fix_outside.specs.declared.handing.Said.{Said}
+use Rattle.fix_outside.specs.declared.handing.Said.TheVariants as said
 use Rattle.fix_base.specs.Parts.{extended, less, HasNoRoom, LosesLine, given_draft, Answers}
 use Rattle.fix_base.specs.Line.{line_text}
 
@@ -16,10 +15,6 @@ pub record AppSeen : Type 0 where
   pub asked : Option (List (List ℕ))  -- the bodies of the drafts that it gave
   pub to_ask : Option (List (Option (List ℕ)))  -- its answers yet to give where it is asked for a draft
   pub faults : ℕ
-
--- the MsgType (35) that is named is the one that the body begins with
-abbrev pub HasKind : Handed → Type 0
-HasKind h = IsPrefixOf (codes "35=" ++ h.kind.now ++ 1 ∷ []) h.body.now
 
 -- what the application has of a message
 abbrev pub given_of : Handed → Given
@@ -69,4 +64,12 @@ drafts_in (answer ∷ answers) = given_draft answer ++ drafts_in answers
 
 -- what it does where it is asked for a draft, and gives one with this body or none
 abbrev pub AppAsks : Option (List ℕ) → AppSeen → AppSeen → Type 0
-AppAsks draft old new = Answers draft old.to_ask new.to_ask × (new ≡ record { given = old.given; lines = old.lines; room = old.room; asked = extended old.asked (given_draft draft); to_ask = new.to_ask; faults = old.faults })
+AppAsks draft old new = Answers draft old.to_ask new.to_ask
+    × (new ≡ record {
+      given = old.given;
+      lines = old.lines;
+      room = old.room;
+      asked = extended old.asked (given_draft draft);
+      to_ask = new.to_ask;
+      faults = old.faults;
+    })

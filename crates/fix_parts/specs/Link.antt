@@ -1,10 +1,11 @@
 -- What is seen of a connection, and what its calls do to that.
 use Rattle.std.specs.Prelude.{◌≡◌, ℕ, ◌<◌, ◌≤◌, ◌-◌, min, List, [], ◌∷◌, length, take, drop, Option, Some, None, ⊤}
-use Rattle.fix_base.specs.Seen.{Rises}
-use Rattle.fix_parts.specs.declared.link.ReadTurn.{ReadTurn}
-use Rattle.fix_parts.specs.declared.link.ReadTurn.TheVariants as read
-use Rattle.fix_parts.specs.declared.link.WriteTurn.{WriteTurn}
-use Rattle.fix_parts.specs.declared.link.WriteTurn.TheVariants as write
+use Rattle.fix_base.specs.Trace.{Rises}
+use Rattle.fix_outside.specs.declared.connection.ReadTurn.{ReadTurn}
+use Rattle.fix_outside.specs.declared.connection.ReadTurn.TheVariants as read
+use Rattle.fix_outside.specs.declared.connection.WriteTurn.{WriteTurn}
+use Rattle.fix_outside.specs.declared.connection.WriteTurn.TheVariants as write
+use Rattle.fix_outside.specs.Connection.{IsInRoom, IsInBytes}
 use Rattle.fix_base.specs.Parts.{extended, less, HasNoRoom, left_before}
 
 pub record LinkSeen : Type 0 where
@@ -35,14 +36,6 @@ TakesPieces read.OutOfMemory room old new = new ≡ old
 abbrev pub TakesTold : ReadTurn → List ℕ → Option (List (List ℕ)) → Option (List (List ℕ)) → Type 0
 TakesTold turn room None new = new ≡ None
 TakesTold turn room (Some old) new = (left : List (List ℕ)) × (new ≡ Some left) × TakesPieces turn room old left
-
--- a read gives at least one byte, and no more than there is room for
-abbrev pub IsInRoom : ReadTurn → List ℕ → Type 0
-IsInRoom (read.Bytes n) room = (0 < n) × (n ≤ length room)
-IsInRoom read.Idle room = ⊤
-IsInRoom read.End room = ⊤
-IsInRoom read.Failed room = ⊤
-IsInRoom read.OutOfMemory room = ⊤
 
 -- a read fails only where no room is told
 abbrev pub MayRead : ReadTurn → Option ℕ → Type 0
@@ -80,12 +73,6 @@ abbrev pub LinkRoomAfter : WriteTurn → List ℕ → Option ℕ → Option ℕ 
 LinkRoomAfter write.Done bytes old new = new ≡ less (length bytes) old
 LinkRoomAfter (write.Failed n) bytes old new = HasNoRoom (length bytes - n) new × (new ≡ less n old)
 LinkRoomAfter write.OutOfMemory bytes old new = new ≡ old
-
--- a write that failed has written no more than it was given
-abbrev pub IsInBytes : WriteTurn → List ℕ → Type 0
-IsInBytes write.Done bytes = ⊤
-IsInBytes (write.Failed n) bytes = n ≤ length bytes
-IsInBytes write.OutOfMemory bytes = ⊤
 
 -- how often a write failed
 abbrev pub write_failures : WriteTurn → ℕ

@@ -1,10 +1,10 @@
 -- What the calls over a stream do to its bytes, where the stream tells them.
 use Rattle.std.specs.Prelude.{ℕ, List, [], take, Option}
 use Rattle.std.specs.Io.KnownBytes.{Keeps, Appends, Consumes, IsAtEnd}
-use Rattle.fix_parts.specs.declared.link.ReadTurn.{ReadTurn}
-use Rattle.fix_parts.specs.declared.link.ReadTurn.TheVariants as read
-use Rattle.fix_parts.specs.declared.link.WriteTurn.{WriteTurn}
-use Rattle.fix_parts.specs.declared.link.WriteTurn.TheVariants as write
+use Rattle.fix_outside.specs.declared.connection.ReadTurn.{ReadTurn}
+use Rattle.fix_outside.specs.declared.connection.ReadTurn.TheVariants as read
+use Rattle.fix_outside.specs.declared.connection.WriteTurn.{WriteTurn}
+use Rattle.fix_outside.specs.declared.connection.WriteTurn.TheVariants as write
 
 -- a read waits for bytes, so it is never Idle, and it asks for no memory
 abbrev pub StreamGives : ReadTurn → List ℕ → Option (List ℕ) → Option (List ℕ) → Type 0

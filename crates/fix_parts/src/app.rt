@@ -1,33 +1,13 @@
+//! What an application answers to a session. `fix_rim` calls it to hand a message over, and to ask for a
+//! draft.
 ghost use Rattle.std.specs.Prelude.{option_map};
 ghost use Rattle.fix_fields.specs.Drafted.{draft_body};
-ghost use Rattle.fix_parts.specs.App.{AppSeen, AppTakes, AppAsks, HasKind};
+ghost use Rattle.fix_parts.specs.App.{AppSeen, AppTakes, AppAsks};
+ghost use Rattle.fix_outside.specs.Handing.{HasKind};
 
 use fix_base::Bytes;
 use fix_fields::Draft;
-
-/// An application message that is handed over.
-#[derive(Clone, Copy, Debug)]
-pub struct Handed<'a> {
-    /// MsgSeqNum (34).
-    pub number: u32,
-    /// PossDupFlag (43) is Y.
-    pub marked: bool,
-    /// MsgType (35).
-    pub kind: &'a [u8],
-    /// MsgType (35) and the fields that aren't the engine's, each with its SOH.
-    pub body: &'a [u8],
-}
-
-/// What a hand-over came to.
-#[derive(Clone, Copy, Debug, PartialEq, Eq)]
-pub enum Said {
-    /// The application has the message.
-    Taken,
-    /// The application failed: it may have the message or not.
-    Failed,
-    /// Memory was refused, and the application doesn't have the message.
-    OutOfMemory,
-}
+use fix_outside::{Handed, Said};
 
 /// A message that an application took.
 #[derive(Debug, PartialEq, Eq, Drop)]

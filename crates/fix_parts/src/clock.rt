@@ -1,3 +1,4 @@
+//! Where a session gets the time from. `fix_rim` reads it.
 ghost use Rattle.std.specs.Prelude.{ℕ, List, Option};
 ghost use Rattle.fix_base.specs.Parts.{ClockReads};
 

@@ -1,3 +1,4 @@
+//! Copies entries and records. `tape` calls this for the entries of one record.
 ghost use Rattle.std.specs.Prelude.{◌≡◌, ◌++◌, ◌∷◌, [], IfOk, OnOk};
 
 use fix_base::{Bytes, Entries, Entry, OutOfMemory, Record};

@@ -19,11 +19,12 @@ mod tape;
 #[cfg(test)]
 mod tests;
 
-pub use app::{App, Given, Handed, Said};
+pub use app::{App, Given};
 pub use clock::Clock;
 pub use copies::{copy_entries, copy_entry, copy_record};
+pub use fix_outside::{Handed, ReadTurn, Said, WriteTurn};
 pub use line_app::LineApp;
-pub use link::{Link, ReadTurn, WriteTurn};
+pub use link::Link;
 pub use memory_app::MemoryApp;
 pub use memory_clock::MemoryClock;
 pub use memory_link::MemoryLink;

@@ -1,3 +1,4 @@
+//! An application that shows what it takes as lines of text, and has no drafts. `fixacceptor` runs with it.
 ghost use Rattle.std.specs.Prelude.{◌≡◌, ◌++◌, ◌<◌, OnOk, None, option_map};
 ghost use Rattle.fix_fields.specs.Drafted.{draft_body};
 ghost use Rattle.fix_parts.specs.App.{AppTakes, AppAsks, line_of};
@@ -61,7 +62,8 @@ impl<S: Sink> App for LineApp<S> {
     }
 
     fn ask(&mut self) -> Option<Draft>
-        ensures asks { AppAsks (option_map draft_body result) (line_seen (S.sink self.old)) (line_seen (S.sink self.new)) }
+        ensures asks { AppAsks (option_map draft_body result) (line_seen (S.sink self.old))
+            (line_seen (S.sink self.new)) }
         ensures none { result ≡ None }
         ensures stays { self.new ≡ self.old }
     {
@@ -69,7 +71,7 @@ impl<S: Sink> App for LineApp<S> {
     }
 }
 
-// The line of the message, behind what is there.
+// The line of the message, after what is there.
 fn push_line(line: &mut Vec<u8>, h: &Handed<'_>) -> Result<(), AllocError>
     ensures { OnOk result (line.new.items ≡ line.old.items ++ line_of h.now) }
 {

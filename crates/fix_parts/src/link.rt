@@ -1,31 +1,8 @@
+//! How a session reads and writes. `fix_rim` calls it, and `fix_net` has one over TCP.
 ghost use Rattle.std.specs.Prelude.{◌<◌, length};
 ghost use Rattle.fix_parts.specs.Link.{LinkSeen, LinkReads, LinkWrites};
 
-/// What a read of a connection came to.
-#[derive(Clone, Copy, Debug, PartialEq, Eq)]
-pub enum ReadTurn {
-    /// So many bytes came: at least one.
-    Bytes(usize),
-    /// Nothing came yet.
-    Idle,
-    /// The other side ended the connection.
-    End,
-    /// The connection failed.
-    Failed,
-    /// Memory was refused, and nothing was read.
-    OutOfMemory,
-}
-
-/// What a write to a connection came to.
-#[derive(Clone, Copy, Debug, PartialEq, Eq)]
-pub enum WriteTurn {
-    /// All bytes went out.
-    Done,
-    /// The connection failed after so many of the bytes had gone out.
-    Failed(usize),
-    /// Memory was refused, and nothing went out.
-    OutOfMemory,
-}
+use fix_outside::{ReadTurn, WriteTurn};
 
 /// A connection.
 pub trait Link {

@@ -1,4 +1,6 @@
-ghost use Rattle.std.specs.Prelude.{◌≡◌, ◌≤◌, ◌++◌, map, drop, option_map, vec_len, vec_capacity, IfOk, OnOk, [], ◌∷◌, Some};
+//! An application for tests. Its drafts and its failures are told to it beforehand.
+ghost use Rattle.std.specs.Prelude.{◌≡◌, ◌≤◌, ◌++◌, map, drop, option_map, vec_len, vec_capacity, IfOk, OnOk, []};
+ghost use Rattle.std.specs.Prelude.{◌∷◌, Some};
 ghost use Rattle.fix_base.specs.Parts.{given_draft, Answers};
 ghost use Rattle.fix_fields.specs.Drafted.{draft_body};
 ghost use Rattle.fix_parts.specs.App.{drafts_in};
@@ -43,7 +45,16 @@ impl MemoryApp {
         capacity: usize,
         fail: Vec<u64>,
     ) -> Result<MemoryApp, OutOfMemory>
-        ensures seen { IfOk result (λ made. app_of made ≡ record { given = Some []; lines = None; room = None; asked = Some []; to_ask = Some (map (option_map draft_body) drafts.items); faults = 0 }) }
+        ensures seen { IfOk result
+            (λ made. app_of made
+            ≡ record {
+              given = Some [];
+              lines = None;
+              room = None;
+              asked = Some [];
+              to_ask = Some (map (option_map draft_body) drafts.items);
+              faults = 0;
+            }) }
         ensures script { IfOk result (λ made. app_script made ≡ script_from fail.items capacity) }
     {
         let copies = copies_of(alloc, drafts.as_slice())?;
@@ -118,7 +129,8 @@ impl App for MemoryApp {
     fn hand(&mut self, h: &Handed<'_>) -> Said
         ensures moves { AppTakes result h.now (app_of self.old) (app_of self.new) }
         ensures fails { (result ≡ Said.Failed) ↔ (FailsNext (app_script self.old) ⊎ (app_room self.old ≡ 0)) }
-        ensures script { app_script self.new ≡ record (app_script self.old) { calls = next_call (app_script self.old) } }
+        ensures script { app_script self.new
+            ≡ record (app_script self.old) { calls = next_call (app_script self.old) } }
     {
         if self.failing.strikes() {
             return Said::Failed;
@@ -150,8 +162,10 @@ impl App for MemoryApp {
 
 // The next answer, which leaves the list.
 fn next_draft(drafts: &mut VecDeque<Option<Draft>>) -> Option<Draft>
-    ensures answers { Answers (option_map draft_body result) (Some (map (option_map draft_body) drafts.old.items)) (Some (map (option_map draft_body) drafts.new.items)) }
-    ensures drafts { drafts_in (map (option_map draft_body) drafts.old.items) ≡ given_draft (option_map draft_body result) ++ drafts_in (map (option_map draft_body) drafts.new.items) }
+    ensures answers { Answers (option_map draft_body result) (Some (map (option_map draft_body) drafts.old.items))
+        (Some (map (option_map draft_body) drafts.new.items)) }
+    ensures drafts { drafts_in (map (option_map draft_body) drafts.old.items)
+        ≡ given_draft (option_map draft_body result) ++ drafts_in (map (option_map draft_body) drafts.new.items) }
 {
     match drafts.pop_front() {
         None => None,

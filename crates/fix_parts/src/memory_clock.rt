@@ -1,3 +1,4 @@
+//! A clock for tests and samples. Its readings are told to it beforehand.
 ghost use Rattle.std.specs.Prelude.{◌≡◌, ◌<◌, vec_len};
 
 use crate::Clock;

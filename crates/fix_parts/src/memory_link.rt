@@ -1,3 +1,4 @@
+//! A connection for tests and samples. What comes in and which calls fail are told to it beforehand.
 ghost use Rattle.std.specs.Prelude.{◌≡◌, ◌≤◌, vec_len, vec_capacity};
 
 use crate::{Link, ReadTurn, WriteTurn};
@@ -22,7 +23,8 @@ pub struct MemoryLink {
 
 impl MemoryLink {
     ghost use Rattle.std.specs.Prelude.{◌<◌, ◌≢◌, [], length, Some, IfOk};
-    ghost use Rattle.fix_parts.specs.Link.{IsInRoom, TakesPieces};
+    ghost use Rattle.fix_parts.specs.Link.{TakesPieces};
+    ghost use Rattle.fix_outside.specs.Connection.{IsInRoom};
     ghost use Rattle.fix_disk.specs.Script.{script_from, told_room};
     ghost use Rattle.fix_parts.specs.Memory.{pieces_of, link_of, link_script};
 
@@ -35,7 +37,14 @@ impl MemoryLink {
         capacity: usize,
         fail: Vec<u64>,
     ) -> Result<MemoryLink, OutOfMemory>
-        ensures seen { IfOk result (λ made. link_of made ≡ record { to_come = Some pieces.items; written = Some []; room = told_room fail.items capacity; faults = 0 }) }
+        ensures seen { IfOk result
+            (λ made. link_of made
+            ≡ record {
+              to_come = Some pieces.items;
+              written = Some [];
+              room = told_room fail.items capacity;
+              faults = 0;
+            }) }
         ensures script { IfOk result (λ made. link_script made ≡ script_from fail.items capacity) }
     {
         Ok(MemoryLink {
@@ -101,7 +110,8 @@ impl Link for MemoryLink {
         ensures moves { LinkReads result room.new (link_of self.old) (link_of self.new) }
         ensures fails { (result ≡ ReadTurn.Failed) ↔ FailsNext (link_script self.old) }
         ensures memory { result ≢ ReadTurn.OutOfMemory }
-        ensures script { link_script self.new ≡ record (link_script self.old) { calls = next_call (link_script self.old) } }
+        ensures script { link_script self.new
+            ≡ record (link_script self.old) { calls = next_call (link_script self.old) } }
     {
         if self.failing.strikes() {
             return ReadTurn::Failed;
@@ -111,9 +121,11 @@ impl Link for MemoryLink {
 
     fn write(&mut self, bytes: &[u8]) -> WriteTurn
         ensures moves { LinkWrites result bytes.now (link_of self.old) (link_of self.new) }
-        ensures fails { (result ≡ WriteTurn.Failed 0) ↔ (FailsNext (link_script self.old) ⊎ (link_room self.old < length bytes.now)) }
+        ensures fails { (result ≡ WriteTurn.Failed 0)
+            ↔ (FailsNext (link_script self.old) ⊎ (link_room self.old < length bytes.now)) }
         ensures answers { (result ≡ WriteTurn.Done) ⊎ (result ≡ WriteTurn.Failed 0) }
-        ensures script { link_script self.new ≡ record (link_script self.old) { calls = next_call (link_script self.old) } }
+        ensures script { link_script self.new
+            ≡ record (link_script self.old) { calls = next_call (link_script self.old) } }
     {
         if self.failing.strikes() {
             return WriteTurn::Failed(0);

@@ -1,3 +1,4 @@
+//! What a tape is asked to note. `fix_rim` makes one of these for each act, and a `KeptTape` copies it.
 use crate::Handed;
 use fix_base::Record;
 

@@ -1,3 +1,4 @@
+//! A connection over two streams. `fixacceptor` runs with the standard ones.
 ghost use Rattle.std.specs.Prelude.{◌<◌, length};
 ghost use Rattle.fix_parts.specs.Link.{LinkReads, LinkWrites};
 ghost use Rattle.fix_parts.specs.Streams.{StreamGives, StreamTakes};

@@ -1,5 +1,6 @@
+//! Reads from a stream of bytes. `stdio_link` calls this for each read.
 ghost use Rattle.std.specs.Prelude.{◌<◌, length};
-ghost use Rattle.fix_parts.specs.Link.{IsInRoom};
+ghost use Rattle.fix_outside.specs.Connection.{IsInRoom};
 ghost use Rattle.fix_parts.specs.Streams.{StreamGives};
 
 use crate::ReadTurn;

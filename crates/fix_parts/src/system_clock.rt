@@ -1,3 +1,4 @@
+//! A clock that asks the runtime for the time. `fixacceptor` runs with it.
 ghost use Rattle.std.specs.Prelude.{◌≡◌, ◌<◌, ◌^◌, ◌/◌, ◌≤◌, IfOk, OnErr};
 ghost use Rattle.std.specs.Duration.{as_nanos};
 

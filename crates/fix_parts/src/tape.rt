@@ -1,9 +1,13 @@
-ghost use Rattle.std.specs.Prelude.{◌≡◌, ◌<◌, ◌≤◌, ℕ, List, [], ◌∷◌, ◌++◌, length, Option, Some, None, IfOk, OnOk, vec_len, vec_capacity};
+//! The tape of acts: the trait, one that keeps nothing, and one that keeps copies. `fix_rim` makes room on
+//! it before each act, and notes the act after it.
+ghost use Rattle.std.specs.Prelude.{◌≡◌, ◌<◌, ◌≤◌, ℕ, List, [], ◌∷◌, ◌++◌, length, Option, Some, None, IfOk, OnOk};
+ghost use Rattle.std.specs.Prelude.{vec_len, vec_capacity};
 ghost use Rattle.std.proofs.Math.Nat.{le_trans};
 ghost use Rattle.fix_base.specs.declared.act.Act.{Act as TheAct};
 ghost use Rattle.fix_base.specs.declared.entry.Entry.{Entry as TheEntry};
-ghost use Rattle.fix_base.specs.Seen.{grown};
-ghost use Rattle.fix_parts.specs.Tape.{act_of, bytes_in, bytes_in_entry, bytes_in_record, entries_in, entries_in_record};
+ghost use Rattle.fix_base.specs.Trace.{grown};
+ghost use Rattle.fix_parts.specs.Tape.{act_of, bytes_in, bytes_in_entry, bytes_in_record, entries_in};
+ghost use Rattle.fix_parts.specs.Tape.{entries_in_record};
 
 use crate::Noted;
 use crate::copies::copy_entries;
@@ -13,7 +17,7 @@ use std::alloc::Global;
 use std::mem;
 
 /// Where the acts of an end are noted. Room for an act is made before the act is done, so that
-/// the note behind it can't fail.
+/// the note after it can't fail.
 pub trait Tape {
     /// The acts that were noted, where they are told.
     ghost told: { Self → Option (List TheAct) };
@@ -34,7 +38,8 @@ pub trait Tape {
         ensures noted { told self.new ≡ grown (told self.old) (act_of act.now ∷ []) };
 
     /// Room for an act is room for one with fewer bytes.
-    ghost less_room: { (t : Self) (m n : ℕ) (entries : List TheEntry) → m ≤ n → HasRoom t n entries → HasRoom t m entries };
+    ghost less_room: { (t : Self) (m n : ℕ) (entries : List TheEntry) → m ≤ n → HasRoom t n entries
+        → HasRoom t m entries };
 }
 
 /// A tape that keeps nothing.

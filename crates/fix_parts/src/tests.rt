@@ -1,3 +1,4 @@
+//! Connections, applications, clocks and tapes: what they answer, when they fail, and what they keep.
 use super::*;
 use fix_base::{Act, By, Bytes, Entries, Entry, OutOfMemory, Record};
 use fix_disk::{MemorySink, Sink, StreamSink};

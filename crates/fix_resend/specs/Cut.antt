@@ -1,6 +1,7 @@
 -- What answers a ResendRequest: repeats of the messages that come again, and gap fills over the rest
 -- (FIX, "Resend Request").
-use Rattle.std.specs.Prelude.{ℕ, suc, ◌+◌, ◌-◌, ◌==◌, ◌||◌, not, List, [], ◌∷◌, ◌++◌, slice_range, replicate, Bool, true, false}
+use Rattle.std.specs.Prelude.{ℕ, suc, ◌+◌, ◌-◌, ◌==◌, ◌||◌, not, List, [], ◌∷◌, ◌++◌, slice_range, replicate, Bool}
+use Rattle.std.specs.Prelude.{true, false}
 use Rattle.fix_base.specs.declared.entry.Entry.{Entry}
 use Rattle.fix_base.specs.declared.entry.Entry.TheVariants.{App, Admin}
 pub use Rattle.fix_resend.specs.declared.out.Out.{Out}
@@ -48,5 +49,7 @@ pub data BeginsAgain : List Bool → Type 0 where
 -- each message that comes again has one repeat, and each run of others, as long as it is, one gap fill
 pub data IsCut : ℕ → List Bool → List Out → Type 0 where
   nothing : (n : ℕ) → IsCut n [] []
-  repeat : {apps : List Bool} {outs : List Out} (n : ℕ) → IsCut (suc n) apps outs → IsCut n (true ∷ apps) (Repeat n ∷ outs)
-  gap : {apps : List Bool} {outs : List Out} (n more : ℕ) → BeginsAgain apps → IsCut (n + suc more) apps outs → IsCut n (replicate (suc more) false ++ apps) (Gap n (n + suc more) ∷ outs)
+  repeat : {apps : List Bool} {outs : List Out} (n : ℕ) → IsCut (suc n) apps outs
+      → IsCut n (true ∷ apps) (Repeat n ∷ outs)
+  gap : {apps : List Bool} {outs : List Out} (n more : ℕ) → BeginsAgain apps → IsCut (n + suc more) apps outs
+      → IsCut n (replicate (suc more) false ++ apps) (Gap n (n + suc more) ∷ outs)

@@ -1,8 +1,9 @@
 -- A walk over the numbers of a ResendRequest, one after another.
-use Rattle.std.specs.Prelude.{◌≡◌, ℕ, suc, ◌-◌, ◌≤◌, List, [], ◌∷◌, ◌++◌, length, nat_lt, replicate, Bool, false, if◌then◌else◌, Option, Some, None, option_to_list}
+use Rattle.std.specs.Prelude.{◌≡◌, ℕ, suc, ◌-◌, ◌≤◌, List, [], ◌∷◌, ◌++◌, length, nat_lt, replicate, Bool, false}
+use Rattle.std.specs.Prelude.{if◌then◌else◌, Option, Some, None, option_to_list}
 use Rattle.fix_resend.specs.Cut.{Out, Repeat, Gap, cut_from}
 
--- it stands at a number, or behind the last one. The numbers from `open` on before it are still to be passed over
+-- it stands at a number, or after the last one. The numbers from `open` on before it are still to be passed over
 pub record WalkSeen : Type 0 where
   pub open_from : ℕ
   pub at : ℕ
@@ -27,14 +28,16 @@ pub record Steps (old : WalkSeen) (app : Bool) (gives : Option Out × Option Out
   -- the repeat of this number, where its message comes again
   pub repeat : gives.1 ≡ (if app then Some (Repeat old.at) else None)
   -- what it gives and what is still to come are what was to come, however the numbers after it go on
-  pub rest : (apps : List Bool) → length apps ≡ old.to - old.at → rest_of old (app ∷ apps) ≡ given gives ++ rest_of new apps
-  -- behind the last number nothing is still to be passed over
+  pub rest : (apps : List Bool) → length apps ≡ old.to - old.at → rest_of old (app ∷ apps) ≡ given gives
+      ++ rest_of new apps
+  -- after the last number nothing is still to be passed over
   pub last : old.at ≡ old.to → new.open_from ≡ new.at
 
 -- a walk that is given these truth values, one a step, gives these
 pub data Walked : WalkSeen → List Bool → List Out → WalkSeen → Type 0 where
   stays : (w : WalkSeen) → Walked w [] [] w
-  goes : {w mid to : WalkSeen} {apps : List Bool} {outs : List Out} (app : Bool) (gives : Option Out × Option Out) → w.at ≤ w.to → Steps w app gives mid → Walked mid apps outs to → Walked w (app ∷ apps) (given gives ++ outs) to
+  goes : {w mid to : WalkSeen} {apps : List Bool} {outs : List Out} (app : Bool) (gives : Option Out × Option Out)
+      → w.at ≤ w.to → Steps w app gives mid → Walked mid apps outs to → Walked w (app ∷ apps) (given gives ++ outs) to
 
 -- the gap fill over the numbers from one up to another, if there are any
 abbrev pub gap_of : ℕ → ℕ → Option Out

@@ -15,12 +15,14 @@ pub fn a_resend_list_in_plain_words()
 /// The resend list of an end is that of the truth values of all its entries: whether each is a message of an
 /// application that isn't withheld.
 pub fn a_resend_list_is_of_truth_values()
-    ensures { (out : List Entry) (withheld : List ℕ) (a b : ℕ) → 1 ≤ a → resend_list out withheld a b ≡ cut_from a (slice_range (coming_again withheld 1 out) (a - 1) b) }
+    ensures { (out : List Entry) (withheld : List ℕ) (a b : ℕ) → 1 ≤ a → resend_list out withheld a b
+        ≡ cut_from a (slice_range (coming_again withheld 1 out) (a - 1) b) }
 {}
 
 /// A walk from one number to another that is given each number's truth value, in order, gives the resend list.
 pub fn a_walk_gives_the_resend_list()
-    ensures { (from to : ℕ) (apps : List Bool) (outs : List Out) (end : WalkSeen) → from ≤ to → length apps ≡ suc to - from → Walked (begun from to) apps outs end → (outs ≡ cut_from from apps) × (end.at ≡ suc to) }
+    ensures { (from to : ℕ) (apps : List Bool) (outs : List Out) (end : WalkSeen) → from ≤ to → length apps
+        ≡ suc to - from → Walked (begun from to) apps outs end → (outs ≡ cut_from from apps) × (end.at ≡ suc to) }
 {}
 
 /// What an end may send: each repeat is of a message that may come again, and each gap fill passes only over

@@ -1,3 +1,5 @@
+//! Builds the whole list that answers a ResendRequest. It takes a `Walk` from the first number to the last, and
+//! keeps what each step gives.
 ghost use Rattle.std.specs.Prelude.{◌≡◌, ◌-◌, ◌≤◌, ◌++◌, IfOk, length, slice_range, option_to_list};
 ghost use Rattle.fix_resend.specs.Cut.{cut_from};
 

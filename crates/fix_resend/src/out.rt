@@ -1,3 +1,5 @@
+//! The repeats and gap fills that answer a ResendRequest. `walk` gives them in order, and `list` collects them.
+
 /// What goes out for a part of a ResendRequest (35=2).
 #[derive(Clone, Copy, Debug, PartialEq, Eq)]
 pub enum Out {

@@ -1,4 +1,7 @@
-ghost use Rattle.std.specs.Prelude.{◌≡◌, ◌↔◌, ◌≢◌, ◌<◌, ◌≤◌, ℕ, IsTrue, IsSome, OnOk, OnErr, IfOk, IfErr, length, true, false};
+//! The place for frames that came too early: each stays here until its number is expected. It is bounded in
+//! frames and in bytes.
+ghost use Rattle.std.specs.Prelude.{◌≡◌, ◌↔◌, ◌≢◌, ◌<◌, ◌≤◌, ℕ, IsTrue, IsSome, OnOk, OnErr, IfOk, IfErr, length};
+ghost use Rattle.std.specs.Prelude.{true, false};
 ghost use Rattle.std.specs.FinMap as map;
 ghost use Rattle.fix_resend.specs.Waiting.{IsFull, IsBounded, Waiting, bytes_of, from_number, DropsBelow, StandsFrom};
 
@@ -13,8 +16,8 @@ const MOST_FRAMES: usize = 1024;
 /// The most bytes that the frames that wait have in all.
 const MOST_BYTES: usize = 16_777_216;
 
-/// Frames that came before the numbers that go before theirs: each waits under its MsgSeqNum (34). At most 1,024 wait,
-/// of at most 16,777,216 bytes in all. Contracts see it as the map from numbers to frames.
+/// Frames that came before the numbers that go before theirs: each waits under its MsgSeqNum (34). At most
+/// 1,024 wait, of at most 16,777,216 bytes in all. Contracts see it as the map from numbers to frames.
 #[derive(Drop)]
 pub struct Stash {
     frames: BTreeMap<u32, Bytes>,
@@ -62,7 +65,8 @@ impl Stash {
         ensures kept { result ≡ Ok true → self.new ≡ map.insert self.old n frame.now }
         ensures same { result ≢ Ok true → self.new ≡ self.old }
         ensures waits { (result ≡ Ok false) ↔ IsSome (map.get self.old n) }
-        ensures full { (result ≡ Err StashFault.Full) ↔ (map.get self.old n ≡ None) × IsFull self.old (length frame.now) }
+        ensures full { (result ≡ Err StashFault.Full) ↔ (map.get self.old n ≡ None)
+            × IsFull self.old (length frame.now) }
         ensures bounded { IsBounded self.new }
     {
         if self.waits(n) {
@@ -77,7 +81,8 @@ impl Stash {
         self.put(n, copy)
     }
 
-    /// The frame that waits under the number, which waits no longer. It costs the logarithm of the number of frames.
+    /// The frame that waits under the number, which waits no longer. It costs the logarithm of the number of
+    /// frames.
     pub fn take(&mut self, n: SeqNum) -> Option<Bytes>
         ensures frame { result ≡ map.get self.old n }
         ensures rest { self.new ≡ map.remove self.old n }
@@ -90,8 +95,8 @@ impl Stash {
         Some(frame)
     }
 
-    /// Drops the frames whose numbers are below this one. It costs what it drops, and the logarithm of the number of
-    /// frames for each.
+    /// Drops the frames whose numbers are below this one. It costs what it drops, and the logarithm of the
+    /// number of frames for each.
     pub fn drop_below(&mut self, n: u32)
         ensures rest { self.new ≡ from_number n self.old }
         ensures bounded { IsBounded self.new }

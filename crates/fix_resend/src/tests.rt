@@ -1,3 +1,5 @@
+//! What answers a ResendRequest, as a table, and a walk over the greatest number. Also when a stash is full, by
+//! frames and by bytes.
 use crate::{Out, Stash, StashFault, Walk, plan};
 use fix_base::SeqNum;
 use std::alloc::Global;

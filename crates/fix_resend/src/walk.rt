@@ -1,3 +1,4 @@
+//! Goes over the numbers of a ResendRequest in order, and says at each what goes out. `list` calls this.
 ghost use Rattle.std.specs.Prelude.{◌≡◌, ◌≤◌};
 ghost use Rattle.std.specs.Option.{SomeIff};
 ghost use Rattle.fix_resend.specs.Walks.{begun, Steps, gap_of};
@@ -54,7 +55,7 @@ impl Walk {
         }
     }
 
-    /// Goes on by one number. `app` says whether its message comes again. What goes out now: a gap fill, and behind
+    /// Goes on by one number. `app` says whether its message comes again. What goes out now: a gap fill, and after
     /// it the repeat of this number.
     pub fn step(&mut self, app: bool) -> (Option<Out>, Option<Out>)
         requires { self.old.at ≤ self.old.to }

@@ -1,2 +1,2 @@
-mod HeldLemmas
+mod SlotLemmas
 mod RimLemmas

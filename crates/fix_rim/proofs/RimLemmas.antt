@@ -6,26 +6,26 @@ use Rattle.fix_base.specs.declared.act.Act.TheVariants as act
 use Rattle.fix_base.specs.declared.entry.Entry.{Entry}
 use Rattle.fix_base.specs.End.{End, IsEntry}
 use Rattle.fix_base.specs.Payload.{HasPayload}
-use Rattle.fix_base.specs.Seen.{grown, Moves}
+use Rattle.fix_base.specs.Trace.{grown, Trace}
 use Rattle.fix_disk.specs.Disk.{DiskSeen}
-use Rattle.fix_parts.specs.declared.app.Said.TheVariants as said
-use Rattle.fix_parts.specs.declared.app.Handed.{Handed}
+use Rattle.fix_outside.specs.declared.handing.Said.TheVariants as said
+use Rattle.fix_outside.specs.declared.handing.Handed.{Handed}
 use Rattle.fix_parts.specs.Link.{LinkSeen}
 use Rattle.fix_parts.specs.App.{AppSeen, AppTakes}
 use Rattle.fix_store.specs.Store.{HoldsEnd}
 use Rattle.fix_store.specs.Rooms.{room_left}
-use Rattle.fix_rim.specs.declared.outside.FetchFault.{FetchFault}
-use Rattle.fix_rim.specs.declared.outside.FetchFault.TheVariants as fetch
-use Rattle.fix_rim.specs.declared.outside.Kind.{Kind}
-use Rattle.fix_rim.specs.declared.outside.Kind.TheVariants as kind
-use Rattle.fix_rim.specs.Outside.{hands, FetchAnswers}
-use Rattle.fix_rim.specs.Held.{FetchRoom, IsKindOf}
+use Rattle.fix_outside.specs.declared.outside.FetchFault.{FetchFault}
+use Rattle.fix_outside.specs.declared.outside.FetchFault.TheVariants as fetch
+use Rattle.fix_outside.specs.declared.outside.Kind.{Kind}
+use Rattle.fix_outside.specs.declared.outside.Kind.TheVariants as kind
+use Rattle.fix_outside.specs.Outside.{hands, FetchAnswers}
+use Rattle.fix_rim.specs.StoreSlot.{FetchRoom, IsKindOf}
 use Rattle.fix_rim.specs.Rim.{parts_of, seen_of}
 
-pub hand_failed : (told told' : Option (List Act)) (disk : DiskSeen) (open_at : Option ℕ) (link : LinkSeen) (readings : Option (List ℕ)) (old new : AppSeen) (h : Handed) → told' ≡ grown told (act.HandLost h.number h.marked h.body.now ∷ []) → AppTakes said.Failed h old new → Moves (seen_of told disk open_at link old readings) (seen_of told' disk open_at link new readings) (hands said.Failed h)
+pub hand_failed : (told told' : Option (List Act)) (disk : DiskSeen) (open_at : Option ℕ) (link : LinkSeen) (readings : Option (List ℕ)) (old new : AppSeen) (h : Handed) → told' ≡ grown told (act.HandLost h.number h.marked h.body.now ∷ []) → AppTakes said.Failed h old new → Trace (seen_of told disk open_at link old readings) (seen_of told' disk open_at link new readings) (hands said.Failed h)
 hand_failed told told' disk open_at link readings old new h tape t = record {
   tape = tape;
-  stored = record { kept = λ e held. (e, held, (Some e, refl, refl)); only = λ e held. (e, held, (Some e, refl, refl)) };
+  stored = record { kept = λ e contents. (e, contents, (Some e, refl, refl)); only = λ e contents. (e, contents, (Some e, refl, refl)) };
   file = record { told = (λ t. t, λ t. t); breaks = λ place. (λ t. t, λ t. t) };
   faults = record { store = omega arith; link = omega arith; app = t.faults };
   parts = (parts_of disk link new readings, (t.room.0, t.lines, λ i. record { to_come = link.to_come; readings = readings; written = link.written; link_room = link.room; lines = new.lines; line_room = t.room.1 i; asked = t.asked i; to_ask = t.to_ask i; store_room = room_left disk }), (parts_of disk link new readings, refl, refl));
@@ -38,13 +38,13 @@ fetched (Ok (kind.App time)) n body told old new open_at link app readings gives
     let by = gives.1.0 in
     record {
       payload = subst HasPayload gives.1.1 gives.2;
-      told = λ e held. (by, subst (IsEntry e.out n) gives.1.1 (gives.3 e held));
+      told = λ e contents. (by, subst (IsEntry e.out n) gives.1.1 (gives.3 e contents));
     }
 fetched (Ok kind.Admin) n body told old new open_at link app readings gives room =
     let is = gives.1 in
     record {
       none = is.0;
-      told = λ e held. record { time = is.1; kind = is.2; about = is.3; entry = subst (IsEntry e.out n) is.4 (gives.3 e held) };
+      told = λ e contents. record { time = is.1; kind = is.2; about = is.3; entry = subst (IsEntry e.out n) is.4 (gives.3 e contents) };
     }
 fetched (Err fetch.Failed) n body told old new open_at link app readings gives room = room
 fetched (Err fetch.OutOfMemory) n body told old new open_at link app readings gives room = tt

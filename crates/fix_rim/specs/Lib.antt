@@ -1,4 +1,3 @@
-pub mod Outside
-pub mod Plug
-pub mod Held
+pub mod OptionalLink
+pub mod StoreSlot
 pub mod Rim

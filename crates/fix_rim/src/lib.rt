@@ -2,12 +2,11 @@
 //! clock and the tape of acts.
 #![tactic(auto)]
 
-mod held;
-mod outside;
-mod plug;
+mod optional_link;
 mod reserving;
 mod rim;
-mod shelf;
+mod slot_contents;
+mod store_slot;
 
-pub use outside::{FetchFault, KeepFault, Kind, LoadFault, Outside};
+pub use fix_outside::{FetchFault, KeepFault, Kind, LoadFault, Outside};
 pub use rim::Rim;

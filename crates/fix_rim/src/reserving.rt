@@ -1,3 +1,4 @@
+//! Asks the tape for room before a read. `rim` calls this.
 ghost use Rattle.std.specs.Prelude.{◌≡◌, [], length, OnOk};
 
 use fix_base::OutOfMemory;

@@ -1,6 +1,8 @@
-use crate::plug::Plug;
+//! Carries out the calls of a session, each on the part that it is for. Room on the tape is made before an
+//! act, and the act is noted after it. `fix_engine` calls this as its Outside.
+use crate::optional_link::OptionalLink;
 use crate::reserving::reserve_read;
-use crate::shelf::Shelf;
+use crate::store_slot::StoreSlot;
 use crate::{FetchFault, KeepFault, Kind, LoadFault, Outside};
 use fix_base::{OutOfMemory, Record, SeqNum, Stored};
 use fix_disk::Disk;
@@ -12,8 +14,8 @@ use std::alloc::Global;
 /// a journal on the disk.
 #[derive(Drop)]
 pub struct Rim<D: Disk, L, A, C, T> {
-    shelf: Shelf<D>,
-    plug: Plug<L>,
+    slot: StoreSlot<D>,
+    optional_link: OptionalLink<L>,
     app: A,
     clock: C,
     tape: T,
@@ -42,8 +44,8 @@ impl<D: Disk, L: Link, A: App, C: Clock, T: Tape> Rim<D, L, A, C, T> {
         ensures tape { tape_in result ≡ tape }
     {
         Rim {
-            shelf: Shelf::new(alloc, disk),
-            plug: Plug::new(link),
+            slot: StoreSlot::new(alloc, disk),
+            optional_link: OptionalLink::new(link),
             app,
             clock,
             tape,
@@ -54,7 +56,7 @@ impl<D: Disk, L: Link, A: App, C: Clock, T: Tape> Rim<D, L, A, C, T> {
     pub fn link(&self) -> Option<&L>
         ensures { option_map (λ l. l.now) result ≡ link_in self.now }
     {
-        self.plug.link.as_ref()
+        self.optional_link.link.as_ref()
     }
 
     /// The parts, without what the store holds in memory.
@@ -66,8 +68,8 @@ impl<D: Disk, L: Link, A: App, C: Clock, T: Tape> Rim<D, L, A, C, T> {
         ensures tape { result.4 ≡ tape_in self }
     {
         (
-            self.shelf.into_disk(),
-            self.plug.link,
+            self.slot.into_disk(),
+            self.optional_link.link,
             self.app,
             self.clock,
             self.tape,
@@ -92,23 +94,35 @@ impl<D: Disk, L: Link, A: App, C: Clock, T: Tape> Rim<D, L, A, C, T> {
 impl<D: Disk, L: Link, A: App, C: Clock, T: Tape> Outside for Rim<D, L, A, C, T> {
     ghost use Rattle.std.specs.Prelude.{◌≡◌, ◌<◌, ◌∷◌, [], length, option_map, MatchResult, Err};
     ghost use Rattle.fix_base.specs.Payload.{IsKeepable};
-    ghost use Rattle.fix_base.specs.Seen.{Moves, Asked};
+    ghost use Rattle.fix_base.specs.Trace.{Trace, Asked};
     ghost use Rattle.fix_base.specs.Parts.{ClockReads};
     ghost use Rattle.fix_fields.specs.Drafted.{draft_body};
-    ghost use Rattle.fix_parts.specs.Link.{IsInRoom, IsInBytes, LinkReads, LinkWrites};
-    ghost use Rattle.fix_parts.specs.App.{AppTakes, AppAsks, HasKind};
-    ghost use Rattle.fix_rim.specs.declared.outside.KeepFault.TheVariants as TheKeepFault;
-    ghost use Rattle.fix_rim.specs.Outside.{marks, tells_time, reads, writes, keeps, hands, loads, fetches, HasPlace, HasEntry, open_kept, open_loaded, open_fetched, LoadAnswers, FetchAnswers};
-    ghost use Rattle.fix_rim.specs.Held.{seen_on, KeepLeft, LoadLeaves, LoadLasts};
-    ghost use Rattle.fix_rim.specs.Plug.{plug_of};
-    ghost use Rattle.fix_rim.specs.Rim.{seen_of, disk_seen, disk_in, tape_in, app_in, clock_in, with_clock_of, with_tape_of, with_link_of, with_store_of, with_app_of, with_app_alone_of};
+    ghost use Rattle.fix_parts.specs.Link.{LinkReads, LinkWrites};
+    ghost use Rattle.fix_outside.specs.Connection.{IsInRoom, IsInBytes};
+    ghost use Rattle.fix_parts.specs.App.{AppTakes, AppAsks};
+    ghost use Rattle.fix_outside.specs.Handing.{HasKind};
+    ghost use Rattle.fix_outside.specs.declared.outside.KeepFault.TheVariants as TheKeepFault;
+    ghost use Rattle.fix_outside.specs.Outside.{marks, tells_time, reads, writes, keeps, hands, loads, fetches};
+    ghost use Rattle.fix_outside.specs.Outside.{HasPlace, HasEntry, open_kept, open_loaded, open_fetched};
+    ghost use Rattle.fix_outside.specs.Outside.{LoadAnswers, FetchAnswers};
+    ghost use Rattle.fix_rim.specs.StoreSlot.{seen_on, KeepLeft, LoadLeaves, LoadLasts};
+    ghost use Rattle.fix_rim.specs.OptionalLink.{plug_of};
+    ghost use Rattle.fix_rim.specs.Rim.{seen_of, disk_seen, disk_in, tape_in, app_in, clock_in, with_clock_of};
+    ghost use Rattle.fix_rim.specs.Rim.{with_tape_of, with_link_of, with_store_of, with_app_of, with_app_alone_of};
 
-    ghost seen = { λ p. seen_of (T.told p.tape) (seen_on D.disk p.shelf.device) (p.shelf.open_at) (plug_of L.link p.plug) (A.app p.app) (C.readings p.clock) };
+    ghost seen = { λ p. seen_of (T.told p.tape) (seen_on D.disk p.slot.device) (p.slot.open_at)
+        (plug_of L.link p.optional_link) (A.app p.app) (C.readings p.clock) };
 
     fn now(&mut self) -> Result<u64, OutOfMemory>
-        ensures noted { Moves (seen_of (T.told self.old.tape) (seen_on D.disk self.old.shelf.device) self.old.shelf.open_at (plug_of L.link self.old.plug) (A.app self.old.app) (C.readings self.old.clock)) (seen_of (T.told self.new.tape) (seen_on D.disk self.new.shelf.device) self.new.shelf.open_at (plug_of L.link self.new.plug) (A.app self.new.app) (C.readings self.new.clock)) (tells_time result) }
-        ensures clock { MatchResult result (λ time. ClockReads time (C.readings (clock_in self.old)) (C.readings (clock_in self.new))) (λ e. clock_in self.new ≡ clock_in self.old) }
-        ensures opens { self.new.shelf.open_at ≡ self.old.shelf.open_at }
+        ensures noted { Trace (seen_of (T.told self.old.tape) (seen_on D.disk self.old.slot.device) self.old.slot.open_at
+            (plug_of L.link self.old.optional_link) (A.app self.old.app) (C.readings self.old.clock))
+            (seen_of (T.told self.new.tape) (seen_on D.disk self.new.slot.device) self.new.slot.open_at
+            (plug_of L.link self.new.optional_link) (A.app self.new.app) (C.readings self.new.clock))
+            (tells_time result) }
+        ensures clock { MatchResult result
+            (λ time. ClockReads time (C.readings (clock_in self.old)) (C.readings (clock_in self.new)))
+            (λ e. clock_in self.new ≡ clock_in self.old) }
+        ensures opens { self.new.slot.open_at ≡ self.old.slot.open_at }
         ensures others { self.new ≡ with_clock_of self.old self.new }
     {
         self.tape.reserve(&Noted::Now(0))?;
@@ -118,9 +132,14 @@ impl<D: Disk, L: Link, A: App, C: Clock, T: Tape> Outside for Rim<D, L, A, C, T>
     }
 
     fn load(&mut self) -> Result<Stored, LoadFault>
-        ensures noted { Moves (seen_of (T.told self.old.tape) (seen_on D.disk self.old.shelf.device) self.old.shelf.open_at (plug_of L.link self.old.plug) (A.app self.old.app) (C.readings self.old.clock)) (seen_of (T.told self.new.tape) (seen_on D.disk self.new.shelf.device) self.new.shelf.open_at (plug_of L.link self.new.plug) (A.app self.new.app) (C.readings self.new.clock)) (loads result) }
-        ensures answers { LoadAnswers result (seen_of (T.told self.old.tape) (seen_on D.disk self.old.shelf.device) self.old.shelf.open_at (plug_of L.link self.old.plug) (A.app self.old.app) (C.readings self.old.clock)) }
-        ensures opens { self.new.shelf.open_at ≡ open_loaded result }
+        ensures noted { Trace (seen_of (T.told self.old.tape) (seen_on D.disk self.old.slot.device) self.old.slot.open_at
+            (plug_of L.link self.old.optional_link) (A.app self.old.app) (C.readings self.old.clock))
+            (seen_of (T.told self.new.tape) (seen_on D.disk self.new.slot.device) self.new.slot.open_at
+            (plug_of L.link self.new.optional_link) (A.app self.new.app) (C.readings self.new.clock)) (loads result) }
+        ensures answers { LoadAnswers result
+            (seen_of (T.told self.old.tape) (seen_on D.disk self.old.slot.device) self.old.slot.open_at
+            (plug_of L.link self.old.optional_link) (A.app self.old.app) (C.readings self.old.clock)) }
+        ensures opens { self.new.slot.open_at ≡ open_loaded result }
         // A crash at any moment of it leaves the end that was on the disk, or one of two where one of these was
         // on it; at Ok it is the one that is told.
         ensures leaves { LoadLeaves (disk_seen D.disk self.old) (disk_seen D.disk self.new) }
@@ -130,11 +149,11 @@ impl<D: Disk, L: Link, A: App, C: Clock, T: Tape> Outside for Rim<D, L, A, C, T>
         match self.tape.reserve(&Noted::Stop) {
             Ok(()) => {}
             Err(_) => {
-                self.shelf.close();
+                self.slot.close();
                 return Err(LoadFault::OutOfMemory);
             }
         }
-        match self.shelf.load() {
+        match self.slot.load() {
             Ok(stored) => {
                 self.tape.note(&Noted::Stop);
                 Ok(stored)
@@ -144,8 +163,12 @@ impl<D: Disk, L: Link, A: App, C: Clock, T: Tape> Outside for Rim<D, L, A, C, T>
     }
 
     fn mark(&mut self, cut: bool) -> Result<(), OutOfMemory>
-        ensures noted { Moves (seen_of (T.told self.old.tape) (seen_on D.disk self.old.shelf.device) self.old.shelf.open_at (plug_of L.link self.old.plug) (A.app self.old.app) (C.readings self.old.clock)) (seen_of (T.told self.new.tape) (seen_on D.disk self.new.shelf.device) self.new.shelf.open_at (plug_of L.link self.new.plug) (A.app self.new.app) (C.readings self.new.clock)) (marks cut result) }
-        ensures opens { self.new.shelf.open_at ≡ self.old.shelf.open_at }
+        ensures noted { Trace (seen_of (T.told self.old.tape) (seen_on D.disk self.old.slot.device) self.old.slot.open_at
+            (plug_of L.link self.old.optional_link) (A.app self.old.app) (C.readings self.old.clock))
+            (seen_of (T.told self.new.tape) (seen_on D.disk self.new.slot.device) self.new.slot.open_at
+            (plug_of L.link self.new.optional_link) (A.app self.new.app) (C.readings self.new.clock))
+            (marks cut result) }
+        ensures opens { self.new.slot.open_at ≡ self.old.slot.open_at }
         ensures others { self.new ≡ with_tape_of self.old self.new }
     {
         self.tape.reserve(&Noted::Opened)?;
@@ -159,16 +182,21 @@ impl<D: Disk, L: Link, A: App, C: Clock, T: Tape> Outside for Rim<D, L, A, C, T>
 
     fn read(&mut self, room: &mut [u8]) -> ReadTurn
         requires { 0 < length room.old }
-        ensures noted { Moves (seen_of (T.told self.old.tape) (seen_on D.disk self.old.shelf.device) self.old.shelf.open_at (plug_of L.link self.old.plug) (A.app self.old.app) (C.readings self.old.clock)) (seen_of (T.told self.new.tape) (seen_on D.disk self.new.shelf.device) self.new.shelf.open_at (plug_of L.link self.new.plug) (A.app self.new.app) (C.readings self.new.clock)) (reads result room.new) }
+        ensures noted { Trace (seen_of (T.told self.old.tape) (seen_on D.disk self.old.slot.device) self.old.slot.open_at
+            (plug_of L.link self.old.optional_link) (A.app self.old.app) (C.readings self.old.clock))
+            (seen_of (T.told self.new.tape) (seen_on D.disk self.new.slot.device) self.new.slot.open_at
+            (plug_of L.link self.new.optional_link) (A.app self.new.app) (C.readings self.new.clock))
+            (reads result room.new) }
         ensures in_room { IsInRoom result room.new }
-        ensures link { LinkReads result room.new (plug_of L.link self.old.plug) (plug_of L.link self.new.plug) }
-        ensures opens { self.new.shelf.open_at ≡ self.old.shelf.open_at }
+        ensures link { LinkReads result room.new (plug_of L.link self.old.optional_link)
+            (plug_of L.link self.new.optional_link) }
+        ensures opens { self.new.slot.open_at ≡ self.old.slot.open_at }
         ensures others { self.new ≡ with_link_of self.old self.new }
     {
         if reserve_read(&mut self.tape, room).is_err() {
             return ReadTurn::OutOfMemory;
         }
-        match self.plug.read(room) {
+        match self.optional_link.read(room) {
             ReadTurn::Bytes(n) => {
                 self.tape.note(&Noted::Read(&room[..n]));
                 ReadTurn::Bytes(n)
@@ -187,16 +215,21 @@ impl<D: Disk, L: Link, A: App, C: Clock, T: Tape> Outside for Rim<D, L, A, C, T>
     }
 
     fn write(&mut self, bytes: &[u8]) -> WriteTurn
-        ensures noted { Moves (seen_of (T.told self.old.tape) (seen_on D.disk self.old.shelf.device) self.old.shelf.open_at (plug_of L.link self.old.plug) (A.app self.old.app) (C.readings self.old.clock)) (seen_of (T.told self.new.tape) (seen_on D.disk self.new.shelf.device) self.new.shelf.open_at (plug_of L.link self.new.plug) (A.app self.new.app) (C.readings self.new.clock)) (writes result bytes.now) }
+        ensures noted { Trace (seen_of (T.told self.old.tape) (seen_on D.disk self.old.slot.device) self.old.slot.open_at
+            (plug_of L.link self.old.optional_link) (A.app self.old.app) (C.readings self.old.clock))
+            (seen_of (T.told self.new.tape) (seen_on D.disk self.new.slot.device) self.new.slot.open_at
+            (plug_of L.link self.new.optional_link) (A.app self.new.app) (C.readings self.new.clock))
+            (writes result bytes.now) }
         ensures in_bytes { IsInBytes result bytes.now }
-        ensures link { LinkWrites result bytes.now (plug_of L.link self.old.plug) (plug_of L.link self.new.plug) }
-        ensures opens { self.new.shelf.open_at ≡ self.old.shelf.open_at }
+        ensures link { LinkWrites result bytes.now (plug_of L.link self.old.optional_link)
+            (plug_of L.link self.new.optional_link) }
+        ensures opens { self.new.slot.open_at ≡ self.old.slot.open_at }
         ensures others { self.new ≡ with_link_of self.old self.new }
     {
         if self.tape.reserve(&Noted::Wrote(bytes)).is_err() {
             return WriteTurn::OutOfMemory;
         }
-        match self.plug.write(bytes) {
+        match self.optional_link.write(bytes) {
             WriteTurn::Done => {
                 self.tape.note(&Noted::Wrote(bytes));
                 WriteTurn::Done
@@ -211,9 +244,13 @@ impl<D: Disk, L: Link, A: App, C: Clock, T: Tape> Outside for Rim<D, L, A, C, T>
 
     fn keep(&mut self, kept: &Record) -> Result<(), KeepFault>
         requires payload { IsKeepable kept.now }
-        requires place { HasPlace kept.now self.old.shelf.open_at }
-        ensures noted { Moves (seen_of (T.told self.old.tape) (seen_on D.disk self.old.shelf.device) self.old.shelf.open_at (plug_of L.link self.old.plug) (A.app self.old.app) (C.readings self.old.clock)) (seen_of (T.told self.new.tape) (seen_on D.disk self.new.shelf.device) self.new.shelf.open_at (plug_of L.link self.new.plug) (A.app self.new.app) (C.readings self.new.clock)) (keeps result kept.now) }
-        ensures opens { self.new.shelf.open_at ≡ open_kept result kept.now self.old.shelf.open_at }
+        requires place { HasPlace kept.now self.old.slot.open_at }
+        ensures noted { Trace (seen_of (T.told self.old.tape) (seen_on D.disk self.old.slot.device) self.old.slot.open_at
+            (plug_of L.link self.old.optional_link) (A.app self.old.app) (C.readings self.old.clock))
+            (seen_of (T.told self.new.tape) (seen_on D.disk self.new.slot.device) self.new.slot.open_at
+            (plug_of L.link self.new.optional_link) (A.app self.new.app) (C.readings self.new.clock))
+            (keeps result kept.now) }
+        ensures opens { self.new.slot.open_at ≡ open_kept result kept.now self.old.slot.open_at }
         // A crash at any moment of it leaves the end from before, or with the record, and at Ok the latter.
         ensures leaves { KeepLeft result kept.now (disk_seen D.disk self.old) (disk_seen D.disk self.new) }
         ensures none { result ≡ Err TheKeepFault.OutOfMemory → disk_in self.new ≡ disk_in self.old }
@@ -222,7 +259,7 @@ impl<D: Disk, L: Link, A: App, C: Clock, T: Tape> Outside for Rim<D, L, A, C, T>
         if self.tape.reserve(&Noted::Kept(kept)).is_err() {
             return Err(KeepFault::OutOfMemory);
         }
-        match self.shelf.keep(kept) {
+        match self.slot.keep(kept) {
             Ok(()) => {
                 self.tape.note(&Noted::Kept(kept));
                 Ok(())
@@ -236,21 +273,30 @@ impl<D: Disk, L: Link, A: App, C: Clock, T: Tape> Outside for Rim<D, L, A, C, T>
     }
 
     fn fetch(&mut self, n: SeqNum, into: &mut Vec<u8>) -> Result<Kind, FetchFault>
-        requires { HasEntry n self.old.shelf.open_at }
-        ensures noted { Moves (seen_of (T.told self.old.tape) (seen_on D.disk self.old.shelf.device) self.old.shelf.open_at (plug_of L.link self.old.plug) (A.app self.old.app) (C.readings self.old.clock)) (seen_of (T.told self.new.tape) (seen_on D.disk self.new.shelf.device) self.new.shelf.open_at (plug_of L.link self.new.plug) (A.app self.new.app) (C.readings self.new.clock)) (fetches result) }
-        ensures answers { FetchAnswers result n into.new.items (seen_of (T.told self.old.tape) (seen_on D.disk self.old.shelf.device) self.old.shelf.open_at (plug_of L.link self.old.plug) (A.app self.old.app) (C.readings self.old.clock)) }
-        ensures opens { self.new.shelf.open_at ≡ open_fetched result self.old.shelf.open_at }
+        requires { HasEntry n self.old.slot.open_at }
+        ensures noted { Trace (seen_of (T.told self.old.tape) (seen_on D.disk self.old.slot.device) self.old.slot.open_at
+            (plug_of L.link self.old.optional_link) (A.app self.old.app) (C.readings self.old.clock))
+            (seen_of (T.told self.new.tape) (seen_on D.disk self.new.slot.device) self.new.slot.open_at
+            (plug_of L.link self.new.optional_link) (A.app self.new.app) (C.readings self.new.clock)) (fetches result) }
+        ensures answers { FetchAnswers result n into.new.items
+            (seen_of (T.told self.old.tape) (seen_on D.disk self.old.slot.device) self.old.slot.open_at
+            (plug_of L.link self.old.optional_link) (A.app self.old.app) (C.readings self.old.clock)) }
+        ensures opens { self.new.slot.open_at ≡ open_fetched result self.old.slot.open_at }
         ensures others { self.new ≡ with_store_of self.old self.new }
         ensures tape { tape_in self.new ≡ tape_in self.old }
     {
-        self.shelf.fetch(n, into)
+        self.slot.fetch(n, into)
     }
 
     fn hand(&mut self, h: &Handed<'_>) -> Said
         requires { HasKind h.now }
-        ensures noted { Moves (seen_of (T.told self.old.tape) (seen_on D.disk self.old.shelf.device) self.old.shelf.open_at (plug_of L.link self.old.plug) (A.app self.old.app) (C.readings self.old.clock)) (seen_of (T.told self.new.tape) (seen_on D.disk self.new.shelf.device) self.new.shelf.open_at (plug_of L.link self.new.plug) (A.app self.new.app) (C.readings self.new.clock)) (hands result h.now) }
+        ensures noted { Trace (seen_of (T.told self.old.tape) (seen_on D.disk self.old.slot.device) self.old.slot.open_at
+            (plug_of L.link self.old.optional_link) (A.app self.old.app) (C.readings self.old.clock))
+            (seen_of (T.told self.new.tape) (seen_on D.disk self.new.slot.device) self.new.slot.open_at
+            (plug_of L.link self.new.optional_link) (A.app self.new.app) (C.readings self.new.clock))
+            (hands result h.now) }
         ensures app { AppTakes result h.now (A.app (app_in self.old)) (A.app (app_in self.new)) }
-        ensures opens { self.new.shelf.open_at ≡ self.old.shelf.open_at }
+        ensures opens { self.new.slot.open_at ≡ self.old.slot.open_at }
         ensures others { self.new ≡ with_app_of self.old self.new }
     {
         if self.tape.reserve(&Noted::Handed(h)).is_err() {
@@ -270,8 +316,12 @@ impl<D: Disk, L: Link, A: App, C: Clock, T: Tape> Outside for Rim<D, L, A, C, T>
     }
 
     fn ask(&mut self) -> Option<Draft>
-        ensures noted { Moves (seen_of (T.told self.old.tape) (seen_on D.disk self.old.shelf.device) self.old.shelf.open_at (plug_of L.link self.old.plug) (A.app self.old.app) (C.readings self.old.clock)) (seen_of (T.told self.new.tape) (seen_on D.disk self.new.shelf.device) self.new.shelf.open_at (plug_of L.link self.new.plug) (A.app self.new.app) (C.readings self.new.clock)) (Asked (option_map draft_body result) ∷ []) }
-        ensures opens { self.new.shelf.open_at ≡ self.old.shelf.open_at }
+        ensures noted { Trace (seen_of (T.told self.old.tape) (seen_on D.disk self.old.slot.device) self.old.slot.open_at
+            (plug_of L.link self.old.optional_link) (A.app self.old.app) (C.readings self.old.clock))
+            (seen_of (T.told self.new.tape) (seen_on D.disk self.new.slot.device) self.new.slot.open_at
+            (plug_of L.link self.new.optional_link) (A.app self.new.app) (C.readings self.new.clock))
+            (Asked (option_map draft_body result) ∷ []) }
+        ensures opens { self.new.slot.open_at ≡ self.old.slot.open_at }
         ensures app { AppAsks (option_map draft_body result) (A.app (app_in self.old)) (A.app (app_in self.new)) }
         ensures others { self.new ≡ with_app_alone_of self.old self.new }
     {

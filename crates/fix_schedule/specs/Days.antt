@@ -28,6 +28,6 @@ pub record IsLastDay (hours : Hours) (day last : ℤ) : Type 0 where
   pub may : MayEnd hours day last
   pub first : (sooner : ℤ) → sooner <ℤ last → MayEnd hours day sooner → ⊥
 
--- it is so many days behind each day that counts
+-- it is so many days after each day that counts
 abbrev pub EndsAfter : Hours → ℕ → Type 0
 EndsAfter hours days = (day : ℤ) → Counts hours day → IsLastDay hours day (day +ℤ pos days)

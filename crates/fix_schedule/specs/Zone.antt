@@ -13,7 +13,8 @@ use Rattle.jiff_tz.specs.declared.ambiguous.AmbiguousOffset.{AmbiguousOffset}
 use Rattle.jiff_tz.specs.declared.ambiguous.AmbiguousOffset.TheVariants.{Unambiguous, Gap, Fold}
 use Rattle.jiff_tz.specs.declared.posix.TimeZone.{TimeZone as Rule}
 
--- the offsets of a civil time by a zone's rule: one, or the two beside a gap or a fold. With no rule the clock is UTC
+-- the offsets of a civil time by a zone's rule: one, or the two beside a gap or a fold. With no rule the
+-- clock is UTC
 abbrev pub offsets_in : Option Rule → DateTime → AmbiguousOffset
 offsets_in None civil = Unambiguous utc_offset
 offsets_in (Some rule) civil = PosixRule.ambiguous_at rule civil
@@ -27,14 +28,14 @@ abbrev pub gap_length : Offset → Offset → ℤ
 gap_length before after = nanos_of_seconds after.seconds -ℤ nanos_of_seconds before.seconds
 
 -- the instant of a civil time. In a gap it is moved forward by the gap's length, to where the clock
--- behind the gap shows it; in a fold the earlier of its two instants counts
+-- after the gap shows it; in a fold the earlier of its two instants counts
 abbrev pub instant_by : AmbiguousOffset → ℤ → ℤ
 instant_by (Unambiguous offset) nanos = shown_at offset nanos
 instant_by (Gap before after) nanos = shown_at after (nanos +ℤ gap_length before after)
 instant_by (Fold before after) nanos = int_min (shown_at before nanos) (shown_at after nanos)
 
 -- the instant, in microseconds since 1970-01-01 00:00:00 UTC, of a civil day, by its number from
--- 1970-01-01, at so many seconds behind midnight
+-- 1970-01-01, at so many seconds after midnight
 pub record IsInstant (rule : Option Rule) (day : ℤ) (second : ℕ) (instant : ℤ) : Type 0 where
   pub civil : DateTime
   pub on_day : epoch_day civil.date ≡ day

@@ -21,9 +21,9 @@ pub struct Week {
 pub struct Hours {
     /// ZoneRule, by whose clock the times are meant; None for UTC.
     pub rule: Option<posix::TimeZone>,
-    /// StartTime, in seconds behind midnight.
+    /// StartTime, in seconds after midnight.
     pub start_time: u32,
-    /// EndTime, in seconds behind midnight.
+    /// EndTime, in seconds after midnight.
     pub end_time: u32,
     /// StartDay and EndDay; None where a window starts on each day.
     pub week: Option<Week>,

@@ -8,7 +8,7 @@ use jiff_core::civil::{Date, DateTime, Time};
 use jiff_tz::{AmbiguousOffset, AmbiguousTimestamp, Disambiguation, posix};
 
 /// The instant, in microseconds since 1970-01-01 00:00:00 UTC, at which a zone's clock shows this
-/// many seconds behind the midnight that begins a civil day. A time that the clock jumps over is
+/// many seconds after the midnight that begins a civil day. A time that the clock jumps over is
 /// moved forward by the jump's length; of two instants the earlier counts.
 pub fn instant_of(rule: &Option<posix::TimeZone>, day: i64, second: u32) -> i64
     requires day_in { IsBetween (neg_ℤ (pos 100)) (pos 50000) day }

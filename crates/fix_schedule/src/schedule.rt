@@ -1,6 +1,8 @@
+//! The calls of this crate, for who asks whether a session may be connected. `Schedule::window` runs the stage
+//! `search`.
 ghost use Rattle.std.specs.Prelude.{◌≡◌, ℕ, ◌≤◌, ◌↔◌, IsTrue, IsOk, IfOk, IfErr, IfSome, IsNone, Some, option_map};
 ghost use Rattle.fix_base.specs.Payload.{LAST_TIME};
-ghost use Rattle.fix_settings.specs.Lawful.{IsLawful};
+ghost use Rattle.fix_settings.specs.Lawful.{AreValid};
 ghost use Rattle.fix_schedule.specs.Read.{IsScheduleOf, IsNoRule, IsRuleOf};
 ghost use Rattle.fix_schedule.specs.Window.{IsWindow, HasNoWindow, AreInOne};
 
@@ -33,7 +35,7 @@ impl Schedule {
     /// comes just where ZoneRule is no rule as POSIX writes it, also where there is no StartTime.
     /// It takes no memory, so OutOfMemory doesn't come.
     pub fn read(settings: &SessionSettings) -> Result<Schedule, ScheduleFault>
-        requires { IsLawful settings.now }
+        requires { AreValid settings.now }
         ensures succeeds { IsOk result ↔ (IsNoRule settings.now.zone_rule → ⊥) }
         ensures ok { IfOk result (λ schedule. IsScheduleOf settings.now schedule) }
         ensures err { IfErr result (λ fault. fault ≡ ScheduleFault.BadRule) }
@@ -100,7 +102,7 @@ fn rule_in(text: &Option<Bytes>) -> Result<Option<posix::TimeZone>, ScheduleFaul
 
 // StartDay and EndDay, which stand beside each other.
 fn week_in(settings: &SessionSettings) -> Option<Week>
-    requires { IsLawful settings.now }
+    requires { AreValid settings.now }
     ensures start { settings.now.start_day ≡ option_map (λ week. week.start_day) result }
     ensures end { settings.now.end_day ≡ option_map (λ week. week.end_day) result }
 {

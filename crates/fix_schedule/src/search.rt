@@ -12,7 +12,7 @@ use jiff_core::civil::Date;
 const MICROS_OF_DAY: u64 = 86_400_000_000;
 
 /// The window of a time: that of the latest civil day that has one in which the time lies. A zone's
-/// clock is less than 26 hours from UTC, so such a day is at most two behind the time's day in
+/// clock is less than 26 hours from UTC, so such a day is at most two after the time's day in
 /// UTC, and the window's last day at most two before it.
 pub fn window_of(hours: &Hours, time: u64) -> Option<(u64, u64)>
     requires { time ≤ LAST_TIME }
@@ -72,7 +72,7 @@ fn counts(hours: &Hours, day: i64) -> bool
     }
 }
 
-// How many days behind the day on which it starts a window ends.
+// How many days after the day on which it starts a window ends.
 fn days_behind(hours: &Hours) -> u32
     ensures ends { EndsAfter hours.now result }
     ensures bound { result ≤ 7 }

@@ -1,3 +1,4 @@
+//! That times have their windows, also where the clock changes, and that a text that is no rule is refused.
 use super::*;
 use fix_settings::Settings;
 use std::alloc::Global;

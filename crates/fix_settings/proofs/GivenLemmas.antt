@@ -16,9 +16,9 @@ use Rattle.fix_settings.specs.declared.session_settings.SessionSettings.{Session
 use Rattle.fix_settings.specs.Lines.{Pair, Section, read_lines, defaults_of, sections_of}
 use Rattle.fix_settings.specs.Forms.{Value, Version, Text, version_in, text_if}
 use Rattle.fix_settings.specs.Table.{rule_of, setting_of}
-use Rattle.fix_settings.specs.Reading.{first_some, value_from, pair_for, section_refusal, text_for, party_of, same_refusal, count_refusal, sections_refusal, line_refusal, IsSession, AreSessions}
+use Rattle.fix_settings.specs.Reading.{first_some, value_from, pair_for, section_refusal, text_for, endpoints_of, same_refusal, count_refusal, sections_refusal, line_refusal, IsSession, AreSessions}
 use Rattle.fix_settings.specs.Read.{AreSettingsOf}
-use Rattle.fix_settings.specs.Again.{IsPrintable, ArePrintable, ReadsBack, party_for}
+use Rattle.fix_settings.specs.Again.{IsPrintable, ArePrintable, ReadsBack, endpoints_for}
 use Rattle.fix_settings.proofs.ReadLemmas.{or_left, or_right}
 use Rattle.fix_settings.proofs.PairLemmas.{IfPair, SectionHas, both_have, defaults_have, sections_have, for_has, ignored_has}
 use Rattle.fix_settings.proofs.KeptLemmas.{NoLf, PairKept, read_kept}
@@ -103,7 +103,7 @@ target_written : (o : Option Pair) (t : List ℕ) → value_from (rule_of key.Ta
 target_written None t h = cc
 target_written (Some p) t h = text_said (is_comp_id p.value) p.value t h
 
-parties_given : (defaults : List Pair) (sections : List Section) (sessions : List SessionSettings) → AreSessions defaults sections sessions → SameParties (map party_for sessions) (map (party_of defaults) sections)
+parties_given : (defaults : List Pair) (sections : List Section) (sessions : List SessionSettings) → AreSessions defaults sections sessions → SameParties (map endpoints_for sessions) (map (endpoints_of defaults) sections)
 parties_given defaults [] [] are = end
 parties_given defaults [] (s ∷ ss) are = cc
 parties_given defaults (x ∷ xs) [] are = absurd are
@@ -125,7 +125,7 @@ given_printable text sessions is =
     let of = defaults_of (read_lines text) in
     let sections = sections_of (read_lines text) in
     let first = first_some (section_refusal of) sections in
-    let same = same_refusal [] (map (party_of of) sections) in
+    let same = same_refusal [] (map (endpoints_of of) sections) in
     let behind : sections_refusal of sections ≡ None = or_right (line_refusal false lines) (sections_refusal of sections) is.right in
     let count : count_refusal sections ≡ None = or_left (count_refusal sections) (option_or first same) behind in
     let distinct : same ≡ None = or_right first same (or_right (count_refusal sections) (option_or first same) behind) in

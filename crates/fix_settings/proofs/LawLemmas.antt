@@ -14,10 +14,10 @@ use Rattle.fix_settings.specs.declared.session_settings.SessionSettings.{Session
 use Rattle.fix_settings.specs.Lines.{Pair, Line, Section, read_lines, defaults_of, sections_of}
 use Rattle.fix_settings.specs.Forms.{Value, value_in, value_text}
 use Rattle.fix_settings.specs.Table.{Rule, rule_of, name_of, setting_of}
-use Rattle.fix_settings.specs.Reading.{first_some, value_from, pair_for, is_right, refused, key_refusal, section_refusal, line_refusal, text_for, Party, party_of, is_same, same_refusal, count_refusal, sections_refusal, lines_refusal, IsSession, AreSessions, AreInOrder, ignored_of}
-use Rattle.fix_settings.specs.Lawful.{IsAllowed, IsLawful}
+use Rattle.fix_settings.specs.Reading.{first_some, value_from, pair_for, is_right, refused, key_refusal, section_refusal, line_refusal, text_for, Endpoints, endpoints_of, is_same, same_refusal, count_refusal, sections_refusal, lines_refusal, IsSession, AreSessions, AreInOrder, ignored_of}
+use Rattle.fix_settings.specs.Lawful.{IsAllowed, AreValid}
 use Rattle.fix_settings.specs.Printing.{settings_text}
-use Rattle.fix_settings.specs.Again.{IsPrintable, ArePrintable, IsAgain, AreAgain, ReadsBack, party_for}
+use Rattle.fix_settings.specs.Again.{IsPrintable, ArePrintable, IsAgain, AreAgain, ReadsBack, endpoints_for}
 use Rattle.fix_settings.proofs.PrintedLemmas.{printed_utf8}
 use Rattle.fix_settings.proofs.AgainLemmas.{Written, done, skip, pair}
 use Rattle.fix_settings.proofs.BackLemmas.{PrintedLines, PrintedSections, none, more, printed, no_defaults, sections_printed, no_line_refusal, pair_printed, has_key, text_in, text_of}
@@ -28,17 +28,17 @@ ap2 f p q = λ i. f (p i) (q i)
 -- ---- one session
 
 -- a pair with the value's text says the value
-value_back : (rule : Rule) (o : Option Pair) (w : Option Value) → text_in o ≡ text_of w → (w ≡ None → rule.standard ≡ None) → ((v : Value) → w ≡ Some v → value_in rule.form (value_text v) ≡ Some v) → value_from rule o ≡ w
+value_back : (rule : Rule) (o : Option Pair) (w : Option Value) → text_in o ≡ text_of w → (w ≡ None → rule.default ≡ None) → ((v : Value) → w ≡ Some v → value_in rule.form (value_text v) ≡ Some v) → value_from rule o ≡ w
 value_back rule None None e std says = std refl
 value_back rule None (Some v) e std says = cc
 value_back rule (Some p) None e std says = cc
 value_back rule (Some p) (Some v) e std says = let t : p.value ≡ value_text v = cc in ap (value_in rule.form) t ∙ says v refl
 
-unset_standard : (rule : Rule) (w : Option Value) → IsAllowed rule w → w ≡ None → (rule.required ≡ false) × (rule.standard ≡ None)
+unset_standard : (rule : Rule) (w : Option Value) → IsAllowed rule w → w ≡ None → (rule.required ≡ false) × (rule.default ≡ None)
 unset_standard rule None a e = a
 unset_standard rule (Some v) a e = cc
 
-pub value_again : (s : SessionSettings) (ps : List Pair) (k : Key) → IsPrintable s → IsLawful s → Written s KEYS ps → value_from (rule_of k) (pair_for [] ps k) ≡ setting_of s k
+pub value_again : (s : SessionSettings) (ps : List Pair) (k : Key) → IsPrintable s → AreValid s → Written s KEYS ps → value_from (rule_of k) (pair_for [] ps k) ≡ setting_of s k
 value_again s ps k is law w = value_back (rule_of k) (pair_for [] ps k) (setting_of s k) (pair_printed k w) (λ e. let u = unset_standard (rule_of k) (setting_of s k) (law.each k) e in u.1) (λ v e. is.says k v e)
 
 all_from : {A : Type 0} (p : A → Bool) (xs : List A) → ((x : A) → Among x xs → p x ≡ true) → list_all p xs ≡ true
@@ -54,28 +54,28 @@ when_right : (b : Bool) (o : Option SettingsFault) → b ≡ true → (if b then
 when_right true o h = refl
 when_right false o h = cc
 
-refusal_none : (line : ℕ) (g : Key → Option Pair) (k : Key) (o : Option Pair) (w : Option Value) → text_in o ≡ text_of w → (w ≡ None → (rule_of k).required ≡ false) → value_from (rule_of k) o ≡ w → (is_some w ≡ true → list_all (λ j. is_some (g j)) (rule_of k).beside ≡ true) → key_refusal line g k o ≡ None
-refusal_none line g k None None e required v beside = rw (required refl) refl
-refusal_none line g k None (Some x) e required v beside = cc
-refusal_none line g k (Some p) None e required v beside = cc
-refusal_none line g k (Some p) (Some x) e required v beside =
-    let right : is_right g (rule_of k) p ≡ true = and_from (is_some (value_in (rule_of k).form p.value)) (list_all (λ j. is_some (g j)) (rule_of k).beside) (ap is_some v) (beside refl) in
+refusal_none : (line : ℕ) (g : Key → Option Pair) (k : Key) (o : Option Pair) (w : Option Value) → text_in o ≡ text_of w → (w ≡ None → (rule_of k).required ≡ false) → value_from (rule_of k) o ≡ w → (is_some w ≡ true → list_all (λ j. is_some (g j)) (rule_of k).needs_keys ≡ true) → key_refusal line g k o ≡ None
+refusal_none line g k None None e required v needs_keys = rw (required refl) refl
+refusal_none line g k None (Some x) e required v needs_keys = cc
+refusal_none line g k (Some p) None e required v needs_keys = cc
+refusal_none line g k (Some p) (Some x) e required v needs_keys =
+    let right : is_right g (rule_of k) p ≡ true = and_from (is_some (value_in (rule_of k).form p.value)) (list_all (λ j. is_some (g j)) (rule_of k).needs_keys) (ap is_some v) (needs_keys refl) in
     when_right (is_right g (rule_of k) p) (refused p.line (cause.BadValue k)) right
 
-key_none : (s : SessionSettings) (ps : List Pair) (line : ℕ) (k : Key) → IsPrintable s → IsLawful s → Written s KEYS ps → key_refusal line (pair_for [] ps) k (pair_for [] ps k) ≡ None
+key_none : (s : SessionSettings) (ps : List Pair) (line : ℕ) (k : Key) → IsPrintable s → AreValid s → Written s KEYS ps → key_refusal line (pair_for [] ps) k (pair_for [] ps k) ≡ None
 key_none s ps line k is law w = refusal_none line (pair_for [] ps) k (pair_for [] ps k) (setting_of s k) (pair_printed k w)
     (λ e. let u = unset_standard (rule_of k) (setting_of s k) (law.each k) e in u.0)
     (value_again s ps k is law w)
-    (λ h. all_from (λ j. is_some (pair_for [] ps j)) (rule_of k).beside (λ j m. some_same (pair_for [] ps j) (setting_of s j) (pair_printed j w) (law.beside k j m h)))
+    (λ h. all_from (λ j. is_some (pair_for [] ps j)) (rule_of k).needs_keys (λ j m. some_same (pair_for [] ps j) (setting_of s j) (pair_printed j w) (law.needs_keys k j m h)))
 
 keys_none : (f : Key → Option SettingsFault) (keys : List Key) → ((k : Key) → f k ≡ None) → first_some f keys ≡ None
 keys_none f [] h = refl
 keys_none f (k ∷ keys) h = rw (h k) (keys_none f keys h)
 
-section_none : (s : SessionSettings) (n : ℕ) (ps : List Pair) → IsPrintable s → IsLawful s → Written s KEYS ps → section_refusal [] (record { line = n; pairs = ps }) ≡ None
+section_none : (s : SessionSettings) (n : ℕ) (ps : List Pair) → IsPrintable s → AreValid s → Written s KEYS ps → section_refusal [] (record { line = n; pairs = ps }) ≡ None
 section_none s n ps is law w = keys_none (λ k. key_refusal n (pair_for [] ps) k (pair_for [] ps k)) KEYS (λ k. key_none s ps n k is law w)
 
-sections_none : {ss : List SessionSettings} {sections : List Section} → PrintedSections KEYS ss sections → AllByRecursion IsPrintable ss → AllByRecursion IsLawful ss → first_some (section_refusal []) sections ≡ None
+sections_none : {ss : List SessionSettings} {sections : List Section} → PrintedSections KEYS ss sections → AllByRecursion IsPrintable ss → AllByRecursion AreValid ss → first_some (section_refusal []) sections ≡ None
 sections_none none is law = refl
 sections_none (more {s = s} {sections = rest} n ps w r) is law = ap (λ o. option_or o (first_some (section_refusal []) rest)) (section_none s n ps is.0 law.0 w) ∙ sections_none r is.1 law.1
 
@@ -85,23 +85,23 @@ count_same (more n ps w r) = ap (λ n. suc n) (count_same r)
 
 -- ---- who the sessions are between
 
-pub record SameParty (p q : Party) : Type 0 where
+pub record SameParty (p q : Endpoints) : Type 0 where
   pub begin : p.begin ≡ q.begin
   pub sender : p.sender ≡ q.sender
   pub target : p.target ≡ q.target
 
-pub data SameParties : List Party → List Party → Type 0 where
+pub data SameParties : List Endpoints → List Endpoints → Type 0 where
   end : SameParties [] []
-  next : {p q : Party} {ps qs : List Party} → SameParty p q → SameParties ps qs → SameParties (p ∷ ps) (q ∷ qs)
+  next : {p q : Endpoints} {ps qs : List Endpoints} → SameParty p q → SameParties ps qs → SameParties (p ∷ ps) (q ∷ qs)
 
-same_test : (p q r t : Party) → SameParty p q → SameParty r t → is_same p r ≡ is_same q t
+same_test : (p q r t : Endpoints) → SameParty p q → SameParty r t → is_same p r ≡ is_same q t
 same_test p q r t a b = ap2 (λ x y. x && y) (ap2 bytes_eq a.begin b.begin) (ap2 (λ x y. x && y) (ap2 bytes_eq a.sender b.sender) (ap2 bytes_eq a.target b.target))
 
-any_same : (p q : Party) {ps qs : List Party} → SameParty p q → SameParties ps qs → list_any (is_same p) ps ≡ list_any (is_same q) qs
+any_same : (p q : Endpoints) {ps qs : List Endpoints} → SameParty p q → SameParties ps qs → list_any (is_same p) ps ≡ list_any (is_same q) qs
 any_same p q a end = refl
 any_same p q a (next {p = r} {q = t} b bs) = ap2 (λ x y. x || y) (same_test p q r t a b) (any_same p q a bs)
 
-parties_push : {ps qs : List Party} {p q : Party} → SameParties ps qs → SameParty p q → SameParties (ps ++ p ∷ []) (qs ++ q ∷ [])
+parties_push : {ps qs : List Endpoints} {p q : Endpoints} → SameParties ps qs → SameParty p q → SameParties (ps ++ p ∷ []) (qs ++ q ∷ [])
 parties_push end a = next a end
 parties_push (next b bs) a = next b (parties_push bs a)
 
@@ -111,7 +111,7 @@ chosen true false m n f g e h k = cc
 chosen false true m n f g e h k = cc
 chosen false false m n f g e h k = k h
 
-pub none_same : {before old ps qs : List Party} → SameParties before old → SameParties ps qs → same_refusal old qs ≡ None → same_refusal before ps ≡ None
+pub none_same : {before old ps qs : List Endpoints} → SameParties before old → SameParties ps qs → same_refusal old qs ≡ None → same_refusal before ps ≡ None
 none_same b end h = refl
 none_same {before = before} {old = old} b (next {p = p} {q = q} {ps = ps} {qs = qs} a others) h =
     chosen (list_any (is_same p) before) (list_any (is_same q) old) p.line q.line (same_refusal (before ++ p ∷ []) ps) (same_refusal (old ++ q ∷ []) qs) (any_same p q a b) h (λ i. none_same (parties_push b a) others i)
@@ -120,7 +120,7 @@ text_from : (o : Option Pair) (t : List ℕ) → text_in o ≡ Some t → text_f
 text_from None t e = cc
 text_from (Some p) t e = cc
 
-parties_printed : {ss : List SessionSettings} {sections : List Section} → PrintedSections KEYS ss sections → SameParties (map (party_of []) sections) (map party_for ss)
+parties_printed : {ss : List SessionSettings} {sections : List Section} → PrintedSections KEYS ss sections → SameParties (map (endpoints_of []) sections) (map endpoints_for ss)
 parties_printed none = end
 parties_printed (more {s = s} n ps w r) = next
     (record {
@@ -141,13 +141,13 @@ none_in_order : (made : List (List ℕ)) → AreInOrder [] made → made ≡ []
 none_in_order [] h = refl
 none_in_order (x ∷ xs) h = absurd (elim (h.each x here) [ ])
 
-session_again : (s t : SessionSettings) (n : ℕ) (ps : List Pair) → IsPrintable s → IsLawful s → Written s KEYS ps → IsSession [] (record { line = n; pairs = ps }) t → IsAgain s t
+session_again : (s t : SessionSettings) (n : ℕ) (ps : List Pair) → IsPrintable s → AreValid s → Written s KEYS ps → IsSession [] (record { line = n; pairs = ps }) t → IsAgain s t
 session_again s t n ps is law w h = record {
   each = λ k. h.each k ∙ value_again s ps k is law w;
   ignored = none_in_order t.ignored.items (subst (λ names. AreInOrder names t.ignored.items) (no_ignored w) h.ignored);
 }
 
-sessions_again : {ss : List SessionSettings} {sections : List Section} (again : List SessionSettings) → PrintedSections KEYS ss sections → AllByRecursion IsPrintable ss → AllByRecursion IsLawful ss → AreSessions [] sections again → AreAgain ss again
+sessions_again : {ss : List SessionSettings} {sections : List Section} (again : List SessionSettings) → PrintedSections KEYS ss sections → AllByRecursion IsPrintable ss → AllByRecursion AreValid ss → AreSessions [] sections again → AreAgain ss again
 sessions_again again none is law h = h
 sessions_again [] (more n ps w r) is law h = absurd h
 sessions_again (t ∷ ts) (more {s = s} n ps w r) is law h = (session_again s t n ps is.0 law.0 w h.0, sessions_again ts r is.1 law.1 h.1)
@@ -165,7 +165,7 @@ lines_none {ss = ss} lines p is =
     let d : defaults_of lines ≡ [] = no_defaults p in
     let at : sections_refusal [] (sections_of lines) ≡ None =
     or_both (count_refusal (sections_of lines)) _ (count_none (length (sections_of lines)) (length ss) (count_same secs) is.count)
-    (or_both (first_some (section_refusal []) (sections_of lines)) (same_refusal [] (map (party_of []) (sections_of lines))) (sections_none secs is.each is.lawful) (none_same end (parties_printed secs) is.distinct)) in
+    (or_both (first_some (section_refusal []) (sections_of lines)) (same_refusal [] (map (endpoints_of []) (sections_of lines))) (sections_none secs is.each is.lawful) (none_same end (parties_printed secs) is.distinct)) in
     or_both (line_refusal false lines) (sections_refusal (defaults_of lines) (sections_of lines)) (no_line_refusal false p) (subst (λ of. sections_refusal of (sections_of lines) ≡ None) (sym d) at)
 
 -- printed sessions are read again

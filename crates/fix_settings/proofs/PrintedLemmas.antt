@@ -21,7 +21,7 @@ use Rattle.fix_settings.specs.declared.form.Form.TheVariants as form
 use Rattle.fix_settings.specs.declared.session_settings.SessionSettings.{SessionSettings}
 use Rattle.fix_settings.specs.Forms.{Value, Version, Number, Port, Clock, Day, Flag, Fine, Text, Types, version_in, clock_in, day_in, flag_in, precision_in, types_in, text_if, value_in, clock_text, day_name, flag_text, precision_text, value_text}
 use Rattle.fix_settings.specs.Table.{rule_of, name_of, setting_of}
-use Rattle.fix_settings.specs.Lawful.{IsAllowed, ValueUtf8, IfHas, IsLawful}
+use Rattle.fix_settings.specs.Lawful.{IsAllowed, ValueUtf8, IfHas, AreValid}
 use Rattle.fix_settings.specs.Printing.{setting_line, ignored_line, session_text, settings_text}
 use Rattle.fix_settings.proofs.SaysLemmas.{number_bounds}
 use Rattle.fix_settings.proofs.ValueLemmas.{mapped, is_near, key_near}
@@ -81,7 +81,7 @@ value_small form.Day t near = mapped IsSmall Day (day_in t) (λ d e. tt)
 value_small form.Utc t near = text_small (bytes_eq t (codes "UTC")) t
 value_small form.Rule t near = tt
 value_small form.Flag t near = mapped IsSmall Flag (flag_in t) (λ b e. tt)
-value_small form.No t near = no_small (bytes_eq t (codes "N"))
+value_small form.OnlyN t near = no_small (bytes_eq t (codes "N"))
 value_small form.Text t near = text_small (nat_lt 0 (length t)) t
 value_small form.Precision t near = mapped IsSmall Fine (precision_in t) (λ p e. tt)
 value_small form.Types t near = mapped IsSmall Types (types_in t) (λ ts e. tt)
@@ -181,7 +181,7 @@ line_utf8 k (Some v) small u =
     let value = IsUtf8-append (name_of k ++ 61 ∷ []) (value_text v) name (text_utf8 v small u) in
     IsUtf8-append (name_of k ++ 61 ∷ [] ++ value_text v) (10 ∷ []) value (ascii (10 ∷ []) refl)
 
-settings_utf8 : (s : SessionSettings) (keys : List Key) → IsLawful s → IsUtf8 (flat_map (λ k. setting_line k (setting_of s k)) keys)
+settings_utf8 : (s : SessionSettings) (keys : List Key) → AreValid s → IsUtf8 (flat_map (λ k. setting_line k (setting_of s k)) keys)
 settings_utf8 s [] law = IsUtf8-nil
 settings_utf8 s (k ∷ ks) law = IsUtf8-append (setting_line k (setting_of s k)) (flat_map (λ k. setting_line k (setting_of s k)) ks) (line_utf8 k (setting_of s k) (allowed_small k (setting_of s k) (law.each k)) (law.utf8 k)) (settings_utf8 s ks law)
 
@@ -191,12 +191,12 @@ ignored_utf8 (name ∷ names) h =
     let first = IsUtf8-append (codes "# ignored ") name (ascii (codes "# ignored ") refl) (h name here) in
     IsUtf8-append (ignored_line name) (flat_map ignored_line names) (IsUtf8-append (codes "# ignored " ++ name) (10 ∷ []) first (ascii (10 ∷ []) refl)) (ignored_utf8 names (λ n m. h n (there m)))
 
-session_utf8 : (s : SessionSettings) → IsLawful s → IsUtf8 (session_text s)
+session_utf8 : (s : SessionSettings) → AreValid s → IsUtf8 (session_text s)
 session_utf8 s law =
     let keys = flat_map (λ k. setting_line k (setting_of s k)) KEYS in
     let first = IsUtf8-append (codes "[SESSION]" ++ 10 ∷ []) keys (ascii (codes "[SESSION]" ++ 10 ∷ []) refl) (settings_utf8 s KEYS law) in
     IsUtf8-append (codes "[SESSION]" ++ 10 ∷ [] ++ keys) (flat_map ignored_line s.ignored.items) first (ignored_utf8 s.ignored.items law.ignored_utf8)
 
-pub printed_utf8 : (sessions : List SessionSettings) → AllByRecursion IsLawful sessions → IsUtf8 (settings_text sessions)
+pub printed_utf8 : (sessions : List SessionSettings) → AllByRecursion AreValid sessions → IsUtf8 (settings_text sessions)
 printed_utf8 [] all = IsUtf8-nil
 printed_utf8 (s ∷ ss) all = IsUtf8-append (session_text s) (settings_text ss) (session_utf8 s all.0) (printed_utf8 ss all.1)

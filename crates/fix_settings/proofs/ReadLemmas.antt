@@ -13,7 +13,7 @@ use Rattle.fix_settings.specs.Lines.{Pair, Section}
 use Rattle.fix_settings.specs.Table.{rule_of, setting_of}
 use Rattle.fix_settings.specs.Lent.{pair_at}
 use Rattle.fix_settings.specs.Typed.{shaped}
-use Rattle.fix_settings.specs.Reading.{first_some, value_from, key_refusal, keys_refusal, section_refusal, Party, party_from, party_of, IsSession, AreSessions}
+use Rattle.fix_settings.specs.Reading.{first_some, value_from, key_refusal, keys_refusal, section_refusal, Endpoints, endpoints_from, endpoints_of, IsSession, AreSessions}
 use Rattle.fix_settings.proofs.ShapeLemmas.{keeps_shape}
 
 -- the pairs in the table's order, by their keys
@@ -119,16 +119,16 @@ read_each line pairs g s are h each k =
     let right : key_refusal line (pair_at pairs) k (pair_at pairs k) ≡ None = first_none (λ k. key_refusal line (pair_at pairs) k (pair_at pairs k)) (sym h) k in
     each k ∙ keeps_shape line (pair_at pairs) k (pair_at pairs k) right ∙ ap (λ f. value_from (rule_of k) (f k)) (table_is pairs g are)
 
-pub read_party : (line : ℕ) (pairs : List (Option Pair)) (g : Key → Option Pair) (p : Party) → pairs ≡ map g KEYS → p ≡ party_from line (pair_at pairs) → p ≡ party_from line g
-read_party line pairs g p are h = h ∙ ap (party_from line) (table_is pairs g are)
+pub read_party : (line : ℕ) (pairs : List (Option Pair)) (g : Key → Option Pair) (p : Endpoints) → pairs ≡ map g KEYS → p ≡ endpoints_from line (pair_at pairs) → p ≡ endpoints_from line g
+read_party line pairs g p are h = h ∙ ap (endpoints_from line) (table_is pairs g are)
 
 -- ---- section by section
 
 -- the first sections were read
-pub record SoFar (of : List Pair) (all : List Section) (done rest : List Section) (sessions : List SessionSettings) (parties : List Party) : Type 0 where
+pub record SoFar (of : List Pair) (all : List Section) (done rest : List Section) (sessions : List SessionSettings) (endpoint_list : List Endpoints) : Type 0 where
   pub left : first_some (section_refusal of) rest ≡ first_some (section_refusal of) all
   pub settings : AreSessions of done sessions
-  pub parties_are : parties ≡ map (party_of of) done
+  pub parties_are : endpoint_list ≡ map (endpoints_of of) done
 
 sessions_push : (of : List Pair) (ss : List Section) (xs : List SessionSettings) (s : Section) (x : SessionSettings) → AreSessions of ss xs → IsSession of s x → AreSessions of (ss ++ s ∷ []) (xs ++ x ∷ [])
 sessions_push of [] [] s x h is = (is, refl)
@@ -136,15 +136,15 @@ sessions_push of [] (y ∷ ys) s x h is = cc
 sessions_push of (t ∷ ts) [] s x h is = absurd h
 sessions_push of (t ∷ ts) (y ∷ ys) s x h is = (h.0, sessions_push of ts ys s x h.1 is)
 
-pub section_more : (of : List Pair) (all done rest : List Section) (section : Section) (sessions : List SessionSettings) (parties : List Party) (s : SessionSettings) (p : Party) → SoFar of all done (section ∷ rest) sessions parties → section_refusal of section ≡ None → IsSession of section s → p ≡ party_of of section → SoFar of all (done ++ section ∷ []) rest (sessions ++ s ∷ []) (parties ++ p ∷ [])
-section_more of all done rest section sessions parties s p h right is party = record {
+pub section_more : (of : List Pair) (all done rest : List Section) (section : Section) (sessions : List SessionSettings) (endpoint_list : List Endpoints) (s : SessionSettings) (p : Endpoints) → SoFar of all done (section ∷ rest) sessions endpoint_list → section_refusal of section ≡ None → IsSession of section s → p ≡ endpoints_of of section → SoFar of all (done ++ section ∷ []) rest (sessions ++ s ∷ []) (endpoint_list ++ p ∷ [])
+section_more of all done rest section sessions endpoint_list s p h right is endpoints = record {
   left = sym (ap (λ o. option_or o (first_some (section_refusal of) rest)) right) ∙ h.left;
   settings = sessions_push of done sessions section s h.settings is;
-  parties_are = ap (λ ps. ps ++ p ∷ []) h.parties_are ∙ ap (λ q. map (party_of of) done ++ q ∷ []) party ∙ sym (map-append (party_of of) done (section ∷ []));
+  parties_are = ap (λ ps. ps ++ p ∷ []) h.parties_are ∙ ap (λ q. map (endpoints_of of) done ++ q ∷ []) endpoints ∙ sym (map-append (endpoints_of of) done (section ∷ []));
 }
 
-pub section_refused : (of : List Pair) (all done rest : List Section) (section : Section) (sessions : List SessionSettings) (parties : List Party) (fault : SettingsFault) → SoFar of all done (section ∷ rest) sessions parties → section_refusal of section ≡ Some fault → first_some (section_refusal of) all ≡ Some fault
-section_refused of all done rest section sessions parties fault h refused = sym h.left ∙ ap (λ o. option_or o (first_some (section_refusal of) rest)) refused
+pub section_refused : (of : List Pair) (all done rest : List Section) (section : Section) (sessions : List SessionSettings) (endpoint_list : List Endpoints) (fault : SettingsFault) → SoFar of all done (section ∷ rest) sessions endpoint_list → section_refusal of section ≡ Some fault → first_some (section_refusal of) all ≡ Some fault
+section_refused of all done rest section sessions endpoint_list fault h refused = sym h.left ∙ ap (λ o. option_or o (first_some (section_refusal of) rest)) refused
 
 pub so_far_start : (of : List Pair) (all : List Section) → SoFar of all [] all [] []
 so_far_start of all = record { left = refl; settings = refl; parties_are = refl }

@@ -53,12 +53,12 @@ value_utf8 form.Day text u = mapped ValueUtf8 Day (day_in text) (λ a e. tt)
 value_utf8 form.Utc text u = text_utf8 (bytes_eq text (codes "UTC")) text u
 value_utf8 form.Rule text u = u
 value_utf8 form.Flag text u = mapped ValueUtf8 Flag (flag_in text) (λ a e. tt)
-value_utf8 form.No text u = no_utf8 (bytes_eq text (codes "N"))
+value_utf8 form.OnlyN text u = no_utf8 (bytes_eq text (codes "N"))
 value_utf8 form.Text text u = text_utf8 (nat_lt 0 (length text)) text u
 value_utf8 form.Precision text u = mapped ValueUtf8 Fine (precision_in text) (λ a e. tt)
 value_utf8 form.Types text u = types_utf8 (list_all is_type (slice_split (λ b. b == 44) text)) (slice_split (λ b. b == 44) text) (pieces_utf8 text u)
 
-standard_utf8 : (k : Key) → IfHas ValueUtf8 (rule_of k).standard
+standard_utf8 : (k : Key) → IfHas ValueUtf8 (rule_of k).default
 unfolding lib.Utf8.encode
 standard_utf8 key.BeginString = tt
 standard_utf8 key.SenderCompID = tt

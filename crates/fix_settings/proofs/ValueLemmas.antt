@@ -49,8 +49,8 @@ precision_value Seconds = computed form.Precision (Fine Seconds) refl refl refl 
 precision_value Millis = computed form.Precision (Fine Millis) refl refl refl refl
 precision_value Micros = computed form.Precision (Fine Micros) refl refl refl refl
 
-no_value : (b : Bool) → IfSaysAgain form.No (if b then Some (Flag false) else None)
-no_value true = computed form.No (Flag false) refl refl refl refl
+no_value : (b : Bool) → IfSaysAgain form.OnlyN (if b then Some (Flag false) else None)
+no_value true = computed form.OnlyN (Flag false) refl refl refl refl
 no_value false = tt
 
 number_value : (low high n : ℕ) → nat_le high 999999999 ≡ true → low ≤ n → n ≤ high → SaysAgain (form.Number low high) (Number n)
@@ -211,7 +211,7 @@ is_near form.Day = true
 is_near form.Utc = true
 is_near form.Rule = true
 is_near form.Flag = true
-is_near form.No = true
+is_near form.OnlyN = true
 is_near form.Text = true
 is_near form.Precision = true
 is_near form.Types = true
@@ -227,7 +227,7 @@ said_again form.Day t near is = mapped (SaysAgain form.Day) Day (day_in t) (λ d
 said_again form.Utc t near is = text_value form.Utc (bytes_eq t (codes "UTC")) t is refl
 said_again form.Rule t near is = record { text = is; says = refl }
 said_again form.Flag t near is = mapped (SaysAgain form.Flag) Flag (flag_in t) (λ b e. flag_value b)
-said_again form.No t near is = no_value (bytes_eq t (codes "N"))
+said_again form.OnlyN t near is = no_value (bytes_eq t (codes "N"))
 said_again form.Text t near is = text_value form.Text (nat_lt 0 (length t)) t is refl
 said_again form.Precision t near is = mapped (SaysAgain form.Precision) Fine (precision_in t) (λ p e. precision_value p)
 said_again form.Types t near is = types_value (list_all is_type (slice_split (λ b. b == 44) t)) t is refl
@@ -265,7 +265,7 @@ key_near key.TimeStampPrecision = refl
 key_near key.AppTypes = refl
 
 -- the table's own values
-pub standard_again : (k : Key) → IfSaysAgain (rule_of k).form (rule_of k).standard
+pub standard_again : (k : Key) → IfSaysAgain (rule_of k).form (rule_of k).default
 standard_again key.BeginString = tt
 standard_again key.SenderCompID = tt
 standard_again key.TargetCompID = tt
@@ -279,7 +279,7 @@ standard_again key.ZoneRule = tt
 standard_again key.ReconnectInterval = number_value 1 86400 30 refl (omega arith) (omega arith)
 standard_again key.LogonTimeout = number_value 1 86400 10 refl (omega arith) (omega arith)
 standard_again key.LogoutTimeout = number_value 1 86400 2 refl (omega arith) (omega arith)
-standard_again key.ResetOnLogon = computed form.No (Flag false) refl refl refl refl
+standard_again key.ResetOnLogon = computed form.OnlyN (Flag false) refl refl refl refl
 standard_again key.ResetOnLogout = flag_value false
 standard_again key.ResetOnDisconnect = flag_value false
 standard_again key.ResendRequestChunkSize = number_value 0 999999999 0 refl (omega arith) (omega arith)

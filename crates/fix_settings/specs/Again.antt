@@ -1,5 +1,6 @@
 -- What is printed and read again.
-use Rattle.std.specs.Prelude.{◌≡◌, ℕ, ◌==◌, ◌&&◌, nat_lt, nat_le, not, Bool, true, List, [], ◌∷◌, length, map, Some, None}
+use Rattle.std.specs.Prelude.{◌≡◌, ℕ, ◌==◌, ◌&&◌, nat_lt, nat_le, not, Bool, true, List, [], ◌∷◌, length, map, Some}
+use Rattle.std.specs.Prelude.{None}
 use Rattle.std.specs.List.{list_all, AllByRecursion}
 use Rattle.std.specs.Str.{IsUtf8}
 use Rattle.fix_base.specs.Session.{begin_string_of}
@@ -8,15 +9,15 @@ use Rattle.fix_settings.specs.declared.session_settings.SessionSettings.{Session
 use Rattle.fix_settings.specs.Lines.{trim_front, trim_back}
 use Rattle.fix_settings.specs.Forms.{Value, value_in, value_text}
 use Rattle.fix_settings.specs.Table.{rule_of, setting_of}
-use Rattle.fix_settings.specs.Reading.{Party, same_refusal, refusal_of, AreSessionsOf}
-use Rattle.fix_settings.specs.Lawful.{IsLawful}
+use Rattle.fix_settings.specs.Reading.{Endpoints, same_refusal, refusal_of, AreSessionsOf}
+use Rattle.fix_settings.specs.Lawful.{AreValid}
 use Rattle.fix_settings.specs.Printing.{settings_text}
 
 -- no LF stands in the bytes
 abbrev pub has_no_lf : List ℕ → Bool
 has_no_lf bytes = list_all (λ b. not (b == 10)) bytes
 
--- what a line can hold behind its `=`: no LF, and no blank at either end
+-- what a line can hold after its `=`: no LF, and no blank at either end
 pub record IsLineText (text : List ℕ) : Type 0 where
   pub one_line : has_no_lf text ≡ true
   pub front : trim_front text ≡ text
@@ -29,15 +30,20 @@ pub record IsPrintable (s : SessionSettings) : Type 0 where
   pub ignored : AllByRecursion (λ name. has_no_lf name ≡ true) s.ignored.items
 
 -- who a session is between
-abbrev pub party_for : SessionSettings → Party
-party_for s = record { line = 0; begin = begin_string_of s.begin_string; sender = s.sender_comp_id; target = s.target_comp_id }
+abbrev pub endpoints_for : SessionSettings → Endpoints
+endpoints_for s = record {
+  line = 0;
+  begin = begin_string_of s.begin_string;
+  sender = s.sender_comp_id;
+  target = s.target_comp_id;
+}
 
 -- sessions whose text can be read again: lawful ones, 1 to 256 of them, no two between the same
 pub record ArePrintable (sessions : List SessionSettings) : Type 0 where
   pub each : AllByRecursion IsPrintable sessions
-  pub lawful : AllByRecursion IsLawful sessions
+  pub lawful : AllByRecursion AreValid sessions
   pub count : (nat_lt 0 (length sessions) && nat_le (length sessions) 256) ≡ true
-  pub distinct : same_refusal [] (map party_for sessions) ≡ None
+  pub distinct : same_refusal [] (map endpoints_for sessions) ≡ None
 
 -- the same settings, and no ignored keys
 pub record IsAgain (s again : SessionSettings) : Type 0 where

@@ -1,5 +1,7 @@
 -- The forms of values: which texts they take, what these say, and how they are printed.
-use Rattle.std.specs.Prelude.{slice_index, ℕ, ◌+◌, ◌-◌, ◌*◌, ◌/◌, ◌%◌, ◌==◌, ◌&&◌, ◌||◌, nat_lt, nat_le, not, if◌then◌else◌, Bool, true, false, List, [], ◌∷◌, ◌++◌, length, take, codes, bytes_eq, find, decimal, Option, Some, None, option_map}
+use Rattle.std.specs.Prelude.{slice_index, ℕ, ◌+◌, ◌-◌, ◌*◌, ◌/◌, ◌%◌, ◌==◌, ◌&&◌, ◌||◌, nat_lt, nat_le, not}
+use Rattle.std.specs.Prelude.{if◌then◌else◌, Bool, true, false, List, [], ◌∷◌, ◌++◌, length, take, codes, bytes_eq}
+use Rattle.std.specs.Prelude.{find, decimal, Option, Some, None, option_map}
 use Rattle.std.specs.List.{list_all, slice_split, join_by}
 use Rattle.std.specs.Str.{str_eq_ignore_ascii_case}
 use Rattle.fix_base.specs.declared.identity.Begin.{Begin}
@@ -37,14 +39,15 @@ abbrev pub two_at : ℕ → List ℕ → ℕ
 two_at at text = (slice_index text at - 48) * 10 + (slice_index text (at + 1) - 48)
 
 abbrev pub is_two_at : ℕ → ℕ → List ℕ → Bool
-is_two_at last at text = is_digit (slice_index text at) && (is_digit (slice_index text (at + 1)) && nat_le (two_at at text) last)
+is_two_at last at text = is_digit (slice_index text at) &&
+    (is_digit (slice_index text (at + 1)) && nat_le (two_at at text) last)
 
 abbrev pub is_clock : List ℕ → Bool
 is_clock text =
     length text == 8 && (slice_index text 2 == 58 && (slice_index text 5 == 58
     && (is_two_at 23 0 text && (is_two_at 59 3 text && is_two_at 59 6 text))))
 
--- HH:MM:SS, as the seconds behind midnight
+-- HH:MM:SS, as the seconds after midnight
 abbrev pub clock_in : List ℕ → Option ℕ
 clock_in text = if is_clock text then Some (two_at 0 text * 3600 + two_at 3 text * 60 + two_at 6 text) else None
 
@@ -96,7 +99,8 @@ is_type text = nat_lt 0 (length text) && (nat_le (length text) 8 && list_all (λ
 
 -- the types between commas
 abbrev pub types_in : List ℕ → Option (List (List ℕ))
-types_in text = if list_all is_type (slice_split (λ b. b == 44) text) then Some (slice_split (λ b. b == 44) text) else None
+types_in text = if list_all is_type (slice_split (λ b. b == 44) text) then Some (slice_split
+    (λ b. b == 44) text) else None
 
 -- the text, where it passes
 abbrev pub text_if : Bool → List ℕ → Option Value
@@ -113,7 +117,7 @@ value_in form.Day text = option_map Day (day_in text)
 value_in form.Utc text = text_if (bytes_eq text (codes "UTC")) text
 value_in form.Rule text = Some (Text text)
 value_in form.Flag text = option_map Flag (flag_in text)
-value_in form.No text = if bytes_eq text (codes "N") then Some (Flag false) else None
+value_in form.OnlyN text = if bytes_eq text (codes "N") then Some (Flag false) else None
 value_in form.Text text = text_if (nat_lt 0 (length text)) text
 value_in form.Precision text = option_map Fine (precision_in text)
 value_in form.Types text = option_map Types (types_in text)

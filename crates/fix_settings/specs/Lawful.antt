@@ -15,7 +15,7 @@ pub record IsValueOf (rule : Rule) (v : Value) : Type 0 where
 
 -- no value stands where none is asked for and the table has none
 abbrev pub IsAllowed : Rule → Option Value → Type 0
-IsAllowed rule None = (rule.required ≡ false) × (rule.standard ≡ None)
+IsAllowed rule None = (rule.required ≡ false) × (rule.default ≡ None)
 IsAllowed rule (Some v) = IsValueOf rule v
 
 -- its texts are UTF-8
@@ -37,8 +37,9 @@ IfHas P (Some v) = P v
 
 -- each field has a value that its key allows, and the keys that belong beside one that has a value
 -- have values; and its texts are UTF-8
-pub record IsLawful (s : SessionSettings) : Type 0 where
+pub record AreValid (s : SessionSettings) : Type 0 where
   pub each : (k : Key) → IsAllowed (rule_of k) (setting_of s k)
-  pub beside : (k j : Key) → Among j (rule_of k).beside → is_some (setting_of s k) ≡ true → is_some (setting_of s j) ≡ true
+  pub needs_keys : (k j : Key) → Among j (rule_of k).needs_keys → is_some (setting_of s k) ≡ true
+      → is_some (setting_of s j) ≡ true
   pub utf8 : (k : Key) → IfHas ValueUtf8 (setting_of s k)
   pub ignored_utf8 : (name : List ℕ) → Among name s.ignored.items → IsUtf8 name

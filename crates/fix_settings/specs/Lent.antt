@@ -6,12 +6,12 @@ use denote.Ref.{Bor}
 use Rattle.fix_settings.specs.declared.line.PairRef.{PairRef}
 use Rattle.fix_settings.specs.declared.line.LineRef.{LineRef}
 use Rattle.fix_settings.specs.declared.line.LineRef.TheVariants as lent
-use Rattle.fix_settings.specs.declared.form.Held.{Held}
-use Rattle.fix_settings.specs.declared.form.Held.TheVariants as held
+use Rattle.fix_settings.specs.declared.form.Setting.{Setting}
+use Rattle.fix_settings.specs.declared.form.Setting.TheVariants as held
 use Rattle.fix_settings.specs.declared.table.Row.{Row}
-use Rattle.fix_settings.specs.declared.judging.PartyRef.{PartyRef}
+use Rattle.fix_settings.specs.declared.judging.EndpointsRef.{EndpointsRef}
 use Rattle.fix_settings.specs.declared.section.SectionRef.{SectionRef}
-use Rattle.fix_settings.specs.Reading.{Party}
+use Rattle.fix_settings.specs.Reading.{Endpoints}
 use Rattle.fix_settings.specs.Forms.{Value, Version, Number, Port, Clock, Day, Flag, Fine, Text, Types}
 use Rattle.fix_settings.specs.declared.key.Key.{Key}
 use Rattle.fix_settings.specs.Table.{Rule, index_of}
@@ -31,26 +31,32 @@ abbrev pub lines_read : List LineRef → List Line
 lines_read lines = map line_read lines
 
 -- a value, by what types say
-abbrev pub held_as : {L : Type 0} → (L → List (List ℕ)) → Held L → Value
+abbrev pub held_as : {L : Type 0} → (L → List (List ℕ)) → Setting L → Value
 held_as types_of (held.Version begin) = Version begin
 held_as types_of (held.Number n) = Number n
 held_as types_of (held.Port n) = Port n
 held_as types_of (held.Clock s) = Clock s
 held_as types_of (held.Day day) = Day day
 held_as types_of (held.Flag on) = Flag on
-held_as types_of (held.Fine precision) = Fine precision
+held_as types_of (held.Precision precision) = Fine precision
 held_as types_of (held.Text text) = Text text.now
 held_as types_of (held.Types types) = Types (types_of types)
 
 -- types joined by commas
-abbrev pub value_read : Held (Bor (List ℕ)) → Value
+abbrev pub value_read : Setting (Bor (List ℕ)) → Value
 value_read v = held_as (λ text. slice_split (λ b. b == 44) text.now) v
 
-abbrev pub shown_read : Held (Bor (List (List ℕ))) → Value
+abbrev pub shown_read : Setting (Bor (List (List ℕ))) → Value
 shown_read v = held_as (λ types. types.now) v
 
 abbrev pub rule_read : Row → Rule
-rule_read r = record { name = r.name.now; form = r.form; required = r.required; standard = option_map value_read r.standard; beside = r.beside.now }
+rule_read r = record {
+  name = r.name.now;
+  form = r.form;
+  required = r.required;
+  default = option_map value_read r.default;
+  needs_keys = r.needs_keys.now;
+}
 
 abbrev pub pairs_read : List (Option PairRef) → List (Option Pair)
 pairs_read pairs = map (option_map pair_read) pairs
@@ -59,7 +65,7 @@ pairs_read pairs = map (option_map pair_read) pairs
 abbrev pub pair_at : List (Option Pair) → Key → Option Pair
 pair_at pairs k = option_flatten (slice_get pairs (index_of k))
 
-abbrev pub party_read : PartyRef → Party
+abbrev pub party_read : EndpointsRef → Endpoints
 party_read p = record { line = p.line; begin = p.begin.now; sender = p.sender.now; target = p.target.now }
 
 abbrev pub section_read : SectionRef → Section

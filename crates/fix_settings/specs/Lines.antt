@@ -1,5 +1,6 @@
 -- The lines of a settings text, and the sections that they make.
-use Rattle.std.specs.Prelude.{◌≡◌, ℕ, ◌+◌, ◌<◌, ◌==◌, ◌||◌, if◌then◌else◌, Bool, List, [], ◌∷◌, ◌++◌, length, codes, bytes_eq, Option, Some, None, true, false}
+use Rattle.std.specs.Prelude.{◌≡◌, ℕ, ◌+◌, ◌<◌, ◌==◌, ◌||◌, if◌then◌else◌, Bool, List, [], ◌∷◌, ◌++◌, length, codes}
+use Rattle.std.specs.Prelude.{bytes_eq, Option, Some, None, true, false}
 use Rattle.std.specs.List.{onto_first}
 use Rattle.std.specs.Option.{option_or}
 use Rattle.std.specs.Str.{str_eq_ignore_ascii_case}
@@ -13,7 +14,7 @@ abbrev pub lines_of : List ℕ → List (List ℕ)
 lines_of [] = []
 lines_of (b ∷ bs) = onto_line b (lines_of bs)
 
--- the bytes are a line and what is behind it
+-- the bytes are a line and what is after it
 pub record IsCut (text line rest : List ℕ) : Type 0 where
   pub lines : lines_of text ≡ line ∷ lines_of rest
   pub shorter : length rest < length text
@@ -44,7 +45,7 @@ abbrev pub onto_cut : ℕ → Option (List ℕ × List ℕ) → Option (List ℕ
 onto_cut b None = None
 onto_cut b (Some parts) = Some (b ∷ parts.0, parts.1)
 
--- what stands before the first of these bytes, and what behind it
+-- what stands before the first of these bytes, and what after it
 abbrev pub cut_at : ℕ → List ℕ → Option (List ℕ × List ℕ)
 cut_at byte [] = None
 cut_at byte (b ∷ bs) = if b == byte then Some ([], bs) else onto_cut b (cut_at byte bs)

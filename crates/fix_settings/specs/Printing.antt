@@ -17,7 +17,8 @@ ignored_line name = codes "# ignored " ++ name ++ 10 ∷ []
 
 -- the heading, the keys in the table's order, and the ignored ones
 abbrev pub session_text : SessionSettings → List ℕ
-session_text s = codes "[SESSION]" ++ 10 ∷ [] ++ flat_map (λ k. setting_line k (setting_of s k)) KEYS ++ flat_map ignored_line s.ignored.items
+session_text s = codes "[SESSION]" ++ 10 ∷ [] ++ flat_map (λ k. setting_line k (setting_of s k)) KEYS
+    ++ flat_map ignored_line s.ignored.items
 
 abbrev pub settings_text : List SessionSettings → List ℕ
 settings_text sessions = flat_map session_text sessions

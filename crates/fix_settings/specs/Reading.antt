@@ -1,5 +1,6 @@
 -- What a settings text says of each session, and the first reason to refuse it.
-use Rattle.std.specs.Prelude.{◌≡◌, ℕ, ◌&&◌, ◌||◌, nat_lt, nat_le, if◌then◌else◌, Bool, true, false, List, [], ◌∷◌, ◌++◌, length, map, flat_map, codes, bytes_eq, Option, Some, None, is_some}
+use Rattle.std.specs.Prelude.{◌≡◌, ℕ, ◌&&◌, ◌||◌, nat_lt, nat_le, if◌then◌else◌, Bool, true, false, List, [], ◌∷◌}
+use Rattle.std.specs.Prelude.{◌++◌, length, map, flat_map, codes, bytes_eq, Option, Some, None, is_some}
 use Rattle.std.specs.List.{list_all, list_any}
 use Rattle.std.specs.Option.{option_or}
 use Rattle.std.specs.Cmp.Lexicographic.{slice_cmp}
@@ -13,7 +14,8 @@ use Rattle.fix_settings.specs.declared.fault.SettingsFault.{SettingsFault}
 use Rattle.fix_settings.specs.declared.fault.SettingsCause.{SettingsCause}
 use Rattle.fix_settings.specs.declared.fault.SettingsCause.TheVariants as cause
 use Rattle.fix_settings.specs.declared.session_settings.SessionSettings.{SessionSettings}
-use Rattle.fix_settings.specs.Lines.{Line, Passed, Default, Session, Given, Wrong, Pair, Section, read_lines, is_heading, defaults_of, sections_of, last_of}
+use Rattle.fix_settings.specs.Lines.{Line, Passed, Default, Session, Given, Wrong, Pair, Section, read_lines}
+use Rattle.fix_settings.specs.Lines.{is_heading, defaults_of, sections_of, last_of}
 use Rattle.fix_settings.specs.Forms.{Value, value_in}
 use Rattle.fix_settings.specs.Table.{Rule, rule_of, name_of, setting_of}
 
@@ -30,7 +32,7 @@ pair_for defaults own k = option_or (last_of (name_of k) own) (last_of (name_of 
 
 -- what the pair says, else what the table has for a session without one
 abbrev pub value_from : Rule → Option Pair → Option Value
-value_from rule None = rule.standard
+value_from rule None = rule.default
 value_from rule (Some pair) = value_in rule.form pair.value
 
 abbrev pub value_for : List Pair → List Pair → Key → Option Value
@@ -47,7 +49,8 @@ tls_keys = codes "SocketPrivateKeyFile" ∷ codes "SocketCertificateFile" ∷ co
 
 -- whether a pair asks for TLS
 abbrev pub asks_tls : Pair → Bool
-asks_tls p = list_any (bytes_eq p.key) tls_keys || (bytes_eq p.key (codes "SocketUseSSL") && bytes_eq p.value (codes "Y"))
+asks_tls p = list_any (bytes_eq p.key) tls_keys ||
+    (bytes_eq p.key (codes "SocketUseSSL") && bytes_eq p.value (codes "Y"))
 
 -- a key in no section, or one that asks for TLS; `in_section` says whether a heading stands before
 abbrev pub pair_refusal : Bool → Pair → Option SettingsFault
@@ -64,20 +67,23 @@ one_line_refusal in_section (Wrong n) = refused n cause.NotKeyValue
 -- line by line
 abbrev pub line_refusal : Bool → List Line → Option SettingsFault
 line_refusal in_section [] = None
-line_refusal in_section (line ∷ lines) = option_or (one_line_refusal in_section line) (line_refusal (in_section || is_heading line) lines)
+line_refusal in_section (line ∷ lines) = option_or (one_line_refusal in_section line)
+    (line_refusal (in_section || is_heading line) lines)
 
 -- no session, or more than 256
 abbrev pub count_refusal : List Section → Option SettingsFault
-count_refusal sections = if nat_lt 0 (length sections) && nat_le (length sections) 256 then None else refused 0 cause.NoSection
+count_refusal sections = if nat_lt 0 (length sections) && nat_le
+    (length sections) 256 then None else refused 0 cause.NoSection
 
 -- whether the value is of its form, and the keys that belong beside it have values
 abbrev pub is_right : (Key → Option Pair) → Rule → Pair → Bool
-is_right pairs rule pair = is_some (value_in rule.form pair.value) && list_all (λ k. is_some (pairs k)) rule.beside
+is_right pairs rule pair = is_some (value_in rule.form pair.value) && list_all (λ k. is_some (pairs k)) rule.needs_keys
 
 -- a key of a session whose heading stands in this line
 abbrev pub key_refusal : ℕ → (Key → Option Pair) → Key → Option Pair → Option SettingsFault
 key_refusal line pairs k None = if (rule_of k).required then refused line (cause.Missing k) else None
-key_refusal line pairs k (Some pair) = if is_right pairs (rule_of k) pair then None else refused pair.line (cause.BadValue k)
+key_refusal line pairs k (Some pair) = if is_right pairs (rule_of k) pair then None else refused pair.line
+    (cause.BadValue k)
 
 -- key by key, in the table's order
 abbrev pub keys_refusal : ℕ → (Key → Option Pair) → Option SettingsFault
@@ -91,31 +97,37 @@ abbrev pub text_for : Option Pair → List ℕ
 text_for None = []
 text_for (Some pair) = pair.value
 
-pub record Party : Type 0 where
+pub record Endpoints : Type 0 where
   pub line : ℕ
   pub begin : List ℕ
   pub sender : List ℕ
   pub target : List ℕ
 
-abbrev pub party_from : ℕ → (Key → Option Pair) → Party
-party_from line pairs = record { line = line; begin = text_for (pairs key.BeginString); sender = text_for (pairs key.SenderCompID); target = text_for (pairs key.TargetCompID) }
+abbrev pub endpoints_from : ℕ → (Key → Option Pair) → Endpoints
+endpoints_from line pairs = record {
+  line = line;
+  begin = text_for (pairs key.BeginString);
+  sender = text_for (pairs key.SenderCompID);
+  target = text_for (pairs key.TargetCompID);
+}
 
-abbrev pub party_of : List Pair → Section → Party
-party_of defaults s = party_from s.line (pair_for defaults s.pairs)
+abbrev pub endpoints_of : List Pair → Section → Endpoints
+endpoints_of defaults s = endpoints_from s.line (pair_for defaults s.pairs)
 
-abbrev pub is_same : Party → Party → Bool
+abbrev pub is_same : Endpoints → Endpoints → Bool
 is_same p q = bytes_eq p.begin q.begin && (bytes_eq p.sender q.sender && bytes_eq p.target q.target)
 
 -- the first session that is between the same as one before it
-abbrev pub same_refusal : List Party → List Party → Option SettingsFault
+abbrev pub same_refusal : List Endpoints → List Endpoints → Option SettingsFault
 same_refusal before [] = None
-same_refusal before (p ∷ ps) = if list_any (is_same p) before then refused p.line cause.SameIdentity else same_refusal (before ++ p ∷ []) ps
+same_refusal before (p ∷ ps) = if list_any
+    (is_same p) before then refused p.line cause.SameIdentity else same_refusal (before ++ p ∷ []) ps
 
 abbrev pub sections_refusal : List Pair → List Section → Option SettingsFault
 sections_refusal defaults sections =
     option_or (count_refusal sections)
     (option_or (first_some (section_refusal defaults) sections)
-    (same_refusal [] (map (party_of defaults) sections)))
+    (same_refusal [] (map (endpoints_of defaults) sections)))
 
 abbrev pub lines_refusal : List Line → Option SettingsFault
 lines_refusal lines = option_or (line_refusal false lines) (sections_refusal (defaults_of lines) (sections_of lines))
@@ -175,7 +187,8 @@ pub record IsSession (defaults : List Pair) (section : Section) (s : SessionSett
 abbrev pub AreSessions : List Pair → List Section → List SessionSettings → Type 0
 AreSessions defaults [] sessions = sessions ≡ []
 AreSessions defaults (section ∷ sections) [] = ⊥
-AreSessions defaults (section ∷ sections) (s ∷ sessions) = IsSession defaults section s × AreSessions defaults sections sessions
+AreSessions defaults (section ∷ sections) (s ∷ sessions) = IsSession defaults section s
+    × AreSessions defaults sections sessions
 
 -- the sessions of a text
 abbrev pub AreSessionsOf : List ℕ → List SessionSettings → Type 0

@@ -14,49 +14,62 @@ pub record Rule : Type 0 where
   pub name : List ℕ
   pub form : Form
   pub required : Bool
-  pub standard : Option Value
-  pub beside : List Key
+  pub default : Option Value
+  pub needs_keys : List Key
 
-abbrev pub needed : List ℕ → Form → Rule
-needed name f = record { name = name; form = f; required = true; standard = None; beside = [] }
+abbrev pub required_key : List ℕ → Form → Rule
+required_key name f = record { name = name; form = f; required = true; default = None; needs_keys = [] }
 
-abbrev pub unset : List ℕ → Form → List Key → Rule
-unset name f beside = record { name = name; form = f; required = false; standard = None; beside = beside }
+abbrev pub optional_key : List ℕ → Form → List Key → Rule
+optional_key name f needs_keys = record {
+  name = name;
+  form = f;
+  required = false;
+  default = None;
+  needs_keys = needs_keys;
+}
 
-abbrev pub standing : List ℕ → Form → Value → Rule
-standing name f value = record { name = name; form = f; required = false; standard = Some value; beside = [] }
+abbrev pub key_with_default : List ℕ → Form → Value → Rule
+key_with_default name f value = record {
+  name = name;
+  form = f;
+  required = false;
+  default = Some value;
+  needs_keys = [];
+}
 
 abbrev pub rule_of : Key → Rule
-rule_of key.BeginString = needed (codes "BeginString") form.Version
-rule_of key.SenderCompID = needed (codes "SenderCompID") form.CompId
-rule_of key.TargetCompID = needed (codes "TargetCompID") form.CompId
-rule_of key.HeartBtInt = standing (codes "HeartBtInt") (form.Number 0 86400) (Number 30)
-rule_of key.StartTime = unset (codes "StartTime") form.Clock (key.EndTime ∷ [])
-rule_of key.EndTime = unset (codes "EndTime") form.Clock (key.StartTime ∷ [])
-rule_of key.StartDay = unset (codes "StartDay") form.Day (key.EndDay ∷ key.StartTime ∷ [])
-rule_of key.EndDay = unset (codes "EndDay") form.Day (key.StartDay ∷ key.StartTime ∷ [])
-rule_of key.TimeZone = standing (codes "TimeZone") form.Utc (Text (codes "UTC"))
-rule_of key.ZoneRule = unset (codes "ZoneRule") form.Rule []
-rule_of key.ReconnectInterval = standing (codes "ReconnectInterval") (form.Number 1 86400) (Number 30)
-rule_of key.LogonTimeout = standing (codes "LogonTimeout") (form.Number 1 86400) (Number 10)
-rule_of key.LogoutTimeout = standing (codes "LogoutTimeout") (form.Number 1 86400) (Number 2)
-rule_of key.ResetOnLogon = standing (codes "ResetOnLogon") form.No (Flag false)
-rule_of key.ResetOnLogout = standing (codes "ResetOnLogout") form.Flag (Flag false)
-rule_of key.ResetOnDisconnect = standing (codes "ResetOnDisconnect") form.Flag (Flag false)
-rule_of key.ResendRequestChunkSize = standing (codes "ResendRequestChunkSize") (form.Number 0 999999999) (Number 0)
-rule_of key.CheckLatency = standing (codes "CheckLatency") form.Flag (Flag true)
-rule_of key.MaxLatency = standing (codes "MaxLatency") (form.Number 1 86400) (Number 120)
-rule_of key.DataDictionary = unset (codes "DataDictionary") form.Text []
-rule_of key.ValidateFieldsOutOfOrder = standing (codes "ValidateFieldsOutOfOrder") form.Flag (Flag true)
-rule_of key.RejectInvalidMessage = standing (codes "RejectInvalidMessage") form.Flag (Flag true)
-rule_of key.PersistMessages = standing (codes "PersistMessages") form.Flag (Flag true)
-rule_of key.SocketConnectHost = unset (codes "SocketConnectHost") form.Text []
-rule_of key.SocketConnectPort = unset (codes "SocketConnectPort") form.Port []
-rule_of key.SocketAcceptHost = standing (codes "SocketAcceptHost") form.Text (Text (codes "127.0.0.1"))
-rule_of key.SocketAcceptPort = unset (codes "SocketAcceptPort") form.Port []
-rule_of key.FileStorePath = unset (codes "FileStorePath") form.Text []
-rule_of key.TimeStampPrecision = standing (codes "TimeStampPrecision") form.Precision (Fine Millis)
-rule_of key.AppTypes = unset (codes "AppTypes") form.Types []
+rule_of key.BeginString = required_key (codes "BeginString") form.Version
+rule_of key.SenderCompID = required_key (codes "SenderCompID") form.CompId
+rule_of key.TargetCompID = required_key (codes "TargetCompID") form.CompId
+rule_of key.HeartBtInt = key_with_default (codes "HeartBtInt") (form.Number 0 86400) (Number 30)
+rule_of key.StartTime = optional_key (codes "StartTime") form.Clock (key.EndTime ∷ [])
+rule_of key.EndTime = optional_key (codes "EndTime") form.Clock (key.StartTime ∷ [])
+rule_of key.StartDay = optional_key (codes "StartDay") form.Day (key.EndDay ∷ key.StartTime ∷ [])
+rule_of key.EndDay = optional_key (codes "EndDay") form.Day (key.StartDay ∷ key.StartTime ∷ [])
+rule_of key.TimeZone = key_with_default (codes "TimeZone") form.Utc (Text (codes "UTC"))
+rule_of key.ZoneRule = optional_key (codes "ZoneRule") form.Rule []
+rule_of key.ReconnectInterval = key_with_default (codes "ReconnectInterval") (form.Number 1 86400) (Number 30)
+rule_of key.LogonTimeout = key_with_default (codes "LogonTimeout") (form.Number 1 86400) (Number 10)
+rule_of key.LogoutTimeout = key_with_default (codes "LogoutTimeout") (form.Number 1 86400) (Number 2)
+rule_of key.ResetOnLogon = key_with_default (codes "ResetOnLogon") form.OnlyN (Flag false)
+rule_of key.ResetOnLogout = key_with_default (codes "ResetOnLogout") form.Flag (Flag false)
+rule_of key.ResetOnDisconnect = key_with_default (codes "ResetOnDisconnect") form.Flag (Flag false)
+rule_of key.ResendRequestChunkSize = key_with_default (codes "ResendRequestChunkSize") (form.Number 0 999999999)
+    (Number 0)
+rule_of key.CheckLatency = key_with_default (codes "CheckLatency") form.Flag (Flag true)
+rule_of key.MaxLatency = key_with_default (codes "MaxLatency") (form.Number 1 86400) (Number 120)
+rule_of key.DataDictionary = optional_key (codes "DataDictionary") form.Text []
+rule_of key.ValidateFieldsOutOfOrder = key_with_default (codes "ValidateFieldsOutOfOrder") form.Flag (Flag true)
+rule_of key.RejectInvalidMessage = key_with_default (codes "RejectInvalidMessage") form.Flag (Flag true)
+rule_of key.PersistMessages = key_with_default (codes "PersistMessages") form.Flag (Flag true)
+rule_of key.SocketConnectHost = optional_key (codes "SocketConnectHost") form.Text []
+rule_of key.SocketConnectPort = optional_key (codes "SocketConnectPort") form.Port []
+rule_of key.SocketAcceptHost = key_with_default (codes "SocketAcceptHost") form.Text (Text (codes "127.0.0.1"))
+rule_of key.SocketAcceptPort = optional_key (codes "SocketAcceptPort") form.Port []
+rule_of key.FileStorePath = optional_key (codes "FileStorePath") form.Text []
+rule_of key.TimeStampPrecision = key_with_default (codes "TimeStampPrecision") form.Precision (Fine Millis)
+rule_of key.AppTypes = optional_key (codes "AppTypes") form.Types []
 
 abbrev pub name_of : Key → List ℕ
 name_of k = (rule_of k).name

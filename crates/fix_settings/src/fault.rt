@@ -1,3 +1,4 @@
+//! What `Settings::read` answers where it fails. `judging` and `reading` find the reason.
 use crate::key::Key;
 
 /// Why a text is refused, and in which line.
@@ -23,6 +24,6 @@ pub enum SettingsCause {
     BadValue(Key),
     /// The same BeginString, SenderCompID and TargetCompID as a session before.
     SameIdentity,
-    /// Memory was refused; the line is 0.
+    /// Out of memory; the line is 0.
     OutOfMemory,
 }

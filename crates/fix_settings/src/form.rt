@@ -1,8 +1,12 @@
 //! The forms of values, and what a text of each says.
-ghost use Rattle.std.specs.Prelude.{◌≡◌, ◌+◌, ◌≤◌, ◌<◌, ◌==◌, ◌&&◌, not, nat_le, length, option_map, if◌then◌else◌, Some, None};
+ghost use Rattle.std.specs.Prelude.{◌≡◌, ◌+◌, ◌≤◌, ◌<◌, ◌==◌, ◌&&◌, not, nat_le, length, option_map, if◌then◌else◌};
+ghost use Rattle.std.specs.Prelude.{Some, None};
 ghost use Rattle.std.specs.List.{list_all, slice_split};
 ghost use Rattle.fix_base.specs.Says.{number_in as the_number};
-ghost use Rattle.fix_settings.specs.Forms.{version_in as the_version, is_two_at, two_at as the_two, clock_in as the_clock, day_name as the_day_name, is_day as the_is_day, day_in as the_day, flag_in as the_flag, precision_in as the_precision, is_type as the_is_type, text_if as the_text_if, value_in as the_value};
+ghost use Rattle.fix_settings.specs.Forms.{version_in as the_version, is_two_at, two_at as the_two};
+ghost use Rattle.fix_settings.specs.Forms.{clock_in as the_clock, day_name as the_day_name, is_day as the_is_day};
+ghost use Rattle.fix_settings.specs.Forms.{day_in as the_day, flag_in as the_flag, precision_in as the_precision};
+ghost use Rattle.fix_settings.specs.Forms.{is_type as the_is_type, text_if as the_text_if, value_in as the_value};
 ghost use Rattle.fix_settings.specs.Lines.{is_blank as the_blank};
 ghost use Rattle.fix_settings.specs.Lent.{value_read};
 
@@ -31,7 +35,7 @@ pub enum Form {
     /// `Y` or `N`.
     Flag,
     /// `N`.
-    No,
+    OnlyN,
     /// Any text but an empty one.
     Text,
     /// `SECONDS`, `MILLIS` or `MICROS`.
@@ -42,20 +46,71 @@ pub enum Form {
 
 /// A value without a copy, with its types held as `L`.
 #[derive(Clone, Copy)]
-pub enum Held<'a, L> {
+pub enum Setting<'a, L> {
     Version(Begin),
     Number(u32),
     Port(u16),
     Clock(u32),
     Day(u8),
     Flag(bool),
-    Fine(Precision),
+    Precision(Precision),
     Text(&'a [u8]),
     Types(L),
 }
 
 /// What a text says; its types are joined by commas.
-pub type Value<'a> = Held<'a, &'a [u8]>;
+pub type Value<'a> = Setting<'a, &'a [u8]>;
+
+const WEEK: [u8; 7] = [1, 2, 3, 4, 5, 6, 7];
+
+/// The name of a day of the week, from 1 for Monday to 7 for Sunday.
+pub fn day_name(day: u8) -> &'static [u8]
+    ensures name { result.now ≡ the_day_name day }
+    ensures long { 3 ≤ length result.now }
+{
+    match day {
+        1 => b"Monday",
+        2 => b"Tuesday",
+        3 => b"Wednesday",
+        4 => b"Thursday",
+        5 => b"Friday",
+        6 => b"Saturday",
+        _ => b"Sunday",
+    }
+}
+
+/// What a text of this form says, or None where it is none.
+pub fn value_in(form: Form, text: &[u8]) -> Option<Value<'_>>
+    ensures { option_map value_read result ≡ the_value form text.now }
+{
+    match form {
+        Form::Version => Some(Value::Version(version_in(text)?)),
+        Form::CompId => text_if(is_comp_id(text), text),
+        Form::Number { low, high } => Some(Value::Number(number_in(text, low, high)?)),
+        Form::Port => Some(Value::Port(port_in(text)?)),
+        Form::Clock => Some(Value::Clock(clock_in(text)?)),
+        Form::Day => Some(Value::Day(day_in(text)?)),
+        Form::Utc => text_if(text == b"UTC".as_slice(), text),
+        Form::Rule => Some(Value::Text(text)),
+        Form::Flag => Some(Value::Flag(flag_in(text)?)),
+        Form::OnlyN => {
+            if text == b"N".as_slice() {
+                Some(Value::Flag(false))
+            } else {
+                None
+            }
+        }
+        Form::Text => text_if(!text.is_empty(), text),
+        Form::Precision => Some(Value::Precision(precision_in(text)?)),
+        Form::Types => {
+            if are_types(text) {
+                Some(Value::Types(text))
+            } else {
+                None
+            }
+        }
+    }
+}
 
 // BeginString (8).
 fn version_in(text: &[u8]) -> Option<Begin>
@@ -117,7 +172,7 @@ fn two_at(text: &[u8], at: usize, last: u32) -> Option<u32>
     Some(number)
 }
 
-// HH:MM:SS, as the seconds behind midnight.
+// HH:MM:SS, as the seconds after midnight.
 fn clock_in(text: &[u8]) -> Option<u32>
     ensures { result ≡ the_clock text.now }
 {
@@ -130,22 +185,6 @@ fn clock_in(text: &[u8]) -> Option<u32>
     Some(hours * 3600 + minutes * 60 + seconds)
 }
 
-/// The name of a day of the week, from 1 for Monday to 7 for Sunday.
-pub fn day_name(day: u8) -> &'static [u8]
-    ensures name { result.now ≡ the_day_name day }
-    ensures long { 3 ≤ length result.now }
-{
-    match day {
-        1 => b"Monday",
-        2 => b"Tuesday",
-        3 => b"Wednesday",
-        4 => b"Thursday",
-        5 => b"Friday",
-        6 => b"Saturday",
-        _ => b"Sunday",
-    }
-}
-
 // Whether the text is the day's name, whole or its first three letters, in any case.
 fn is_day(text: &[u8], day: u8) -> bool
     ensures { result ≡ the_is_day text.now day }
@@ -153,8 +192,6 @@ fn is_day(text: &[u8], day: u8) -> bool
     let name = day_name(day);
     text.eq_ignore_ascii_case(name) || text.eq_ignore_ascii_case(&name[..3])
 }
-
-const WEEK: [u8; 7] = [1, 2, 3, 4, 5, 6, 7];
 
 fn day_in(text: &[u8]) -> Option<u8>
     ensures { result ≡ the_day text.now }
@@ -229,38 +266,5 @@ fn text_if<'a>(passes: bool, text: &'a [u8]) -> Option<Value<'a>>
         Some(Value::Text(text))
     } else {
         None
-    }
-}
-
-/// What a text of this form says, or None where it is none.
-pub fn value_in(form: Form, text: &[u8]) -> Option<Value<'_>>
-    ensures { option_map value_read result ≡ the_value form text.now }
-{
-    match form {
-        Form::Version => Some(Value::Version(version_in(text)?)),
-        Form::CompId => text_if(is_comp_id(text), text),
-        Form::Number { low, high } => Some(Value::Number(number_in(text, low, high)?)),
-        Form::Port => Some(Value::Port(port_in(text)?)),
-        Form::Clock => Some(Value::Clock(clock_in(text)?)),
-        Form::Day => Some(Value::Day(day_in(text)?)),
-        Form::Utc => text_if(text == b"UTC".as_slice(), text),
-        Form::Rule => Some(Value::Text(text)),
-        Form::Flag => Some(Value::Flag(flag_in(text)?)),
-        Form::No => {
-            if text == b"N".as_slice() {
-                Some(Value::Flag(false))
-            } else {
-                None
-            }
-        }
-        Form::Text => text_if(!text.is_empty(), text),
-        Form::Precision => Some(Value::Fine(precision_in(text)?)),
-        Form::Types => {
-            if are_types(text) {
-                Some(Value::Types(text))
-            } else {
-                None
-            }
-        }
     }
 }

@@ -1,3 +1,4 @@
+//! The keys that have a meaning here, and their order. `table` has a row for each.
 ghost use Rattle.std.specs.Prelude.{◌≡◌, ◌<◌};
 ghost use Rattle.fix_settings.specs.Table.{index_of};
 

@@ -1,6 +1,8 @@
 //! The lines of a text, and what each is.
 ghost use Rattle.std.specs.Prelude.{◌≡◌, ◌↔◌, ◌+◌, ◌≤◌, ◌<◌, ◌^◌, ℕ, IsTrue, IfOk, List, length, map, option_map};
-ghost use Rattle.fix_settings.specs.Lines.{is_blank as the_blank, trim_front, trim_back, trimmed as the_trimmed, cut_at as the_cut, pair_in as the_pair, line_of as the_line, IsCut, read_lines as the_lines};
+ghost use Rattle.fix_settings.specs.Lines.{is_blank as the_blank, trim_front, trim_back, trimmed as the_trimmed};
+ghost use Rattle.fix_settings.specs.Lines.{cut_at as the_cut, pair_in as the_pair, line_of as the_line, IsCut};
+ghost use Rattle.fix_settings.specs.Lines.{read_lines as the_lines};
 ghost use Rattle.fix_settings.specs.Lent.{line_read, lines_read};
 
 use std::alloc::{AllocError, Global};
@@ -36,6 +38,35 @@ pub fn is_blank(byte: u8) -> bool
     byte == b' ' || (byte == b'\t' || byte == b'\r')
 }
 
+/// What stands before the first of these bytes, and what after it.
+pub fn cut_at(bytes: &[u8], byte: u8) -> Option<(&[u8], &[u8])>
+    ensures { option_map (λ parts. (parts.0.now, parts.1.now)) result ≡ the_cut byte bytes.now }
+{
+    for (at, b) in bytes.iter().enumerate() {
+        if *b == byte {
+            return Some((&bytes[..at], &bytes[at + 1..]));
+        }
+    }
+    None
+}
+
+/// What the lines of a text are, in order.
+pub fn lines_of(alloc: Global, text: &[u8]) -> Result<Vec<LineRef<'_>>, AllocError>
+    requires { length text.now < 2 ^ 32 }
+    ensures { IfOk result (λ lines. lines_read lines.items ≡ the_lines text.now) }
+{
+    let mut lines = Vec::new(alloc);
+    let mut rest = text;
+    let mut line: u64 = 1;
+    while !rest.is_empty() {
+        let (first, behind) = first_line(rest);
+        lines.push(line_of(line as u32, first))?;
+        rest = behind;
+        line += 1;
+    }
+    Ok(lines)
+}
+
 fn without_front(bytes: &[u8]) -> &[u8]
     ensures { result.now ≡ trim_front bytes.now }
 {
@@ -67,18 +98,6 @@ fn trimmed(bytes: &[u8]) -> &[u8]
     ensures { result.now ≡ the_trimmed bytes.now }
 {
     without_back(without_front(bytes))
-}
-
-/// What stands before the first of these bytes, and what behind it.
-pub fn cut_at(bytes: &[u8], byte: u8) -> Option<(&[u8], &[u8])>
-    ensures { option_map (λ parts. (parts.0.now, parts.1.now)) result ≡ the_cut byte bytes.now }
-{
-    for (at, b) in bytes.iter().enumerate() {
-        if *b == byte {
-            return Some((&bytes[..at], &bytes[at + 1..]));
-        }
-    }
-    None
 }
 
 fn pair_in(line: u32, bytes: &[u8]) -> LineRef<'_>
@@ -117,7 +136,7 @@ fn line_of(line: u32, bytes: &[u8]) -> LineRef<'_>
     }
 }
 
-// The first line without its LF, and the bytes behind it.
+// The first line without its LF, and the bytes after it.
 fn first_line(text: &[u8]) -> (&[u8], &[u8])
     requires { 0 < length text.now }
     ensures { IsCut text.now result.0.now result.1.now }
@@ -126,21 +145,4 @@ fn first_line(text: &[u8]) -> (&[u8], &[u8])
         Some(parts) => parts,
         None => (text, &[]),
     }
-}
-
-/// What the lines of a text are, in order.
-pub fn lines_of(alloc: Global, text: &[u8]) -> Result<Vec<LineRef<'_>>, AllocError>
-    requires { length text.now < 2 ^ 32 }
-    ensures { IfOk result (λ lines. lines_read lines.items ≡ the_lines text.now) }
-{
-    let mut lines = Vec::new(alloc);
-    let mut rest = text;
-    let mut line: u64 = 1;
-    while !rest.is_empty() {
-        let (first, behind) = first_line(rest);
-        lines.push(line_of(line as u32, first))?;
-        rest = behind;
-        line += 1;
-    }
-    Ok(lines)
 }

@@ -6,7 +6,8 @@ ghost use Rattle.fix_settings.specs.Lent.{value_read, pair_read, pairs_read};
 ghost use Rattle.fix_settings.specs.Table.{rule_of, setting_of};
 ghost use Rattle.fix_settings.specs.Reading.{value_from};
 ghost use Rattle.fix_settings.specs.Lent.{pair_at as the_pair_at};
-ghost use Rattle.fix_settings.specs.Typed.{version_of, number_of, flag_of, precision_of, text_of, port_if, clock_if, day_if, text_if, types_if, shaped};
+ghost use Rattle.fix_settings.specs.Typed.{version_of, number_of, flag_of, precision_of, text_of, port_if};
+ghost use Rattle.fix_settings.specs.Typed.{clock_if, day_if, text_if, types_if, shaped};
 
 use crate::SessionSettings;
 use crate::form::{Value, value_in};
@@ -24,6 +25,53 @@ pub fn pair_at<'a>(pairs: &[Option<PairRef<'a>>], key: Key) -> Option<PairRef<'a
     pairs[key.index()]
 }
 
+/// The settings that these pairs make, one for each key in the table's order.
+pub fn settings_from(
+    alloc: Global,
+    pairs: &[Option<PairRef<'_>>],
+    ignored: Vec<Bytes>,
+) -> Result<SessionSettings, AllocError>
+    requires { length pairs.now ≡ 30 }
+    ensures each { IfOk result
+        (λ made. (k : TheKey) → setting_of made k
+        ≡ shaped k (value_from (rule_of k) (the_pair_at (pairs_read pairs.now) k))) }
+    ensures ignored { IfOk result (λ made. made.ignored.items ≡ ignored.items) }
+{
+    Ok(SessionSettings {
+        begin_string: version(value_of(pairs, Key::BeginString)),
+        sender_comp_id: text(alloc, value_of(pairs, Key::SenderCompID))?,
+        target_comp_id: text(alloc, value_of(pairs, Key::TargetCompID))?,
+        heart_bt_int: number(value_of(pairs, Key::HeartBtInt)),
+        start_time: clock(value_of(pairs, Key::StartTime)),
+        end_time: clock(value_of(pairs, Key::EndTime)),
+        start_day: day(value_of(pairs, Key::StartDay)),
+        end_day: day(value_of(pairs, Key::EndDay)),
+        time_zone: text(alloc, value_of(pairs, Key::TimeZone))?,
+        zone_rule: text_option(alloc, value_of(pairs, Key::ZoneRule))?,
+        reconnect_interval: number(value_of(pairs, Key::ReconnectInterval)),
+        logon_timeout: number(value_of(pairs, Key::LogonTimeout)),
+        logout_timeout: number(value_of(pairs, Key::LogoutTimeout)),
+        reset_on_logon: flag(value_of(pairs, Key::ResetOnLogon)),
+        reset_on_logout: flag(value_of(pairs, Key::ResetOnLogout)),
+        reset_on_disconnect: flag(value_of(pairs, Key::ResetOnDisconnect)),
+        resend_request_chunk_size: number(value_of(pairs, Key::ResendRequestChunkSize)),
+        check_latency: flag(value_of(pairs, Key::CheckLatency)),
+        max_latency: number(value_of(pairs, Key::MaxLatency)),
+        data_dictionary: text_option(alloc, value_of(pairs, Key::DataDictionary))?,
+        validate_fields_out_of_order: flag(value_of(pairs, Key::ValidateFieldsOutOfOrder)),
+        reject_invalid_message: flag(value_of(pairs, Key::RejectInvalidMessage)),
+        persist_messages: flag(value_of(pairs, Key::PersistMessages)),
+        socket_connect_host: text_option(alloc, value_of(pairs, Key::SocketConnectHost))?,
+        socket_connect_port: port(value_of(pairs, Key::SocketConnectPort)),
+        socket_accept_host: text(alloc, value_of(pairs, Key::SocketAcceptHost))?,
+        socket_accept_port: port(value_of(pairs, Key::SocketAcceptPort)),
+        file_store_path: text_option(alloc, value_of(pairs, Key::FileStorePath))?,
+        time_stamp_precision: precision(value_of(pairs, Key::TimeStampPrecision)),
+        app_types: types_option(alloc, value_of(pairs, Key::AppTypes))?,
+        ignored,
+    })
+}
+
 // What the pair for a key says, else what the table has for a session without one.
 fn value_of<'a>(pairs: &[Option<PairRef<'a>>], key: Key) -> Option<Value<'a>>
     requires { length pairs.now ≡ 30 }
@@ -31,7 +79,7 @@ fn value_of<'a>(pairs: &[Option<PairRef<'a>>], key: Key) -> Option<Value<'a>>
 {
     let row = row_of(key);
     match pair_at(pairs, key) {
-        None => row.standard,
+        None => row.default,
         Some(pair) => value_in(row.form, pair.value),
     }
 }
@@ -67,7 +115,7 @@ fn precision(value: Option<Value<'_>>) -> Precision
     ensures { result ≡ precision_of (option_map value_read value.entry) }
 {
     match value {
-        Some(Value::Fine(x)) => x,
+        Some(Value::Precision(x)) => x,
         _ => Precision::Millis,
     }
 }
@@ -141,7 +189,8 @@ fn pieces(alloc: Global, text: &[u8]) -> Result<Vec<Bytes>, AllocError>
 }
 
 fn types_option(alloc: Global, value: Option<Value<'_>>) -> Result<Option<Vec<Bytes>>, AllocError>
-    ensures { IfOk result (λ made. option_map (λ types. types.items) made ≡ types_if (option_map value_read value.entry)) }
+    ensures { IfOk result
+        (λ made. option_map (λ types. types.items) made ≡ types_if (option_map value_read value.entry)) }
 {
     match value {
         Some(Value::Types(text)) => {
@@ -150,49 +199,4 @@ fn types_option(alloc: Global, value: Option<Value<'_>>) -> Result<Option<Vec<By
         }
         _ => Ok(None),
     }
-}
-
-/// The settings that these pairs make, one for each key in the table's order.
-pub fn settings_from(
-    alloc: Global,
-    pairs: &[Option<PairRef<'_>>],
-    ignored: Vec<Bytes>,
-) -> Result<SessionSettings, AllocError>
-    requires { length pairs.now ≡ 30 }
-    ensures each { IfOk result (λ made. (k : TheKey) → setting_of made k ≡ shaped k (value_from (rule_of k) (the_pair_at (pairs_read pairs.now) k))) }
-    ensures ignored { IfOk result (λ made. made.ignored.items ≡ ignored.items) }
-{
-    Ok(SessionSettings {
-        begin_string: version(value_of(pairs, Key::BeginString)),
-        sender_comp_id: text(alloc, value_of(pairs, Key::SenderCompID))?,
-        target_comp_id: text(alloc, value_of(pairs, Key::TargetCompID))?,
-        heart_bt_int: number(value_of(pairs, Key::HeartBtInt)),
-        start_time: clock(value_of(pairs, Key::StartTime)),
-        end_time: clock(value_of(pairs, Key::EndTime)),
-        start_day: day(value_of(pairs, Key::StartDay)),
-        end_day: day(value_of(pairs, Key::EndDay)),
-        time_zone: text(alloc, value_of(pairs, Key::TimeZone))?,
-        zone_rule: text_option(alloc, value_of(pairs, Key::ZoneRule))?,
-        reconnect_interval: number(value_of(pairs, Key::ReconnectInterval)),
-        logon_timeout: number(value_of(pairs, Key::LogonTimeout)),
-        logout_timeout: number(value_of(pairs, Key::LogoutTimeout)),
-        reset_on_logon: flag(value_of(pairs, Key::ResetOnLogon)),
-        reset_on_logout: flag(value_of(pairs, Key::ResetOnLogout)),
-        reset_on_disconnect: flag(value_of(pairs, Key::ResetOnDisconnect)),
-        resend_request_chunk_size: number(value_of(pairs, Key::ResendRequestChunkSize)),
-        check_latency: flag(value_of(pairs, Key::CheckLatency)),
-        max_latency: number(value_of(pairs, Key::MaxLatency)),
-        data_dictionary: text_option(alloc, value_of(pairs, Key::DataDictionary))?,
-        validate_fields_out_of_order: flag(value_of(pairs, Key::ValidateFieldsOutOfOrder)),
-        reject_invalid_message: flag(value_of(pairs, Key::RejectInvalidMessage)),
-        persist_messages: flag(value_of(pairs, Key::PersistMessages)),
-        socket_connect_host: text_option(alloc, value_of(pairs, Key::SocketConnectHost))?,
-        socket_connect_port: port(value_of(pairs, Key::SocketConnectPort)),
-        socket_accept_host: text(alloc, value_of(pairs, Key::SocketAcceptHost))?,
-        socket_accept_port: port(value_of(pairs, Key::SocketAcceptPort)),
-        file_store_path: text_option(alloc, value_of(pairs, Key::FileStorePath))?,
-        time_stamp_precision: precision(value_of(pairs, Key::TimeStampPrecision)),
-        app_types: types_option(alloc, value_of(pairs, Key::AppTypes))?,
-        ignored,
-    })
 }

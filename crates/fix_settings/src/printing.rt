@@ -9,10 +9,38 @@ ghost use Rattle.fix_settings.specs.Printing.{setting_line, ignored_line, sessio
 use crate::SessionSettings;
 use crate::form::day_name;
 use crate::key::{KEYS, Key};
-use crate::table::{Shown, row_of, setting};
+use crate::table::{SettingRef, row_of, setting};
 use fix_base::{Bytes, Precision};
 use itoa::Buffer;
 use std::alloc::AllocError;
+
+/// A line for a key that has a value.
+pub fn put_setting(
+    out: &mut Vec<u8>,
+    settings: &SessionSettings,
+    key: Key,
+) -> Result<(), AllocError>
+    ensures { OnOk result (out.new.items ≡ out.old.items ++ setting_line key (setting_of settings.now key)) }
+{
+    let Some(value) = setting(settings, key) else {
+        return Ok(());
+    };
+    out.extend_from_slice(row_of(key).name)?;
+    out.push(b'=')?;
+    put_value(out, value)?;
+    out.push(b'\n')?;
+    Ok(())
+}
+
+/// Adds the text of the sessions.
+pub fn put_sessions(out: &mut Vec<u8>, sessions: &[SessionSettings]) -> Result<(), AllocError>
+    ensures { OnOk result (out.new.items ≡ out.old.items ++ settings_text sessions.now) }
+{
+    for settings in sessions {
+        put_session(out, settings)?;
+    }
+    Ok(())
+}
 
 fn put_number(out: &mut Vec<u8>, number: u32) -> Result<(), AllocError>
     ensures { OnOk result (out.new.items ≡ out.old.items ++ decimal number) }
@@ -31,7 +59,7 @@ fn put_two(out: &mut Vec<u8>, number: u32) -> Result<(), AllocError>
     Ok(())
 }
 
-// Seconds behind midnight as HH:MM:SS.
+// Seconds after midnight as HH:MM:SS.
 fn put_clock(out: &mut Vec<u8>, seconds: u32) -> Result<(), AllocError>
     ensures { OnOk result (out.new.items ≡ out.old.items ++ clock_text seconds) }
 {
@@ -70,7 +98,7 @@ fn put_types(out: &mut Vec<u8>, types: &[Bytes]) -> Result<(), AllocError>
     put_more_types(out, rest)
 }
 
-// Each behind a comma.
+// Each after a comma.
 fn put_more_types(out: &mut Vec<u8>, types: &[Bytes]) -> Result<(), AllocError>
     ensures { OnOk result (out.new.items ≡ out.old.items ++ flat_map (λ t. 44 ∷ [] ++ t) types.now) }
 {
@@ -81,38 +109,20 @@ fn put_more_types(out: &mut Vec<u8>, types: &[Bytes]) -> Result<(), AllocError>
     Ok(())
 }
 
-fn put_value(out: &mut Vec<u8>, value: Shown<'_>) -> Result<(), AllocError>
+fn put_value(out: &mut Vec<u8>, value: SettingRef<'_>) -> Result<(), AllocError>
     ensures { OnOk result (out.new.items ≡ out.old.items ++ value_text (shown_read value.entry)) }
 {
     match value {
-        Shown::Version(begin) => out.extend_from_slice(begin.text()),
-        Shown::Number(number) => put_number(out, number),
-        Shown::Port(port) => put_number(out, u32::from(port)),
-        Shown::Clock(seconds) => put_clock(out, seconds),
-        Shown::Day(day) => out.extend_from_slice(day_name(day)),
-        Shown::Flag(on) => out.extend_from_slice(flag_of(on)),
-        Shown::Fine(precision) => out.extend_from_slice(precision_of(precision)),
-        Shown::Text(text) => out.extend_from_slice(text),
-        Shown::Types(types) => put_types(out, types),
+        SettingRef::Version(begin) => out.extend_from_slice(begin.text()),
+        SettingRef::Number(number) => put_number(out, number),
+        SettingRef::Port(port) => put_number(out, u32::from(port)),
+        SettingRef::Clock(seconds) => put_clock(out, seconds),
+        SettingRef::Day(day) => out.extend_from_slice(day_name(day)),
+        SettingRef::Flag(on) => out.extend_from_slice(flag_of(on)),
+        SettingRef::Precision(precision) => out.extend_from_slice(precision_of(precision)),
+        SettingRef::Text(text) => out.extend_from_slice(text),
+        SettingRef::Types(types) => put_types(out, types),
     }
-}
-
-/// A line for a key that has a value.
-pub fn put_setting(
-    out: &mut Vec<u8>,
-    settings: &SessionSettings,
-    key: Key,
-) -> Result<(), AllocError>
-    ensures { OnOk result (out.new.items ≡ out.old.items ++ setting_line key (setting_of settings.now key)) }
-{
-    let Some(value) = setting(settings, key) else {
-        return Ok(());
-    };
-    out.extend_from_slice(row_of(key).name)?;
-    out.push(b'=')?;
-    put_value(out, value)?;
-    out.push(b'\n')?;
-    Ok(())
 }
 
 fn put_settings(
@@ -120,7 +130,8 @@ fn put_settings(
     settings: &SessionSettings,
     keys: &[Key],
 ) -> Result<(), AllocError>
-    ensures { OnOk result (out.new.items ≡ out.old.items ++ flat_map (λ k. setting_line k (setting_of settings.now k)) keys.now) }
+    ensures { OnOk result (out.new.items ≡ out.old.items
+        ++ flat_map (λ k. setting_line k (setting_of settings.now k)) keys.now) }
 {
     for key in keys {
         put_setting(out, settings, *key)?;
@@ -146,14 +157,4 @@ fn put_session(out: &mut Vec<u8>, settings: &SessionSettings) -> Result<(), Allo
     out.extend_from_slice(b"[SESSION]\n")?;
     put_settings(out, settings, &KEYS)?;
     put_ignored(out, &settings.ignored)
-}
-
-/// Adds the text of the sessions.
-pub fn put_sessions(out: &mut Vec<u8>, sessions: &[SessionSettings]) -> Result<(), AllocError>
-    ensures { OnOk result (out.new.items ≡ out.old.items ++ settings_text sessions.now) }
-{
-    for settings in sessions {
-        put_session(out, settings)?;
-    }
-    Ok(())
 }

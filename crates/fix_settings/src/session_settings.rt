@@ -1,3 +1,5 @@
+//! What is read for one session. `making` fills it, `printing` writes it, and fix_schedule takes the hours
+//! from it.
 use fix_base::{Begin, Bytes, Precision};
 
 /// The settings of one session: a field for each key, by its name. An Option is None where the key
@@ -12,9 +14,9 @@ pub struct SessionSettings {
     pub target_comp_id: Bytes,
     /// HeartBtInt (108) in seconds, 0 to 86400; 0 for no heartbeats.
     pub heart_bt_int: u32,
-    /// When the session's window opens, in seconds behind midnight.
+    /// When the session's window opens, in seconds after midnight.
     pub start_time: Option<u32>,
-    /// When the session's window closes, in seconds behind midnight; there just where StartTime is.
+    /// When the session's window closes, in seconds after midnight; there just where StartTime is.
     pub end_time: Option<u32>,
     /// The day of the week on which a window opens, from 1 for Monday to 7 for Sunday; only with StartTime.
     pub start_day: Option<u8>,
@@ -32,7 +34,7 @@ pub struct SessionSettings {
     pub logout_timeout: u32,
     /// Whether both ends begin with number 1 at each Logon; not served yet, so false.
     pub reset_on_logon: bool,
-    /// Whether the store is reset behind a Logout.
+    /// Whether the store is reset after a Logout.
     pub reset_on_logout: bool,
     /// Whether the store is reset where the connection ends.
     pub reset_on_disconnect: bool,

@@ -1,3 +1,4 @@
+//! The calls of this crate, for who reads or prints settings. Each runs a stage: `reading` or `printing`.
 ghost use Rattle.std.specs.Prelude.{◌≡◌, ◌<◌, ◌^◌, IfOk, IfErr, List, length};
 ghost use Rattle.fix_settings.specs.declared.session_settings.SessionSettings.{SessionSettings as TheSession};
 ghost use Rattle.fix_settings.specs.Printing.{settings_text};

@@ -1,3 +1,4 @@
+//! That texts are read and printed, or refused with their line and key.
 use super::*;
 use fix_base::{Begin, Precision};
 use std::alloc::Global;

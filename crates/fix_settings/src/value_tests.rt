@@ -8,7 +8,7 @@ use std::process::Abort;
 use std::test::Fail;
 
 // The lines that belong beside one for this key.
-fn beside(key: Key) -> &'static str {
+fn needs_keys(key: Key) -> &'static str {
     match key {
         Key::StartTime => "EndTime=00:00:00\n",
         Key::EndTime => "StartTime=00:00:00\n",
@@ -29,7 +29,7 @@ fn session_with(alloc: Global, key: Key, value: &str) -> Result<String, Fail> {
     text.push_str("=")?;
     text.push_str(value)?;
     text.push_str("\n")?;
-    text.push_str(beside(key))?;
+    text.push_str(needs_keys(key))?;
     Ok(text)
 }
 

@@ -6,7 +6,7 @@ use Rattle.fix_base.specs.declared.entry.Record.{Record}
 use Rattle.fix_base.specs.declared.entry.Record.TheVariants.{Push, Expect, Many, Withhold, Reset, ResetAsk, Confirm}
 use Rattle.fix_base.specs.End.{End, new_end, folded, folded_all, IsEntry}
 use Rattle.fix_base.specs.Payload.{HasPayload}
-use Rattle.fix_disk.specs.Disk.{DiskSeen, IsLawful, LeavesAsIs}
+use Rattle.fix_disk.specs.Disk.{DiskSeen, IsLawfulDisk, LeavesAsIs}
 use Rattle.fix_journal.specs.Format.{IsJournal, HasRecords}
 use Rattle.fix_journal.specs.AtRest.{IsEither}
 use Rattle.fix_journal.specs.Journal.{JournalSeen, Holds, Lasts, JournalReads}
@@ -121,7 +121,7 @@ module _ {D : Type 0} (disk : D → DiskSeen) (journal : JournalSeen D) (f : Fol
     }
 
 -- a call that is refused before the disk is called
-module _ {D : Type 0} (disk : D → DiskSeen) (journal : JournalSeen D) (f : Fold) (sound : IsSound disk journal f false) (r : Record) (laws : IsLawful (disk journal.disk)) where
+module _ {D : Type 0} (disk : D → DiskSeen) (journal : JournalSeen D) (f : Fold) (sound : IsSound disk journal f false) (r : Record) (laws : IsLawfulDisk (disk journal.disk)) where
   here : (e : End) → HoldsEnd (disk journal.disk) e → (disk journal.disk).TellsImages → (c : List ℕ) → (disk journal.disk).image c → IsEitherEnd e r c
   here e holds images c left =
       let k = sound.kept refl (tells (disk journal.disk) e holds) in

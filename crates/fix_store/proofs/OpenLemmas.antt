@@ -3,7 +3,7 @@ use Rattle.std.proofs.Common.{◌≡◌, inl, inr, ℕ, ◌≤◌, Bool, List, [
 use Rattle.std.specs.Prelude.{map, IfSome, IsSome, is_some, slice_index}
 use Rattle.fix_base.specs.declared.entry.Record.{Record}
 use Rattle.fix_base.specs.End.{End, new_end, folded_all}
-use Rattle.fix_disk.specs.Disk.{DiskSeen, IsLawful}
+use Rattle.fix_disk.specs.Disk.{DiskSeen, IsLawfulDisk}
 use Rattle.fix_journal.specs.declared.fault.OpenFault.{OpenFault}
 use Rattle.fix_journal.specs.declared.fault.OpenFault.TheVariants.{DiskFault, Damaged, OutOfMemory}
 use Rattle.fix_journal.specs.Format.{front, IsMade, IsJournal, HasRecords}
@@ -32,7 +32,7 @@ made_of file ps j = (
 
 -- ---- what it does to the disk
 
-module _ (old mid new : DiskSeen) (laws : IsLawful mid) (opens : Opens None old mid) where
+module _ (old mid new : DiskSeen) (laws : IsLawfulDisk mid) (opens : Opens None old mid) where
   pub opens_then : (fault : Option OpenFault) → Reads (open_failures fault) mid new → StaysWithoutMemory fault old new → KeepsWhereOpened fault old new → Opens fault old new
   opens_then fault reads stays behind = record {
     made_same = told_case old.bytes (λ file. IsMade file → new.bytes ≡ old.bytes) (λ file is made. reads.same.bytes ∙ subst (λ o. IfSome o (λ f. IsMade f → mid.bytes ≡ old.bytes)) is opens.made_same made);

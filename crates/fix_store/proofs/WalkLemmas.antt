@@ -5,7 +5,7 @@ use Rattle.std.proofs.lemmas.List.{length-take-le, take_all}
 use Rattle.std.proofs.lemmas.List.Elements.{All-nil}
 use Rattle.fix_base.specs.declared.entry.Record.{Record}
 use Rattle.fix_base.specs.End.{new_end, folded_all}
-use Rattle.fix_disk.specs.Disk.{DiskSeen, IsLawful}
+use Rattle.fix_disk.specs.Disk.{DiskSeen, IsLawfulDisk}
 use Rattle.fix_journal.specs.declared.fault.OpenFault.{OpenFault}
 use Rattle.fix_journal.specs.declared.fault.OpenFault.TheVariants.{DiskFault, Damaged, OutOfMemory}
 use Rattle.fix_journal.specs.Format.{front}
@@ -40,7 +40,7 @@ take_more (y ∷ xs) (suc i) x is = ap (λ l. y ∷ l) (take_more xs i x is)
 
 -- ---- calls that read
 
-pub reads_none : (seen : DiskSeen) → IsLawful seen → Reads 0 seen seen
+pub reads_none : (seen : DiskSeen) → IsLawfulDisk seen → Reads 0 seen seen
 reads_none seen laws = record {
   same = record { bytes = refl; images = λ told c. (λ left. left, λ left. left) };
   any_moment = started seen seen.image laws (λ p c left. left);
@@ -49,7 +49,7 @@ reads_none seen laws = record {
   room = record { same = refl; need = λ some. absurd (omega (arith, some)) };
 }
 
-pub reads_then : (n : ℕ) (old mid new : DiskSeen) → IsLawful mid → Reads 0 old mid → Reads n mid new → Reads n old new
+pub reads_then : (n : ℕ) (old mid new : DiskSeen) → IsLawfulDisk mid → Reads 0 old mid → Reads n mid new → Reads n old new
 reads_then n old mid new laws first second = record {
   same = record {
     bytes = second.same.bytes ∙ first.same.bytes;
@@ -73,7 +73,7 @@ pub record IsWalking {D : Type 0} (disk : D → DiskSeen) (old now : JournalSeen
   pub found : (payloads : List (List ℕ)) → Holds (disk old.disk) payloads → index ≤ length payloads → (records : List Record) × (take index payloads ≡ map spelled records) × IsFoldOf records f
   pub reads : Reads 0 (disk old.disk) (disk now.disk)
 
-pub walk_begins : {D : Type 0} (disk : D → DiskSeen) (old : JournalSeen D) (f : Fold) → IsLawful (disk old.disk) → old.stopped ≡ false → f ≡ new_fold → IsWalking disk old old 0 f
+pub walk_begins : {D : Type 0} (disk : D → DiskSeen) (old : JournalSeen D) (f : Fold) → IsLawfulDisk (disk old.disk) → old.stopped ≡ false → f ≡ new_fold → IsWalking disk old old 0 f
 walk_begins disk old f laws still new = record {
   goes_on = record { count = refl; stopped = still };
   within = subst (λ g. IsWithin g 0) (sym new) (record { few = omega arith; expected = (omega arith, omega arith); since = tt; each = All-nil (λ i. i < 0) });
@@ -81,7 +81,7 @@ walk_begins disk old f laws still new = record {
   reads = reads_none (disk old.disk) laws;
 }
 
-module _ {D : Type 0} (disk : D → DiskSeen) (old now : JournalSeen D) (index : ℕ) (f : Fold) (laws : IsLawful (disk now.disk)) (walk : IsWalking disk old now index f) where
+module _ {D : Type 0} (disk : D → DiskSeen) (old now : JournalSeen D) (index : ℕ) (f : Fold) (laws : IsLawfulDisk (disk now.disk)) (walk : IsWalking disk old now index f) where
   -- the file is still the one that was held
   still_holds : (payloads : List (List ℕ)) → Holds (disk old.disk) payloads → Holds (disk now.disk) payloads
   still_holds payloads holds = (holds.0, walk.reads.same.bytes ∙ holds.1, holds.2)

@@ -15,7 +15,8 @@ record_in [] = Expect 1
 record_in (mark ∷ rest) =
     if mark == 1 then Push (App (from_be_bytes w64 (take 8 rest)) Caller (drop 8 rest))
     else (if mark == 2 then Push (App (from_be_bytes w64 (take 8 rest)) Engine (drop 8 rest))
-    else (if mark == 3 then Push (Admin (from_be_bytes w64 (take 8 rest)) (slice_index rest 8) (from_be_bytes w32 (drop 9 rest)))
+    else (if mark == 3 then Push
+    (Admin (from_be_bytes w64 (take 8 rest)) (slice_index rest 8) (from_be_bytes w32 (drop 9 rest)))
     else (if mark == 4 then Expect (from_be_bytes w32 rest) else Reset (from_be_bytes w64 rest))))
 
 -- the end of a file that has one

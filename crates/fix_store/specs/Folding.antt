@@ -1,12 +1,13 @@
 -- What a store keeps in memory of its records, and how a walk over the records makes it.
-use Rattle.std.specs.Prelude.{◌≡◌, ◌↔◌, ℕ, ◌<◌, ◌≤◌, Bool, true, false, List, [], ◌∷◌, ◌++◌, length, take, map, slice_get, All, Option, IfSome, Some, None, IsSome, Result, Ok, Err, ⊤}
+use Rattle.std.specs.Prelude.{◌≡◌, ◌↔◌, ℕ, ◌<◌, ◌≤◌, Bool, true, false, List, [], ◌∷◌, ◌++◌, length, take, map}
+use Rattle.std.specs.Prelude.{slice_get, All, Option, IfSome, Some, None, IsSome, Result, Ok, Err, ⊤}
 use Rattle.fix_base.specs.declared.entry.Entry.{Entry}
 use Rattle.fix_base.specs.declared.entry.Record.{Record}
 use Rattle.fix_base.specs.declared.entry.Entry.TheVariants.{App, Admin}
 use Rattle.fix_base.specs.declared.entry.Record.TheVariants.{Push, Expect, Many, Withhold, Reset, ResetAsk, Confirm}
 use Rattle.fix_base.specs.End.{new_end, folded_all}
 use Rattle.fix_base.specs.Payload.{IsKeepable, LAST_TIME}
-use Rattle.fix_base.specs.Seen.{Rises}
+use Rattle.fix_base.specs.Trace.{Rises}
 use Rattle.fix_base.specs.declared.entry.Stored.{Stored}
 use Rattle.fix_disk.specs.Disk.{DiskSeen, LeavesAsIs}
 use Rattle.fix_disk.specs.Moments.{LeavesOnly, NeedsRoom}
@@ -41,7 +42,7 @@ fold_of f = record { places = f.places.items; expected = f.expected; since = f.s
 abbrev pub new_fold : Fold
 new_fold = record { places = []; expected = 1; since = None; asked = false }
 
--- behind the record of this index; one of several entries, or that withholds one, has no form yet
+-- after the record of this index; one of several entries, or that withholds one, has no form yet
 abbrev pub fold_with : ℕ → Fold → Record → Fold
 fold_with index f (Push entry) = record f { places = f.places ++ index ∷ [] }
 fold_with index f (Expect number) = record f { expected = number }
@@ -59,7 +60,8 @@ abbrev pub ArePlaces : List Record → List ℕ → List Entry → Type 0
 ArePlaces records [] [] = ⊤
 ArePlaces records [] (entry ∷ out) = ⊥
 ArePlaces records (index ∷ places) [] = ⊥
-ArePlaces records (index ∷ places) (entry ∷ out) = (slice_get records index ≡ Some (Push entry)) × ArePlaces records places out
+ArePlaces records (index ∷ places) (entry ∷ out) = (slice_get records index ≡ Some (Push entry))
+    × ArePlaces records places out
 
 -- it is that of these records
 pub record IsFoldOf (records : List Record) (f : Fold) : Type 0 where
@@ -82,10 +84,12 @@ pub record IsKeptOf (seen : DiskSeen) (count : ℕ) (records : List Record) (f :
   pub folds : IsFoldOf records f
 
 -- what always holds of a store
-pub record IsSound {D : Type 0} (disk : D → DiskSeen) (journal : JournalSeen D) (f : Fold) (stopped : Bool) : Type 0 where
+pub record IsSound {D : Type 0} (disk : D
+    → DiskSeen) (journal : JournalSeen D) (f : Fold) (stopped : Bool) : Type 0 where
   pub stops : stopped ≡ journal.stopped
   pub within : IsWithin f journal.count
-  pub kept : stopped ≡ false → IsSome (disk journal.disk).bytes → (records : List Record) × IsKeptOf (disk journal.disk) journal.count records f
+  pub kept : stopped ≡ false → IsSome (disk journal.disk).bytes → (records : List Record)
+      × IsKeptOf (disk journal.disk) journal.count records f
 
 -- calls that read
 pub record Reads (failures : ℕ) (old new : DiskSeen) : Type 0 where
@@ -95,7 +99,7 @@ pub record Reads (failures : ℕ) (old new : DiskSeen) : Type 0 where
   pub cause : Rises failures old.faults new.faults
   pub room : NeedsRoom failures 0 old new
 
--- the first payload that is no record behind those before it, at its place in the file
+-- the first payload that is no record after those before it, at its place in the file
 pub record IsFirstBad (payloads : List (List ℕ)) (place : ℕ) : Type 0 where
   pub records : List Record
   pub payload : List ℕ
@@ -131,5 +135,6 @@ Steps index old new = (r : Record) × IsStorable r × HasNumber r (stored_in old
 abbrev pub Takes : Option OpenFault → ℕ → List (List ℕ) → Fold → Fold → Type 0
 Takes None index payloads old new = (r : Record) × IsNext payloads index old r × (new ≡ fold_with index old r)
 Takes (Some open_fault.DiskFault) index payloads old new = ⊤
-Takes (Some (open_fault.Damaged place)) index payloads old new = ((r : Record) → IsNext payloads index old r → ⊥) × (place ≡ length (front (take index payloads)))
+Takes (Some (open_fault.Damaged place)) index payloads old new = ((r : Record) → IsNext payloads index old r → ⊥)
+    × (place ≡ length (front (take index payloads)))
 Takes (Some open_fault.OutOfMemory) index payloads old new = ⊤

@@ -1,6 +1,7 @@
 -- What an append comes to in a store.
-use Rattle.std.specs.Prelude.{◌≡◌, ◌↔◌, ℕ, ◌+◌, ◌≤◌, true, false, List, [], ◌∷◌, ◌++◌, IsSome, IfSome, Result, Ok, Err, OnOk}
-use Rattle.fix_base.specs.Seen.{Rises}
+use Rattle.std.specs.Prelude.{◌≡◌, ◌↔◌, ℕ, ◌+◌, ◌≤◌, true, false, List, [], ◌∷◌, ◌++◌, IsSome, IfSome, Result, Ok}
+use Rattle.std.specs.Prelude.{Err, OnOk}
+use Rattle.fix_base.specs.Trace.{Rises}
 use Rattle.fix_disk.specs.Disk.{DiskSeen}
 use Rattle.fix_disk.specs.Moments.{LeavesOnly}
 use Rattle.fix_journal.specs.AtRest.{IsEither}
@@ -19,10 +20,12 @@ AppendAnswers (Err DiskFault) old new = (new.count ≡ old.count) × (new.stoppe
 
 -- what it does to the disk
 pub record Appends (answer : Result ℕ StoreFault) (payload : List ℕ) (old new : DiskSeen) : Type 0 where
-  pub kept : OnOk answer ((payloads : List (List ℕ)) → Holds old payloads → Holds new (payloads ++ payload ∷ []) × Lasts new (payloads ++ payload ∷ []))
+  pub kept : OnOk answer ((payloads : List (List ℕ)) → Holds old payloads → Holds new (payloads ++ payload ∷ [])
+      × Lasts new (payloads ++ payload ∷ []))
   pub as_read : (payloads : List (List ℕ)) → Holds old payloads → IfSome new.bytes (IsEither payloads payload)
   pub any_moment : (payloads : List (List ℕ)) → Holds old payloads → LeavesOnly old new (IsEither payloads payload)
-  pub now : (payloads : List (List ℕ)) → Holds old payloads → new.TellsImages → (c : List ℕ) → new.image c → IsEither payloads payload c
+  pub now : (payloads : List (List ℕ)) → Holds old payloads → new.TellsImages → (c : List ℕ) → new.image c
+      → IsEither payloads payload c
   pub tells_bytes : IsSome new.bytes ↔ IsSome old.bytes
   pub tells_images : new.TellsImages ↔ old.TellsImages
   pub cause : Rises (store_failures (fault_of answer)) old.faults new.faults

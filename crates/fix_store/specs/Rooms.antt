@@ -11,11 +11,12 @@ use Rattle.fix_journal.specs.Payloads.{payloads_in}
 use Rattle.fix_store.specs.declared.fault.StoreFault.{StoreFault}
 use Rattle.fix_store.specs.declared.fault.StoreFault.TheVariants.{Stopped, NumbersSpent, OutOfMemory, DiskFault}
 
--- how many bytes of a file its records take, with the closed gate behind them
+-- how many bytes of a file its records take, with the closed gate after them
 abbrev pub used : List ℕ → ℕ
 used file = file_size (payloads_in file)
 
--- the room for further records, of a disk with this room and this file; none is told of one that can't hold an empty store
+-- the room for further records, of a disk with this room and this file; none is told of one that can't hold
+-- an empty store
 abbrev pub room_in : Option ℕ → Option (List ℕ) → Option ℕ
 room_in None bytes = None
 room_in (Some room) None = None

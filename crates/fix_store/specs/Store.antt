@@ -1,12 +1,13 @@
 -- What is seen of a store, and what its calls do.
-use Rattle.std.specs.Prelude.{◌≡◌, ◌⊎◌, ◌↔◌, ℕ, ◌+◌, ◌<◌, ◌≤◌, ◌==◌, if◌then◌else◌, Bool, true, false, List, length, Option, Some, None, IsSome, IfSome, Result, Ok, Err, IfOk, ⊤}
+use Rattle.std.specs.Prelude.{◌≡◌, ◌⊎◌, ◌↔◌, ℕ, ◌+◌, ◌<◌, ◌≤◌, ◌==◌, if◌then◌else◌, Bool, true, false, List, length}
+use Rattle.std.specs.Prelude.{Option, Some, None, IsSome, IfSome, Result, Ok, Err, IfOk, ⊤}
 use Rattle.fix_base.specs.declared.entry.Entry.{Entry}
 use Rattle.fix_base.specs.declared.entry.Record.{Record}
 use Rattle.fix_base.specs.declared.entry.Entry.TheVariants.{Admin}
 use Rattle.fix_base.specs.declared.entry.Record.TheVariants.{Push, Expect, Many, Withhold, Reset, ResetAsk, Confirm}
 use Rattle.fix_base.specs.End.{End, folded, IsEntry}
 use Rattle.fix_base.specs.Payload.{HasPayload, IsKeepable, LAST_TIME}
-use Rattle.fix_base.specs.Seen.{Rises}
+use Rattle.fix_base.specs.Trace.{Rises}
 use Rattle.fix_base.specs.declared.entry.Stored.{Stored}
 use Rattle.fix_disk.specs.Disk.{DiskSeen, LeavesAsIs}
 use Rattle.fix_disk.specs.Moments.{LeavesOnly}
@@ -31,11 +32,14 @@ pub record IsInRange (s : Stored) : Type 0 where
   pub expected : IsKeepable (Expect s.expected)
   pub since : IfSome s.since (λ time. time ≤ LAST_TIME)
 
--- what it tells behind one more record
+-- what it tells after one more record
 abbrev pub stored_with : Stored → Record → Stored
 stored_with s (Push entry) = record s { last = s.last + 1 }
 stored_with s (Expect number) = record s { expected = number }
-stored_with s (Many pushes number) = record s { last = s.last + length pushes; expected = if number == 0 then s.expected else number }
+stored_with s (Many pushes number) = record s {
+  last = s.last + length pushes;
+  expected = if number == 0 then s.expected else number;
+}
 stored_with s (Withhold number) = s
 stored_with s (Reset time) = record { last = 0; expected = 1; since = Some time; asked = s.asked }
 stored_with s (ResetAsk time) = record { last = 0; expected = 1; since = Some time; asked = true }
@@ -55,7 +59,8 @@ IsEitherEnd e r file = HasEnd file e ⊎ HasEnd file (folded e r)
 
 -- what a store that isn't stopped tells is its end, where the disk tells its file
 abbrev pub IsTold : {D : Type 0} → (D → DiskSeen) → StoreSeen D → Type 0
-IsTold disk store = store.stopped ≡ false → IfSome (disk store.disk).bytes (λ file. (e : End) × HasEnd file e × (store.stored ≡ stored_of e))
+IsTold disk store = store.stopped ≡ false
+    → IfSome (disk store.disk).bytes (λ file. (e : End) × HasEnd file e × (store.stored ≡ stored_of e))
 
 -- each entry has a number left
 abbrev pub HasNumber : Record → Stored → Type 0
@@ -84,11 +89,13 @@ fault_of (Err fault) = Some fault
 
 -- when each answer of a call that keeps a record comes, and what the store is then
 abbrev pub KeepAnswers : {D : Type 0} → Option StoreFault → Record → StoreSeen D → StoreSeen D → Type 0
-KeepAnswers None r old new = (old.stopped ≡ false) × HasNumber r old.stored × (new.stored ≡ stored_with old.stored r) × (new.stopped ≡ false)
+KeepAnswers None r old new = (old.stopped ≡ false) × HasNumber r old.stored
+    × (new.stored ≡ stored_with old.stored r) × (new.stopped ≡ false)
 KeepAnswers (Some Stopped) r old new = (old.stopped ≡ true) × (new ≡ old)
 KeepAnswers (Some NumbersSpent) r old new = (old.stopped ≡ false) × HasNoNumber r old.stored × (new ≡ old)
 KeepAnswers (Some OutOfMemory) r old new = (old.stopped ≡ false) × HasNumber r old.stored × (new ≡ old)
-KeepAnswers (Some DiskFault) r old new = (old.stopped ≡ false) × HasNumber r old.stored × (new.stored ≡ old.stored) × (new.stopped ≡ true)
+KeepAnswers (Some DiskFault) r old new = (old.stopped ≡ false) × HasNumber r old.stored × (new.stored ≡ old.stored)
+    × (new.stopped ≡ true)
 
 -- how often the disk failed in a call
 abbrev pub store_failures : Option StoreFault → ℕ
@@ -106,7 +113,7 @@ pub record StoreKeeps (fault : Option StoreFault) (r : Record) (old new : DiskSe
   pub as_read : (e : End) → HoldsEnd old e → IfSome new.bytes (IsEitherEnd e r)
   -- a crash at any moment of it leaves one of these
   pub any_moment : (e : End) → HoldsEnd old e → LeavesOnly old new (IsEitherEnd e r)
-  -- and so does a crash behind it
+  -- and so does a crash after it
   pub now : (e : End) → HoldsEnd old e → new.TellsImages → (c : List ℕ) → new.image c → IsEitherEnd e r c
   pub tells_bytes : IsSome new.bytes ↔ IsSome old.bytes
   pub tells_images : new.TellsImages ↔ old.TellsImages
@@ -127,7 +134,8 @@ NO_ENTRY = Admin 0 78 0
 
 -- bytes that were read for an entry are its record, or that of no entry
 abbrev pub ReadsAs : List ℕ → Entry → Type 0
-ReadsAs payload entry = (HasPayload entry × (payload ≡ spelled (Push entry))) ⊎ (((other : Entry) → HasPayload other → payload ≡ spelled (Push other) → ⊥) × (entry ≡ NO_ENTRY))
+ReadsAs payload entry = (HasPayload entry × (payload ≡ spelled (Push entry)))
+    ⊎ (((other : Entry) → HasPayload other → payload ≡ spelled (Push other) → ⊥) × (entry ≡ NO_ENTRY))
 
 -- what reading the entry of a number gives, and does to the disk
 pub record StoreReads (answer : Result Entry StoreFault) (number : ℕ) (old new : DiskSeen) : Type 0 where

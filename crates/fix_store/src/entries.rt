@@ -1,3 +1,4 @@
+//! Makes an entry of a payload that was read from the journal. `Store::entry` calls this.
 ghost use Rattle.std.specs.Prelude.{◌≡◌, ◌≤◌, drop, length};
 ghost use Rattle.fix_base.specs.Payload.{HasPayload};
 ghost use Rattle.fix_store.specs.Store.{NO_ENTRY, ReadsAs};

@@ -1,3 +1,5 @@
+//! The faults of the calls on an open store. `keeping` and `store` answer with them.
+
 /// Why a call of a store wasn't done. They are tried in this order.
 #[derive(Clone, Copy, Debug, PartialEq, Eq)]
 pub enum StoreFault {
@@ -5,7 +7,7 @@ pub enum StoreFault {
     Stopped,
     /// Every MsgSeqNum (34) is used: there are 999,999,999 entries.
     NumbersSpent,
-    /// Memory was refused, and nothing was done.
+    /// Out of memory, and nothing was done.
     OutOfMemory,
     /// The disk failed. What was to be kept may be kept or not.
     DiskFault,

@@ -1,3 +1,5 @@
+//! What the records of a store come to, each in turn. `walking` takes them in when the store is opened, and
+//! `store` brings it up to date after each append.
 ghost use Rattle.std.specs.Prelude.{◌≡◌, ◌↔◌, ◌<◌, ◌≤◌, IsTrue, OnOk, length};
 ghost use Rattle.fix_base.specs.declared.entry.Record.TheVariants.{Reset as TheReset};
 ghost use Rattle.fix_store.specs.Store.{HasNumber};

@@ -1,3 +1,5 @@
+//! Appends a record's payload to the journal, and answers with the store's own faults. `store` calls this for
+//! each record that it keeps.
 ghost use Rattle.std.specs.Prelude.{◌≡◌, ◌≤◌, ◌++◌, ◌∷◌, [], List, ℕ, false, length};
 ghost use Rattle.fix_disk.specs.Moments.{NeedsRoom};
 ghost use Rattle.fix_journal.specs.Format.{MOST_PAYLOAD, file_size};
@@ -23,7 +25,9 @@ pub(crate) fn append<D: Disk>(
     ensures stops { stopped.new ≡ journal.new.stopped }
     ensures moves { Appends result payload.now (D.disk journal.old.disk) (D.disk journal.new.disk) }
     ensures room { (D.disk journal.new.disk).room ≡ (D.disk journal.old.disk).room }
-    ensures need { (payloads : List (List ℕ)) → Holds (D.disk journal.old.disk) payloads → NeedsRoom (store_failures (fault_of result)) (file_size (payloads ++ payload.now ∷ [])) (D.disk journal.old.disk) (D.disk journal.new.disk) }
+    ensures need { (payloads : List (List ℕ)) → Holds (D.disk journal.old.disk) payloads
+        → NeedsRoom (store_failures (fault_of result)) (file_size (payloads ++ payload.now ∷ []))
+        (D.disk journal.old.disk) (D.disk journal.new.disk) }
 {
     match journal.append(payload) {
         Ok(index) => Ok(index),

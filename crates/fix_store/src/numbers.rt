@@ -1,3 +1,4 @@
+//! Reads times and numbers out of a payload, for `reading`. It also gives the next MsgSeqNum (34), for `store`.
 ghost use Rattle.std.specs.Prelude.{◌≡◌, ◌++◌, ◌+◌, ◌<◌, ◌≤◌, ◌^◌, ℕ, List, MatchOption};
 ghost use Rattle.std.specs.Int.{w32, w64, to_be_bytes};
 ghost use Rattle.fix_base.specs.Payload as payload;
@@ -7,7 +8,7 @@ use fix_base::SeqNum;
 /// The last microsecond of 2099.
 const LAST_TIME: u64 = 4_102_444_799_999_999;
 
-// The time at the front, and the bytes behind it.
+// The time at the front, and the bytes after it.
 pub(crate) fn time_at(bytes: &[u8]) -> Option<(u64, &[u8])>
     ensures { MatchOption result
         ((time : ℕ) (later : List ℕ) → time ≤ payload.LAST_TIME → bytes.now ≡ to_be_bytes w64 time ++ later → ⊥)
@@ -34,7 +35,7 @@ pub(crate) fn number_in(bytes: &[u8]) -> Option<u32>
     Some(u32::from_be_bytes(*first))
 }
 
-// The MsgSeqNum (34) behind so many entries.
+// The MsgSeqNum (34) after so many entries.
 pub(crate) fn number_after(count: usize) -> Option<SeqNum>
     requires { count ≤ 999999999 }
     ensures { MatchOption result (count ≡ 999999999) (λ n. (count < 999999999) × (n ≡ count + 1)) }

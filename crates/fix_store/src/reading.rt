@@ -1,3 +1,5 @@
+//! Reads a payload as a record, or finds that it is none. `walking` calls this when a store is opened, and
+//! `entries` when an entry is read.
 ghost use Rattle.std.specs.Prelude.{◌≡◌, ◌↔◌, ◌++◌, ◌∷◌, [], ◌<◌, ◌≤◌, ◌^◌, ℕ, List, IsTrue, MatchOption};
 ghost use Rattle.std.specs.Int.{w32, w64, to_be_bytes};
 ghost use Rattle.fix_base.specs.declared.entry.Record.{Record as TheRecord};
@@ -15,7 +17,7 @@ use fix_fields::is_entry_body;
 /// The most bytes of a body.
 const MOST_BODY_BYTES: usize = 1_048_064;
 
-/// The greatest expected number: behind it no MsgSeqNum (34) comes.
+/// The greatest expected number: after it no MsgSeqNum (34) comes.
 const LAST_EXPECTED: u32 = 1_000_000_000;
 
 // A record whose body is lent.

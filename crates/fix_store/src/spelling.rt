@@ -1,3 +1,5 @@
+//! Writes a record as a payload of the journal, which `reading` reads back. `store` calls this before each
+//! append.
 ghost use Rattle.std.specs.Prelude.{◌≡◌, ◌<◌, ◌^◌, OnOk};
 ghost use Rattle.fix_base.specs.declared.entry.Record.TheVariants.{Expect as TheExpect, Reset as TheReset};
 ghost use Rattle.fix_base.specs.Payload.{HasPayload};
@@ -27,16 +29,6 @@ pub(crate) fn spell_entry(into: &mut Vec<u8>, entry: &Entry) -> Result<(), Alloc
     }
 }
 
-// Who made an application message.
-fn mark(by: By) -> u8
-    ensures { result ≡ mark_of by }
-{
-    match by {
-        By::Caller => 1,
-        By::Engine => 2,
-    }
-}
-
 // The payload of an expected number.
 pub(crate) fn expect_payload(next: u32) -> [u8; 5]
     ensures { result ≡ spelled (TheExpect next) }
@@ -53,4 +45,14 @@ pub(crate) fn reset_payload(time: u64) -> [u8; 9]
     [
         5, bytes[0], bytes[1], bytes[2], bytes[3], bytes[4], bytes[5], bytes[6], bytes[7],
     ]
+}
+
+// Who made an application message.
+fn mark(by: By) -> u8
+    ensures { result ≡ mark_of by }
+{
+    match by {
+        By::Caller => 1,
+        By::Engine => 2,
+    }
 }

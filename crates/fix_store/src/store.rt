@@ -1,10 +1,14 @@
-ghost use Rattle.std.specs.Prelude.{◌≡◌, ◌+◌, ◌-◌, ◌<◌, ◌≤◌, false, length, vec_len, vec_capacity, IfOk, IfErr, IfSome, None, Some, OnOk};
+//! The calls of a store, which `fix_rim` makes for a session. A call that keeps something appends its record by
+//! `keeping`, and only then changes what `folding` has in memory.
+ghost use Rattle.std.specs.Prelude.{◌≡◌, ◌+◌, ◌-◌, ◌<◌, ◌≤◌, false, length, vec_len, vec_capacity, IfOk, IfErr};
+ghost use Rattle.std.specs.Prelude.{IfSome, None, Some, OnOk};
 ghost use Rattle.fix_base.specs.declared.entry.Record.TheVariants.{Push, Expect, Reset};
 ghost use Rattle.fix_base.specs.Payload.{HasPayload, LAST_TIME};
 ghost use Rattle.fix_journal.specs.Opening.{Opens};
 ghost use Rattle.fix_journal.specs.Opening as journal;
 ghost use Rattle.fix_store.specs.Spelling.{spelled_entry};
-ghost use Rattle.fix_store.specs.Store.{IsTold, IsInRange, KeepAnswers, StoreKeeps, ReadAnswers, StoreReads, ReadsAs, fault_of};
+ghost use Rattle.fix_store.specs.Store.{IsTold, IsInRange, KeepAnswers, StoreKeeps, ReadAnswers, StoreReads};
+ghost use Rattle.fix_store.specs.Store.{ReadsAs, fault_of};
 ghost use Rattle.fix_store.specs.Rooms.{OpenRoom, KeepRoom, ReadRoom};
 ghost use Rattle.fix_store.specs.Opening.{IsOpened, IsCause};
 ghost use Rattle.fix_store.specs.Folding.{fold_of};
@@ -81,7 +85,8 @@ impl<D: Disk> Store<D> {
         requires { HasPayload entry.now }
         ensures answers { KeepAnswers (fault_of result) (Push entry.now) self.old self.new }
         ensures number { IfOk result (λ n. n ≡ self.old.stored.last + 1) }
-        ensures moves { self.old.stopped ≡ false → StoreKeeps (fault_of result) (Push entry.now) (D.disk self.old.disk) (D.disk self.new.disk) }
+        ensures moves { self.old.stopped ≡ false
+            → StoreKeeps (fault_of result) (Push entry.now) (D.disk self.old.disk) (D.disk self.new.disk) }
         ensures room { KeepRoom (fault_of result) (Push entry.now) (D.disk self.old.disk) (D.disk self.new.disk) }
         ensures told { IsTold D.disk self.old }
     {
@@ -108,7 +113,8 @@ impl<D: Disk> Store<D> {
         requires first { 1 ≤ next }
         requires last { next ≤ 1000000000 }
         ensures answers { KeepAnswers (fault_of result) (Expect next) self.old self.new }
-        ensures moves { self.old.stopped ≡ false → StoreKeeps (fault_of result) (Expect next) (D.disk self.old.disk) (D.disk self.new.disk) }
+        ensures moves { self.old.stopped ≡ false
+            → StoreKeeps (fault_of result) (Expect next) (D.disk self.old.disk) (D.disk self.new.disk) }
         ensures room { KeepRoom (fault_of result) (Expect next) (D.disk self.old.disk) (D.disk self.new.disk) }
         ensures told { IsTold D.disk self.old }
     {
@@ -128,7 +134,8 @@ impl<D: Disk> Store<D> {
     pub fn reset(&mut self, time: u64) -> Result<(), StoreFault>
         requires { time ≤ LAST_TIME }
         ensures answers { KeepAnswers (fault_of result) (Reset time) self.old self.new }
-        ensures moves { self.old.stopped ≡ false → StoreKeeps (fault_of result) (Reset time) (D.disk self.old.disk) (D.disk self.new.disk) }
+        ensures moves { self.old.stopped ≡ false
+            → StoreKeeps (fault_of result) (Reset time) (D.disk self.old.disk) (D.disk self.new.disk) }
         ensures room { KeepRoom (fault_of result) (Reset time) (D.disk self.old.disk) (D.disk self.new.disk) }
         ensures told { IsTold D.disk self.old }
     {

@@ -1,3 +1,5 @@
+//! Which payloads are records, what a store's file has byte for byte, and what a stop at a call of the disk
+//! leaves.
 use super::*;
 use crate::entries::entry_of;
 use fix_base::{By, Bytes, Entry, OutOfMemory, SeqNum, Stored};
@@ -88,7 +90,7 @@ fn damaged_files(rt: HostRuntime) -> Result<(), Fail> {
             b"\x01FIXJRNL1\x01\0\0\0\x01\x07\x01\0\0\0\0",
             Err(OpenFault::Damaged(15)),
         ),
-        // A record, and a payload behind it that is none.
+        // A record, and a payload after it that is none.
         (
             b"\x01FIXJRNL1\x01\0\0\0\x05\x04\0\0\0\x02\x01\0\0\0\x01\x07\0",
             Err(OpenFault::Damaged(19)),
@@ -110,7 +112,7 @@ fn a_damaged_store_leaves_the_journal_whole(rt: HostRuntime) -> Result<(), Fail>
     Ok(())
 }
 
-// A payload of a mark, a time and what stands behind it.
+// A payload of a mark, a time and what stands after it.
 fn payload_of(alloc: Global, mark: u8, time: &[u8], rest: &[u8]) -> Result<Vec<u8>, OutOfMemory> {
     let mut payload = Vec::new(alloc);
     payload.extend_from_slice(&[mark])?;
@@ -438,7 +440,7 @@ fn entries_are_numbered_from_1_again_behind_a_reset(rt: HostRuntime) -> Result<(
     Ok(())
 }
 
-// What is there behind a stop at this call of the disk, counted from the first of an opening.
+// What is there after a stop at this call of the disk, counted from the first of an opening.
 fn stopped_at(alloc: Global, call: u64) -> Result<Stored, OutOfMemory> {
     let mut store = opened(alloc, blank(alloc, &[], Some(call))?)?;
     match store.expect(2) {

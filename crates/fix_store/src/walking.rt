@@ -1,3 +1,5 @@
+//! Reads the records of an opened journal one after another, and has `folding` take them in. `Store::open`
+//! calls this.
 ghost use Rattle.std.specs.Prelude.{◌≡◌, ◌<◌, ◌≤◌, ℕ, List, false, length, IfOk, IsErr, OnOk};
 ghost use Rattle.fix_journal.specs.Journal.{Holds};
 ghost use Rattle.fix_journal.specs.Opening.{open_failures, fault_of};
@@ -12,7 +14,8 @@ use std::alloc::Global;
 // Takes in all records of a journal that was opened, in their order.
 pub(crate) fn fold<D: Disk>(alloc: Global, journal: &mut Journal<D>) -> Result<Folded, OpenFault>
     requires { journal.old.stopped ≡ false }
-    ensures folds { (payloads : List (List ℕ)) → Holds (D.disk journal.old.disk) payloads → journal.old.count ≡ length payloads → Folds result payloads }
+    ensures folds { (payloads : List (List ℕ)) → Holds (D.disk journal.old.disk) payloads → journal.old.count
+        ≡ length payloads → Folds result payloads }
     ensures within { IfOk result (λ f. IsWithin (fold_of f) journal.old.count) }
     ensures some { IsErr result → 1 ≤ journal.old.count }
     ensures journal { OnOk result (GoesOn journal.old journal.new) }
@@ -40,7 +43,8 @@ fn take_next<D: Disk>(
     requires within { index < journal.old.count }
     requires few { length folded.old.places.items ≤ 999999999 }
     ensures steps { OnOk result (Steps index (fold_of folded.old) (fold_of folded.new)) }
-    ensures takes { (payloads : List (List ℕ)) → Holds (D.disk journal.old.disk) payloads → Takes (fault_of result) index payloads (fold_of folded.old) (fold_of folded.new) }
+    ensures takes { (payloads : List (List ℕ)) → Holds (D.disk journal.old.disk) payloads
+        → Takes (fault_of result) index payloads (fold_of folded.old) (fold_of folded.new) }
     ensures journal { OnOk result (GoesOn journal.old journal.new) }
     ensures reads { Reads (open_failures (fault_of result)) (D.disk journal.old.disk) (D.disk journal.new.disk) }
 {

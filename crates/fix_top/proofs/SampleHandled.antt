@@ -7,7 +7,7 @@ use Rattle.fix_base.specs.declared.entry.Record.TheVariants.{Push}
 use Rattle.fix_base.specs.Fields.{Field}
 use Rattle.fix_base.specs.Line.{line_text}
 use Rattle.fix_base.specs.Says.{body_of}
-use Rattle.fix_base.specs.Seen.{Note, Did}
+use Rattle.fix_base.specs.Trace.{Note, Did}
 use Rattle.fix_engine.specs.declared.state.State.{State}
 use Rattle.fix_engine.specs.declared.state.Phase.TheVariants.{Down, Up}
 use Rattle.fix_engine.specs.declared.state.Say.{Say}
@@ -18,7 +18,7 @@ use Rattle.fix_engine.specs.declared.state.Why.TheVariants.{LoggedOut}
 use Rattle.fix_engine.specs.declared.state.Ending.{Ending}
 use Rattle.fix_engine.specs.declared.state.Ending.TheVariants as ending
 use Rattle.fix_engine.specs.State.{with_phase, with_expected, with_last}
-use Rattle.fix_engine.specs.Answer.{IsSaid, entry_of, Handled, logon_steps, app_answer, logout_answer}
+use Rattle.fix_engine.specs.Answer.{IsSaid, entry_of, AnswerFrame, logon_steps, app_answer, logout_answer}
 use Rattle.fix_engine.proofs.ReadLemmas.{has_same}
 use Rattle.fix_top.specs.Sample.{SAMPLE_ID, SAMPLE_TIME, LOGON, ORDER, LOGOUT, LOGON_ANSWER, LOGOUT_ANSWER, BODY}
 use Rattle.fix_top.proofs.SampleReads.{Tells}
@@ -59,8 +59,8 @@ said_less : (store said kept kept' : ℕ) → said + 19 + 10 * (4 - kept) ≤ st
 said_less store said kept kept' room same = omega (arith, room, same)
 
 -- its entry was kept, and the number that is kept is the same
-sent_leaves : (s to : State) (say : Say) (text : List ℕ) (notes : List Note) (said : ℕ) → notes ≡ Did (act.Kept (Push (entry_of s say))) ∷ Did (act.Wrote text) ∷ [] → to.kept ≡ s.kept → Leaves notes (to_keep (said + 19) s) (to_keep said to)
-sent_leaves s to say text notes said all same store room = subst (λ (w : List Note). to_keep said to ≤ store_left store w) (sym all) (said_less store said s.kept to.kept room same)
+sent_leaves : (s to : State) (say : Say) (text : List ℕ) (notes : List Note) (said : ℕ) → notes ≡ Did (act.Kept (Push (entry_of s say))) ∷ Did (act.Wrote text) ∷ [] → to.kept ≡ s.stored_expected → Leaves notes (to_keep (said + 19) s) (to_keep said to)
+sent_leaves s to say text notes said all same store room = subst (λ (w : List Note). to_keep said to ≤ store_left store w) (sym all) (said_less store said s.stored_expected to.kept room same)
 
 -- ---- the Logon
 
@@ -70,7 +70,7 @@ at_order s mid to at sent is =
     let whole : to ≡ with_expected (with_phase (with_last s (s.last + 1)) Up) 2 = is ∙ ap (λ (m : State). with_expected (with_phase m Up) 2) sent in
     subst (IsAt AtOrder) (sym whole) (record { phase = refl; expected = refl; low = omega (arith, at.low); last = ap (λ n. n + 1) at.last; reading = at.reading })
 
-kept_there : (s mid to : State) → mid ≡ with_last s (s.last + 1) → to ≡ with_expected (with_phase mid Up) 2 → to.kept ≡ s.kept
+kept_there : (s mid to : State) → mid ≡ with_last s (s.last + 1) → to ≡ with_expected (with_phase mid Up) 2 → to.kept ≡ s.stored_expected
 kept_there s mid to sent is = ap (λ (m : State). m.kept) is ∙ ap (λ (m : State). m.kept) sent
 
 logon_goes : (s s' : State) (notes : List Note) (r : Result ⊤ Ending) → IsAt AtLogon s → Follows LOGON (HasSent s (Logon 30)) (step.GoUp ∷ step.Count 1 ∷ step.Nothing ∷ []) notes r s' → Came AtLogon s notes (IsNextAt AtLogon s') s' r
@@ -111,7 +111,7 @@ at_logout s mid to at same is =
     let whole : to ≡ with_expected s 3 = is ∙ ap (λ (m : State). with_expected m 3) same in
     subst (IsAt AtLogout) (sym whole) (record { phase = at.phase; expected = refl; low = omega (arith, at.low); last = at.last; reading = at.reading })
 
-kept_still : (s mid to : State) → mid ≡ s → to ≡ with_expected mid 3 → to.kept ≡ s.kept
+kept_still : (s mid to : State) → mid ≡ s → to ≡ with_expected mid 3 → to.kept ≡ s.stored_expected
 kept_still s mid to same is = ap (λ (m : State). m.kept) is ∙ ap (λ (m : State). m.kept) same
 
 -- the order was handed over, and nothing more
@@ -125,8 +125,8 @@ same_room : (store said kept kept' : ℕ) → said + 10 * (4 - kept) ≤ store �
 same_room store said kept kept' room same = omega (arith, room, same)
 
 -- the store keeps its room
-handed_leaves : (s to : State) (fields : List Field) (notes : List Note) (said : ℕ) → notes ≡ Did (act.Handed 2 false (body_of fields)) ∷ [] → to.kept ≡ s.kept → Leaves notes (to_keep said s) (to_keep said to)
-handed_leaves s to fields notes said all same store room = subst (λ (w : List Note). to_keep said to ≤ store_left store w) (sym all) (same_room store said s.kept to.kept room same)
+handed_leaves : (s to : State) (fields : List Field) (notes : List Note) (said : ℕ) → notes ≡ Did (act.Handed 2 false (body_of fields)) ∷ [] → to.kept ≡ s.stored_expected → Leaves notes (to_keep said s) (to_keep said to)
+handed_leaves s to fields notes said all same store room = subst (λ (w : List Note). to_keep said to ≤ store_left store w) (sym all) (same_room store said s.stored_expected to.kept room same)
 
 order_goes : (s s' : State) (notes : List Note) (r : Result ⊤ Ending) → IsAt AtOrder s → Follows ORDER (HasHanded ORDER s 2 false) (step.Count 2 ∷ step.Nothing ∷ step.Nothing ∷ []) notes r s' → Came AtOrder s notes (IsNextAt AtOrder s') s' r
 order_goes s s' notes r at f =
@@ -149,7 +149,7 @@ order_fits app room fields has =
 
 order_handles : (s s' : State) (notes : List Note) (r : Result ⊤ Ending) → IsAt AtOrder s → IsFit AtOrder s notes → Carries ORDER s (app_answer 2) notes r s' → Came AtOrder s notes (IsNextAt AtOrder s') s' r
 order_handles s s' notes r at fit d =
-    elim (after_done fit.link fit.app fit.store ORDER s (step.Hand 2 false) (HasHanded ORDER s 2 false) (step.Count 2 ∷ step.Nothing ∷ step.Nothing ∷ []) notes r s' (hand_done fit.link fit.app fit.store ORDER s 2 false (order_fits fit.app fit.handed)) fit.rooms d) [
+    elim (after_done fit.link fit.app fit.store ORDER s (step.PendingDraft 2 false) (HasHanded ORDER s 2 false) (step.Count 2 ∷ step.Nothing ∷ step.Nothing ∷ []) notes r s' (hand_done fit.link fit.app fit.store ORDER s 2 false (order_fits fit.app fit.handed)) fit.rooms d) [
       | inl lost ↦ want AtOrder s s' notes (IsNextAt AtOrder s') r lost
       | inr f ↦ order_goes s s' notes r at f
     ]
@@ -157,7 +157,7 @@ order_handles s s' notes r at fit d =
 -- ---- the Logout
 
 -- the number behind the Logout is expected then
-closed_at : (s mid to : State) → s.expected ≡ 4 → mid ≡ with_last s (s.last + 1) → to ≡ with_phase mid Down → (to.expected ≡ 4) × (to.kept ≡ s.kept)
+closed_at : (s mid to : State) → s.expected ≡ 4 → mid ≡ with_last s (s.last + 1) → to ≡ with_phase mid Down → (to.expected ≡ 4) × (to.kept ≡ s.stored_expected)
 closed_at s mid to four sent is = (ap (λ (m : State). m.expected) is ∙ ap (λ (m : State). m.expected) sent ∙ four, ap (λ (m : State). m.kept) is ∙ ap (λ (m : State). m.kept) sent)
 
 logout_goes : (s s' : State) (notes : List Note) (r : Result ⊤ Ending) → IsAt AtLogout s → Follows LOGOUT (HasSent (with_expected s 4) Logout) (step.Close (LoggedOut 3) ∷ step.Nothing ∷ []) notes r s' → Came AtLogout s notes (IsNextAt AtLogout s') s' r
@@ -185,7 +185,7 @@ logout_handles s s' notes r at fit d =
 
 -- ---- each of them
 
-pub handles : (p : Place) (s s' : State) (notes : List Note) (r : Result ⊤ Ending) → IsAt p s → IsFit p s notes → Handled SAMPLE_ID s (text_at p) notes r s' → Came p s notes (IsNextAt p s') s' r
+pub handles : (p : Place) (s s' : State) (notes : List Note) (r : Result ⊤ Ending) → IsAt p s → IsFit p s notes → AnswerFrame SAMPLE_ID s (text_at p) notes r s' → Came p s notes (IsNextAt p s') s' r
 handles AtLogon s s' notes r at fit h = logon_handles s s' notes r at fit (subst (λ (xs : List Step). Carries LOGON s xs notes r s') (logon_answered s h.inbound at h.presents) h.carried)
 handles AtOrder s s' notes r at fit h = order_handles s s' notes r at fit (subst (λ (xs : List Step). Carries ORDER s xs notes r s') (order_answered s h.inbound at h.presents) h.carried)
 handles AtLogout s s' notes r at fit h = logout_handles s s' notes r at fit (subst (λ (xs : List Step). Carries LOGOUT s xs notes r s') (logout_answered s h.inbound at h.presents) h.carried)

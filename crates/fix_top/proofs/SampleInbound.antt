@@ -12,7 +12,7 @@ use Rattle.fix_fields.specs.Lined.{IsLineOf}
 use Rattle.fix_fields.specs.Value as value
 use Rattle.fix_fields.proofs.EnvelopeLemmas.{line_same}
 use Rattle.fix_engine.specs.declared.state.State.{State}
-use Rattle.fix_engine.specs.Inbound.{Inbound, IsInbound, IsSent, IsLogon}
+use Rattle.fix_engine.specs.Inbound.{InboundSeen, IsInbound, IsSent, IsLogon}
 use Rattle.fix_engine.specs.Answer.{answer_to, logon_steps, app_answer, logout_answer}
 use Rattle.fix_engine.proofs.ReadLemmas.{has_same}
 use Rattle.fix_top.specs.Sample.{SAMPLE_ID, SAMPLE_TIME, wire, LOGON, ORDER, LOGOUT}
@@ -66,10 +66,10 @@ logon_is = record {
 }
 
 -- a message of the sample
-abbrev presented : List Field → Option ℕ → Inbound
+abbrev presented : List Field → Option ℕ → InboundSeen
 presented fs heart = record { header = header_of_fields (codes "FIX.4.2") fs; sent = Some (pos SAMPLE_TIME); heart = heart }
 
-inbound_is : (text : List ℕ) (fs : List Field) (i : Inbound) → Opens text → HasFields text fs → value_of 52 fs ≡ Some (codes "20240102-10:00:00") → IsInbound text i → i ≡ presented fs i.heart
+inbound_is : (text : List ℕ) (fs : List Field) (i : InboundSeen) → Opens text → HasFields text fs → value_of 52 fs ≡ Some (codes "20240102-10:00:00") → IsInbound text i → i ≡ presented fs i.heart
 inbound_is text fs i o has time h =
     let fields : h.fields ≡ fs = has_same text h.fields fs h.has has in
     let header : i.header ≡ header_of_fields (codes "FIX.4.2") fs = h.header ∙ ap (λ (b : List ℕ). header_of_fields b h.fields) (begin_same text i.header.begin o h.begins) ∙ ap (header_of_fields (codes "FIX.4.2")) fields in
@@ -82,8 +82,8 @@ inbound_is text fs i o has time h =
 abbrev state_at : Place → ℕ → State
 state_at p kept = record { phase = phase_at p; expected = expected_at p; kept = kept; last = last_at p; reading = SAMPLE_TIME }
 
-state_is : (p : Place) (s : State) → IsAt p s → s ≡ state_at p s.kept
-state_is p s at = λ i. record { phase = at.phase i; expected = at.expected i; kept = s.kept; last = at.last i; reading = at.reading i }
+state_is : (p : Place) (s : State) → IsAt p s → s ≡ state_at p s.stored_expected
+state_is p s at = λ i. record { phase = at.phase i; expected = at.expected i; kept = s.stored_expected; last = at.last i; reading = at.reading i }
 
 logon_computes : (kept : ℕ) → answer_to SAMPLE_ID (state_at AtLogon kept) (presented LOGON_FIELDS (Some 30)) ≡ logon_steps 1 30
 logon_computes kept = refl
@@ -94,18 +94,18 @@ order_computes kept heart = refl
 logout_computes : (kept : ℕ) (heart : Option ℕ) → answer_to SAMPLE_ID (state_at AtLogout kept) (presented LOGOUT_FIELDS heart) ≡ logout_answer 3
 logout_computes kept heart = refl
 
-answers_same : (p : Place) (s : State) (i j : Inbound) → IsAt p s → i ≡ j → answer_to SAMPLE_ID s i ≡ answer_to SAMPLE_ID (state_at p s.kept) j
-answers_same p s i j at e = ap (λ (x : State). answer_to SAMPLE_ID x i) (state_is p s at) ∙ ap (answer_to SAMPLE_ID (state_at p s.kept)) e
+answers_same : (p : Place) (s : State) (i j : InboundSeen) → IsAt p s → i ≡ j → answer_to SAMPLE_ID s i ≡ answer_to SAMPLE_ID (state_at p s.stored_expected) j
+answers_same p s i j at e = ap (λ (x : State). answer_to SAMPLE_ID x i) (state_is p s at) ∙ ap (answer_to SAMPLE_ID (state_at p s.stored_expected)) e
 
-pub logon_answered : (s : State) (i : Inbound) → IsAt AtLogon s → IsInbound LOGON i → answer_to SAMPLE_ID s i ≡ logon_steps 1 30
+pub logon_answered : (s : State) (i : InboundSeen) → IsAt AtLogon s → IsInbound LOGON i → answer_to SAMPLE_ID s i ≡ logon_steps 1 30
 logon_answered s i at h =
     let fields : h.fields ≡ LOGON_FIELDS = has_same LOGON h.fields LOGON_FIELDS h.has logon_has in
     let heart : i.heart ≡ Some 30 = h.heart.each 30 (subst (λ (fs : List Field). IsLogon fs 30) (sym fields) logon_is) in
     let is : i ≡ presented LOGON_FIELDS (Some 30) = inbound_is LOGON LOGON_FIELDS i logon_opens logon_has refl h ∙ ap (presented LOGON_FIELDS) heart in
-    answers_same AtLogon s i (presented LOGON_FIELDS (Some 30)) at is ∙ logon_computes s.kept
+    answers_same AtLogon s i (presented LOGON_FIELDS (Some 30)) at is ∙ logon_computes s.stored_expected
 
-pub order_answered : (s : State) (i : Inbound) → IsAt AtOrder s → IsInbound ORDER i → answer_to SAMPLE_ID s i ≡ app_answer 2
-order_answered s i at h = answers_same AtOrder s i (presented ORDER_FIELDS i.heart) at (inbound_is ORDER ORDER_FIELDS i order_opens order_has refl h) ∙ order_computes s.kept i.heart
+pub order_answered : (s : State) (i : InboundSeen) → IsAt AtOrder s → IsInbound ORDER i → answer_to SAMPLE_ID s i ≡ app_answer 2
+order_answered s i at h = answers_same AtOrder s i (presented ORDER_FIELDS i.heart) at (inbound_is ORDER ORDER_FIELDS i order_opens order_has refl h) ∙ order_computes s.stored_expected i.heart
 
-pub logout_answered : (s : State) (i : Inbound) → IsAt AtLogout s → IsInbound LOGOUT i → answer_to SAMPLE_ID s i ≡ logout_answer 3
-logout_answered s i at h = answers_same AtLogout s i (presented LOGOUT_FIELDS i.heart) at (inbound_is LOGOUT LOGOUT_FIELDS i logout_opens logout_has refl h) ∙ logout_computes s.kept i.heart
+pub logout_answered : (s : State) (i : InboundSeen) → IsAt AtLogout s → IsInbound LOGOUT i → answer_to SAMPLE_ID s i ≡ logout_answer 3
+logout_answered s i at h = answers_same AtLogout s i (presented LOGOUT_FIELDS i.heart) at (inbound_is LOGOUT LOGOUT_FIELDS i logout_opens logout_has refl h) ∙ logout_computes s.stored_expected i.heart

@@ -10,7 +10,7 @@ use Rattle.fix_base.specs.declared.entry.Record.TheVariants.{Push, Expect, Many,
 use Rattle.fix_base.specs.declared.entry.Entry.TheVariants.{App, Admin}
 use Rattle.fix_base.specs.Payload.{record_size}
 use Rattle.fix_base.specs.Parts.{PartsSeen, extended, less, HasNoRoom, TakesRoom, KeepsRoom, Answers, ClockReads, GivesBytes, GivesIdle, GivesEnd, later_readings, left_before}
-use Rattle.fix_base.specs.Seen.{Note, Did, Failed, Asked, StorePart, LinkPart, AppPart, acts_of, Follows}
+use Rattle.fix_base.specs.Trace.{Note, Did, Failed, Asked, StorePart, LinkPart, AppPart, acts_of, Follows}
 use Rattle.fix_engine.specs.InStep.{bytes_written}
 use Rattle.fix_top.specs.Sample.{LooksAt, ReadsPieces, HasRooms, handed_in}
 use Rattle.fix_top.proofs.SampleRooms.{lines_in}

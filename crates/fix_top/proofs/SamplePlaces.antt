@@ -5,7 +5,7 @@ use Rattle.std.proofs.lemmas.List.{append-nil, length-append}
 use Rattle.fix_base.specs.declared.act.Act.{Act}
 use Rattle.fix_base.specs.declared.act.Act.TheVariants as act
 use Rattle.fix_base.specs.Says.{joined}
-use Rattle.fix_base.specs.Seen.{Note, acts_of}
+use Rattle.fix_base.specs.Trace.{Note, acts_of}
 use Rattle.fix_engine.specs.InStep.{bytes_written}
 use Rattle.fix_engine.specs.declared.state.State.{State}
 use Rattle.fix_engine.specs.declared.state.Phase.{Phase}
@@ -71,13 +71,13 @@ said_at AtLogout = 19
 pub record IsAt (p : Place) (s : State) : Type 0 where
   pub phase : s.phase ≡ phase_at p
   pub expected : s.expected ≡ expected_at p
-  pub low : s.kept ≤ expected_at p
+  pub low : s.stored_expected ≤ expected_at p
   pub last : s.last ≡ last_at p
   pub reading : s.reading ≡ SAMPLE_TIME
 
 -- so many bytes are to be kept of what is said, and ten for each number that may be expected yet: the last is 4
 abbrev pub to_keep : ℕ → State → ℕ
-to_keep said s = said + 10 * (4 - s.kept)
+to_keep said s = said + 10 * (4 - s.stored_expected)
 
 -- what comes of a part of the run that begins there, in this state, and ends in that: want of memory; that it goes on at
 -- some place with P; or that the Logout was answered, and all is written and handed over. The store has room for the rest
@@ -140,7 +140,7 @@ came_err p s to notes P Q e (over n t four low leaves) = over n t four low leave
 
 -- the expected number is at most 4 behind this, and the kept one is no greater
 pub record IsLow (s : State) : Type 0 where
-  pub kept : s.kept ≤ s.expected
+  pub kept : s.stored_expected ≤ s.expected
   pub expected : s.expected ≤ 4
 
 pub low_at : (p : Place) (s : State) → IsAt p s → IsLow s

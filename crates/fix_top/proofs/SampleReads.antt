@@ -4,11 +4,11 @@ use Rattle.std.proofs.lemmas.List.{length-append}
 use Rattle.fix_base.specs.declared.act.Act.{Act}
 use Rattle.fix_base.specs.declared.act.Act.TheVariants as act
 use Rattle.fix_base.specs.Says.{joined}
-use Rattle.fix_base.specs.Seen.{Note, acts_of}
+use Rattle.fix_base.specs.Trace.{Note, acts_of}
 use Rattle.fix_base.proofs.SeenLemmas.{acts_of-append}
 use Rattle.fix_base.specs.Parts.{left_before}
 use Rattle.fix_engine.specs.InStep.{bytes_written}
-use Rattle.fix_engine.specs.Turns.{reads_in}
+use Rattle.fix_engine.specs.Counts.{reads_in}
 use Rattle.fix_top.specs.Sample.{LooksAt, ReadsPieces, handed_in}
 
 bytes_written-append : (xs ys : List Act) → bytes_written (xs ++ ys) ≡ bytes_written xs ++ bytes_written ys

@@ -5,7 +5,7 @@ use Rattle.fix_base.specs.declared.act.Act.{Act}
 use Rattle.fix_base.specs.declared.act.Act.TheVariants as act
 use Rattle.fix_base.specs.Line.{line_text}
 use Rattle.fix_base.specs.Payload.{record_size}
-use Rattle.fix_base.specs.Seen.{Note, Did, Failed, Asked, StorePart, LinkPart, AppPart, acts_of}
+use Rattle.fix_base.specs.Trace.{Note, Did, Failed, Asked, StorePart, LinkPart, AppPart, acts_of}
 use Rattle.fix_engine.specs.InStep.{bytes_written}
 use Rattle.fix_top.specs.Sample.{HasRooms, handed_in}
 

@@ -7,7 +7,7 @@ use Rattle.fix_base.specs.Line.{line_text, body_text}
 use Rattle.fix_base.specs.End.{new_end}
 use Rattle.fix_base.specs.Parts.{PartsSeen, HasNoRoom, with_store_room}
 use Rattle.fix_base.specs.Says.{joined}
-use Rattle.fix_base.specs.Seen.{Note, acts_of, Follows, Seen}
+use Rattle.fix_base.specs.Trace.{Note, acts_of, Follows, OutsideSeen}
 use Rattle.fix_parts.specs.Link.{LinkSeen}
 use Rattle.fix_disk.specs.Sink.{SinkSeen}
 use Rattle.fix_parts.specs.Line.{line_seen}
@@ -17,7 +17,7 @@ use Rattle.fix_disk.specs.State.{State, blank}
 use Rattle.fix_disk.specs.MemoryDisk.{DiskScript, disk_of, disk_state, disk_script, script_of, room_of}
 use Rattle.fix_store.specs.Reading.{HasEnd, IsBrokenAt}
 use Rattle.fix_store.specs.Rooms.{room_in, room_left}
-use Rattle.fix_rim.specs.Held.{seen_on}
+use Rattle.fix_rim.specs.StoreSlot.{seen_on}
 use Rattle.fix_rim.specs.Rim.{parts_of, seen_of}
 use Rattle.fix_journal.proofs.SoundLemmas.{some_same}
 use Rattle.fix_store.proofs.Ends.{not_broken}
@@ -96,7 +96,7 @@ told_so status notes new pieces f (inr s) =
     })
 
 -- parts with the sample's bytes to come, and with so much room, are given the answers and the line of the order
-pub sample_written : (turns status : ℕ) (w : Seen) (notes : List Note) (new : PartsSeen) (pieces : List (List ℕ)) → IsNewStore w → joined pieces ≡ SAMPLE → length pieces + length SAMPLE < turns → w.parts ≡ sample_parts pieces → Served SAMPLE_ID turns w status notes → Follows notes w.parts new → WritesSample status new.written new.lines
+pub sample_written : (turns status : ℕ) (w : OutsideSeen) (notes : List Note) (new : PartsSeen) (pieces : List (List ℕ)) → IsNewStore w → joined pieces ≡ SAMPLE → length pieces + length SAMPLE < turns → w.parts ≡ sample_parts pieces → Served SAMPLE_ID turns w status notes → Follows notes w.parts new → WritesSample status new.written new.lines
 sample_written turns status w notes new pieces fresh bytes enough is served follows =
     let from = sample_parts pieces in
     let f : Follows notes from new = subst (λ (p : PartsSeen). Follows notes p new) is follows in

@@ -1,5 +1,6 @@
 -- A sample session: a Logon, an order and a Logout come, and each gets its answer.
-use Rattle.std.specs.Prelude.{◌≡◌, ◌⊎◌, ◌==◌, ◌<◌, ◌-◌, if◌then◌else◌, codes, length, ℕ, List, [], ◌∷◌, ◌++◌, Option, Some, None, false, ⊤}
+use Rattle.std.specs.Prelude.{◌≡◌, ◌⊎◌, ◌==◌, ◌<◌, ◌-◌, if◌then◌else◌, codes, length, ℕ, List, [], ◌∷◌, ◌++◌}
+use Rattle.std.specs.Prelude.{Option, Some, None, false, ⊤}
 use Rattle.fix_base.specs.declared.act.Act.{Act}
 use Rattle.fix_base.specs.declared.act.Act.TheVariants as act
 use Rattle.fix_base.specs.declared.identity.Identity.{Identity}
@@ -8,7 +9,7 @@ use Rattle.fix_base.specs.Says.{joined}
 use Rattle.fix_base.specs.Line.{line_text}
 use Rattle.fix_base.specs.Parts.{left_before}
 use Rattle.fix_base.specs.Payload.{record_size}
-use Rattle.fix_base.specs.Seen.{Note, Did, Failed, Asked, StorePart, LinkPart, AppPart}
+use Rattle.fix_base.specs.Trace.{Note, Did, Failed, Asked, StorePart, LinkPart, AppPart}
 use Rattle.fix_engine.specs.InStep.{bytes_written}
 
 -- the text with an SOH for each bar
@@ -37,7 +38,8 @@ unfoldable pub LOGON : List ℕ
 LOGON = wire (codes "8=FIX.4.2|9=58|35=A|34=1|49=BUY|52=20240102-10:00:00|56=SELL|98=0|108=30|10=063|")
 
 unfoldable pub ORDER : List ℕ
-ORDER = wire (codes "8=FIX.4.2|9=95|35=D|34=2|49=BUY|52=20240102-10:00:00|56=SELL|11=A1|21=1|55=XYZ|54=1|60=20240102-10:00:00|40=1|10=094|")
+ORDER = wire (codes
+    "8=FIX.4.2|9=95|35=D|34=2|49=BUY|52=20240102-10:00:00|56=SELL|11=A1|21=1|55=XYZ|54=1|60=20240102-10:00:00|40=1|10=094|")
 
 unfoldable pub LOGOUT : List ℕ
 LOGOUT = wire (codes "8=FIX.4.2|9=46|35=5|34=3|49=BUY|52=20240102-10:00:00|56=SELL|10=025|")
@@ -79,11 +81,12 @@ LooksAt t (act.Withheld k ∷ acts) = LooksAt t acts
 LooksAt t (act.Allowed k ∷ acts) = LooksAt t acts
 LooksAt t (act.Stop ∷ acts) = LooksAt t acts
 
--- The reads are those of a connection with these pieces to come: each read takes a front of the first piece, nothing
--- comes where that is empty, and the connection ends where no piece is left.
+-- The reads are those of a connection with these pieces to come: each read takes a front of the first piece,
+-- nothing comes where that is empty, and the connection ends where no piece is left.
 abbrev pub ReadsPieces : List (List ℕ) → List Act → Type 0
 ReadsPieces pieces [] = ⊤
-ReadsPieces pieces (act.Read b ∷ acts) = (rest : List ℕ) × (later : List (List ℕ)) × (pieces ≡ (b ++ rest) ∷ later) × ReadsPieces (left_before rest later) acts
+ReadsPieces pieces (act.Read b ∷ acts) = (rest : List ℕ) × (later : List (List ℕ)) × (pieces ≡ (b ++ rest) ∷ later)
+    × ReadsPieces (left_before rest later) acts
 ReadsPieces pieces (act.Idle ∷ acts) = (later : List (List ℕ)) × (pieces ≡ [] ∷ later) × ReadsPieces later acts
 ReadsPieces pieces (act.Ended ∷ acts) = (pieces ≡ []) × ReadsPieces pieces acts
 ReadsPieces pieces (act.Opened ∷ acts) = ReadsPieces pieces acts
@@ -98,14 +101,17 @@ ReadsPieces pieces (act.Withheld k ∷ acts) = ReadsPieces pieces acts
 ReadsPieces pieces (act.Allowed k ∷ acts) = ReadsPieces pieces acts
 ReadsPieces pieces (act.Stop ∷ acts) = ReadsPieces pieces acts
 
--- The connection fails only at a write that doesn't fit into its room, the application only at a line that doesn't fit
--- into its own, and the store only at a record that doesn't: so many bytes at first, and less by what goes there. Behind a
--- failure of the store nothing is said of its room. The application has no draft to give.
+-- The connection fails only at a write that doesn't fit into its room, the application only at a line that
+-- doesn't fit into its own, and the store only at a record that doesn't: so many bytes at first, and less by
+-- what goes there. After a failure of the store nothing is said of its room. The application has no draft to
+-- give.
 abbrev pub HasRooms : ℕ → ℕ → ℕ → List Note → Type 0
 HasRooms link app store [] = ⊤
 HasRooms link app store (Did (act.Wrote b) ∷ notes) = HasRooms (link - length b) app store notes
-HasRooms link app store (Did (act.Handed n marked body) ∷ notes) = HasRooms link (app - length (line_text n marked body)) store notes
-HasRooms link app store (Did (act.HandLost n marked body) ∷ notes) = (app < length (line_text n marked body)) × HasRooms link app store notes
+HasRooms link app store (Did (act.Handed n marked body) ∷ notes) = HasRooms link
+    (app - length (line_text n marked body)) store notes
+HasRooms link app store (Did (act.HandLost n marked body) ∷ notes) = (app < length (line_text n marked body))
+    × HasRooms link app store notes
 HasRooms link app store (Did (act.KeepLost r) ∷ notes) = (store < record_size r) × HasRooms link app store notes
 HasRooms link app store (Did (act.Kept r) ∷ notes) = HasRooms link app (store - record_size r) notes
 HasRooms link app store (Did (act.Now t) ∷ notes) = HasRooms link app store notes
@@ -146,10 +152,11 @@ pub record IsServedSo (status : ℕ) (written : List ℕ) (handed : List Act) (a
   pub wrote : bytes_written acts ≡ written
   pub gave : handed_in acts ≡ handed
 
--- what comes of the sample: the Logon and the Logout are answered, and the order is handed over; unless memory is
--- refused
+-- what comes of the sample: the Logon and the Logout are answered, and the order is handed over; unless it is
+-- out of memory
 abbrev pub ServesSample : ℕ → List Act → Type 0
-ServesSample status acts = (status ≡ 9) ⊎ IsServedSo status (LOGON_ANSWER ++ LOGOUT_ANSWER) (act.Handed 2 false BODY ∷ []) acts
+ServesSample status acts = (status ≡ 9)
+    ⊎ IsServedSo status (LOGON_ANSWER ++ LOGOUT_ANSWER) (act.Handed 2 false BODY ∷ []) acts
 
 -- the status 0, with these bytes written on the connection and these lines handed to the application, and no others
 pub record HasWritten (status : ℕ) (written lines : Option (List ℕ)) : Type 0 where

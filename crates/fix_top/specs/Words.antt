@@ -1,16 +1,16 @@
--- The words that a program is started with.
+-- The arguments of a program.
 use Rattle.std.specs.Prelude.{◌≡◌, ℕ, List, [], ◌∷◌, codes}
 use Rattle.fix_base.specs.declared.identity.Identity.{Identity}
 use Rattle.fix_base.specs.Session.{IsValidIdentity, begin_string_of}
 use Rattle.fix_top.specs.declared.words.Named.{Named}
 
--- these words ask for one session on the standard streams: `--stdio` BeginString SenderCompID
+-- these arguments name one session on the standard streams: `--stdio` BeginString SenderCompID
 -- TargetCompID, as this end writes them in its messages (8, 49, 56)
 pub record IsForm (words : List (List ℕ)) (id : Identity) : Type 0 where
   pub spelled : words ≡ codes "--stdio" ∷ begin_string_of id.begin ∷ id.sender ∷ id.target ∷ []
   pub valid : IsValidIdentity id
 
--- these words ask for no session
+-- these arguments name no session
 abbrev pub IsNoForm : List (List ℕ) → Type 0
 IsNoForm words = (id : Identity) → IsForm words id → ⊥
 

@@ -1,4 +1,4 @@
-//! Serves a session over an Outside, by the words that a program is started with.
+//! Serves a session over an Outside, by the arguments of a program.
 #![tactic(auto)]
 
 mod sample;

@@ -1,3 +1,5 @@
+//! Which status a program ends with, and the name of each. `serve` takes the status from here, and `main` of
+//! fixacceptor the name.
 ghost use Rattle.std.specs.Prelude.{◌≡◌};
 ghost use Rattle.fix_top.specs.Serve.{status_of, load_status as status_of_load};
 ghost use Rattle.fix_top.specs.Names.{name_of};
@@ -5,9 +7,9 @@ ghost use Rattle.fix_top.specs.Names.{name_of};
 use fix_base::Status;
 use fix_engine::{LoadFault, RunEnd, Why};
 
-/// The words ask for no session.
+/// The arguments name no session.
 pub const WORDS: Status = Status(2);
-/// Memory was refused.
+/// Out of memory.
 pub const MEMORY: Status = Status(9);
 
 /// The status for how a run ended.

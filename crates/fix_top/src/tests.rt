@@ -1,3 +1,5 @@
+//! Whole connections over parts in memory: what goes out, what is stored, and with which status they end. Also
+//! which arguments are refused, and what is kept of an order that is sent.
 ghost use Rattle.std.specs.Prelude.{◌≡◌, IfOk, if◌then◌else◌, Some, None, false};
 ghost use Rattle.fix_base.specs.Says.{joined};
 ghost use Rattle.fix_top.specs.Sample.{SAMPLE};
@@ -6,9 +8,10 @@ use super::*;
 use crate::words::{identity_from, read_words};
 use fix_base::{Act, By, Bytes, Entry, OutOfMemory, Record, SeqNum, Status, Stored, Tag};
 use fix_disk::{Disk, MemoryDisk, MemorySink};
-use fix_engine::{FetchFault, KeepFault, Kind, LoadFault, Outside, Rim, SendFault, Session};
+use fix_engine::{FetchFault, KeepFault, Kind, LoadFault, Outside, SendFault, Session};
 use fix_fields::{Draft, DraftFields};
 use fix_parts::{Handed, KeptTape, LineApp, MemoryClock, MemoryLink, ReadTurn, Said, WriteTurn};
+use fix_rim::Rim;
 use std::alloc::Global;
 use std::process::Abort;
 use std::test::Fail;
@@ -237,7 +240,7 @@ fn a_session_may_end_without_a_logout(rt: HostRuntime) -> Result<(), Fail> {
     Ok(())
 }
 
-// Serves an empty input for these words, and gives the status and how many acts were noted.
+// Serves an empty input for these arguments, and gives the status and how many acts were noted.
 fn status_for(alloc: Global, words: &[&str]) -> Result<(u8, usize), Fail> {
     let (status, o) = served(alloc, words, Vec::new(alloc), NONE, 9)?;
     Ok((status.0, o.tape().acts().len()))
@@ -299,7 +302,7 @@ fn a_damaged_file_is_refused(rt: HostRuntime) -> Result<(), Fail> {
 #[test]
 fn a_stop_before_the_number_is_kept_leaves_the_old_one(rt: HostRuntime) -> Result<(), Fail> {
     let alloc = rt.alloc();
-    // The order is handed over, and the first disk call of the record behind it fails.
+    // The order is handed over, and the first disk call of the record after it fails.
     let fails = Fails { disk: 13, ..NONE };
     let pieces = at_once(alloc, &[LOGON, ORDER])?;
     let (status, o) = served(alloc, WORDS.as_slice(), pieces, fails, u64::MAX)?;
@@ -417,7 +420,7 @@ fn outside(alloc: Global, pieces: Vec<Bytes>, fails: Fails) -> Result<Tested, Fa
     ))
 }
 
-// Opens a session, and sends the order: on a connection behind a turn, or on none.
+// Opens a session, and sends the order: on a connection after a turn, or on none.
 fn send_on<O: Outside>(alloc: Global, o: &mut O) -> Result<Result<SeqNum, SendFault>, Fail> {
     let Some(named) = read_words(WORDS.as_slice()) else {
         return Err(OutOfMemory.into());
@@ -511,8 +514,8 @@ fn an_order_that_the_connection_loses_is_kept(rt: HostRuntime) -> Result<(), Fai
     Ok(())
 }
 
-// An outside whose store has used every number, and tells no end. It counts its calls; memory is
-// refused to all but the opening.
+// An outside whose store has used every number, and tells no end. It counts its calls; all calls but
+// the opening are out of memory.
 #[derive(Drop)]
 struct Spent {
     loaded: bool,
@@ -528,7 +531,26 @@ impl Spent {
 }
 
 impl Outside for Spent {
-    ghost seen = { λ s. record { tape = None; Holds = λ e. ⊥; open_at = if s.loaded then Some 999999999 else None; Tells = ⊥; Breaks = λ place. ⊥; faults = record { store = 0; link = 0; app = 0 }; parts = record { to_come = None; readings = None; written = None; link_room = None; lines = None; line_room = None; asked = None; to_ask = None; store_room = None } } };
+    ghost seen = { λ s.
+        record {
+          tape = None;
+          Holds = λ e. ⊥;
+          open_at = if s.loaded then Some 999999999 else None;
+          Tells = ⊥;
+          Breaks = λ place. ⊥;
+          faults = record { store = 0; link = 0; app = 0 };
+          parts = record {
+            to_come = None;
+            readings = None;
+            written = None;
+            link_room = None;
+            lines = None;
+            line_room = None;
+            asked = None;
+            to_ask = None;
+            store_room = None;
+          };
+        } };
 
     fn now(&mut self) -> Result<u64, OutOfMemory> {
         self.count();

@@ -1,18 +1,20 @@
+//! What becomes of a draft over several turns, also where the store or the connection fails in between. Also
+//! that a Logon isn't answered where every number is used.
 ghost use Rattle.std.specs.Prelude.{◌≡◌, ◌≢◌, IfNone, IfOk, OnOk, if◌then◌else◌, Some, None};
 ghost use Rattle.fix_engine.specs.Run.{IsDownUnlessSpent};
 ghost use Rattle.fix_engine.specs.Faults.{stop_cause, send_stop};
-ghost use Rattle.fix_engine.specs.InStep.{StandsInStep};
+ghost use Rattle.fix_engine.specs.InStep.{IsInStepSinceSome};
 
 use super::*;
 use crate::words::{identity_from, read_words};
 use fix_base::{Act, By, Bytes, Entry, OutOfMemory, Record, SeqNum, Status, Stored, Tag};
 use fix_disk::MemoryDisk;
 use fix_engine::{
-    FetchFault, KeepFault, Kind, LoadFault, Outside, Phase, Rim, RunEnd, SendFault, Session,
-    StopCause,
+    FetchFault, KeepFault, Kind, LoadFault, Outside, Phase, RunEnd, SendFault, Session, StopCause,
 };
 use fix_fields::{Draft, DraftFields};
 use fix_parts::{Handed, KeptTape, MemoryApp, MemoryClock, MemoryLink, ReadTurn, Said, WriteTurn};
+use fix_rim::Rim;
 use std::alloc::Global;
 use std::test::Fail;
 
@@ -83,8 +85,8 @@ fn outside(alloc: Global, texts: &[&[u8]], disk: u64, link: u64) -> Result<Asked
 // A session that was opened, on a connection.
 fn connected<O: Outside>(alloc: Global, o: &mut O) -> Result<Session, Fail>
     ensures goes { IfOk result (λ session. session.stopped ≡ None) }
-    ensures up { IfOk result (λ session. session.live.state.phase ≢ Phase.Down) }
-    ensures stands { IfOk result (StandsInStep (O.seen o.new)) }
+    ensures up { IfOk result (λ session. session.connection.state.phase ≢ Phase.Down) }
+    ensures stands { IfOk result (IsInStepSinceSome (O.seen o.new)) }
 {
     let Some(named) = read_words(&["--stdio", "FIX.4.2", "SELL", "BUY"]) else {
         return Err(OutOfMemory.into());
@@ -102,11 +104,11 @@ fn connected<O: Outside>(alloc: Global, o: &mut O) -> Result<Session, Fail>
 
 fn begin<O: Outside>(session: &mut Session, o: &mut O) -> Result<(), Fail>
     requires goes { session.old.stopped ≡ None }
-    requires down { session.old.live.state.phase ≡ Phase.Down }
-    requires stands { StandsInStep (O.seen o.old) session.old }
+    requires down { session.old.connection.state.phase ≡ Phase.Down }
+    requires stands { IsInStepSinceSome (O.seen o.old) session.old }
     ensures goes { OnOk result (session.new.stopped ≡ None) }
-    ensures up { OnOk result (session.new.live.state.phase ≢ Phase.Down) }
-    ensures stands { OnOk result (StandsInStep (O.seen o.new) session.new) }
+    ensures up { OnOk result (session.new.connection.state.phase ≢ Phase.Down) }
+    ensures stands { OnOk result (IsInStepSinceSome (O.seen o.new) session.new) }
 {
     match session.begin(o) {
         Ok(()) => Ok(()),
@@ -116,11 +118,11 @@ fn begin<O: Outside>(session: &mut Session, o: &mut O) -> Result<(), Fail>
 
 fn run<O: Outside>(session: &mut Session, o: &mut O, turns: u64) -> RunEnd
     requires goes { session.old.stopped ≡ None }
-    requires up { session.old.live.state.phase ≢ Phase.Down }
-    requires stands { StandsInStep (O.seen o.old) session.old }
+    requires up { session.old.connection.state.phase ≢ Phase.Down }
+    requires stands { IsInStepSinceSome (O.seen o.old) session.old }
     ensures stops { session.new.stopped ≡ stop_cause result }
-    ensures phase { IsDownUnlessSpent result session.old.live.state.phase session.new.live.state.phase }
-    ensures stands { IfNone session.new.stopped (StandsInStep (O.seen o.new) session.new) }
+    ensures phase { IsDownUnlessSpent result session.old.connection.state.phase session.new.connection.state.phase }
+    ensures stands { IfNone session.new.stopped (IsInStepSinceSome (O.seen o.new) session.new) }
 {
     session.run_turns(o, turns)
 }
@@ -134,7 +136,7 @@ fn run_stopped<O: Outside>(session: &mut Session, o: &mut O) -> RunEnd
 
 fn send<O: Outside>(session: &mut Session, o: &mut O, draft: &Draft) -> Result<SeqNum, SendFault>
     requires goes { session.old.stopped ≡ None }
-    requires stands { StandsInStep (O.seen o.old) session.old }
+    requires stands { IsInStepSinceSome (O.seen o.old) session.old }
     ensures stops { session.new.stopped ≡ send_stop result }
 {
     session.send(o, draft)
@@ -143,8 +145,8 @@ fn send<O: Outside>(session: &mut Session, o: &mut O, draft: &Draft) -> Result<S
 fn reopen<O: Outside>(session: &mut Session, o: &mut O) -> Result<(), Fail>
     requires stopped { session.old.stopped ≡ Some StopCause.StoreFault }
     ensures goes { OnOk result (session.new.stopped ≡ None) }
-    ensures down { OnOk result (session.new.live.state.phase ≡ Phase.Down) }
-    ensures stands { OnOk result (StandsInStep (O.seen o.new) session.new) }
+    ensures down { OnOk result (session.new.connection.state.phase ≡ Phase.Down) }
+    ensures stands { OnOk result (IsInStepSinceSome (O.seen o.new) session.new) }
 {
     match session.reopen(o) {
         Ok(()) => Ok(()),
@@ -155,8 +157,8 @@ fn reopen<O: Outside>(session: &mut Session, o: &mut O) -> Result<(), Fail>
 // A session whose first turn answered the Logon of its connection.
 fn begun<O: Outside>(alloc: Global, o: &mut O) -> Result<Session, Fail>
     ensures goes { IfOk result (λ session. session.stopped ≡ None) }
-    ensures up { IfOk result (λ session. session.live.state.phase ≢ Phase.Down) }
-    ensures stands { IfOk result (StandsInStep (O.seen o.new)) }
+    ensures up { IfOk result (λ session. session.connection.state.phase ≢ Phase.Down) }
+    ensures stands { IfOk result (IsInStepSinceSome (O.seen o.new)) }
 {
     let mut session = connected(alloc, o)?;
     match run(&mut session, o, 1) {
@@ -193,7 +195,7 @@ fn written(o: &Asked) -> &[u8] {
     }
 }
 
-// Two turns behind the Logon.
+// Two turns after the Logon.
 fn two_turns<O: Outside>(alloc: Global, o: &mut O) -> Result<Session, Fail> {
     let mut session = begun(alloc, o)?;
     match run(&mut session, o, 2) {
@@ -211,7 +213,7 @@ fn a_draft_goes_out_in_the_next_turn(rt: HostRuntime) -> Result<(), Fail> {
     expected.extend_from_slice(ORDER_OUT)?;
     assert!(rt; written(&o) == expected.as_slice());
     assert_eq!(rt; o.app().asked().len(), 1);
-    assert!(rt; !session.in_hand());
+    assert!(rt; !session.pending_draft());
     assert_eq!(rt; session.last(), 2);
     // The order is kept and written, and then the link is read.
     match o.tape().acts() {
@@ -229,7 +231,7 @@ fn a_draft_goes_out_in_the_next_turn(rt: HostRuntime) -> Result<(), Fail> {
     Ok(())
 }
 
-// The store fails in the turn behind the Logon. It is opened again, and a second connection served:
+// The store fails in the turn after the Logon. It is opened again, and a second connection served:
 // whether the order was stored before that, and the session then.
 fn stored_again<O: Outside>(alloc: Global, o: &mut O) -> Result<(bool, Session), Fail> {
     let mut session = begun(alloc, o)?;
@@ -243,7 +245,7 @@ fn stored_again<O: Outside>(alloc: Global, o: &mut O) -> Result<(bool, Session),
     }
     reopen(&mut session, o)?;
     let stored = session.last() == 2;
-    if session.in_hand() == stored {
+    if session.pending_draft() == stored {
         return Err(OutOfMemory.into());
     }
     begin(&mut session, o)?;
@@ -262,7 +264,7 @@ fn a_draft_that_the_store_failed_at_is_stored_once(rt: HostRuntime) -> Result<()
     for disk in 17..=20 {
         let mut o = outside(alloc, &[LOGON, SECOND_LOGON, b"", b""], disk, 0)?;
         let (stored, session) = stored_again(alloc, &mut o)?;
-        assert!(rt; !session.in_hand());
+        assert!(rt; !session.pending_draft());
         assert_eq!(rt; session.last(), 3);
         assert_eq!(rt; times_kept(alloc, &o)?, if stored { 0 } else { 1 });
         assert_eq!(rt; written(&o).ends_with(THIRD_OUT), !stored);
@@ -274,14 +276,14 @@ fn a_draft_that_the_store_failed_at_is_stored_once(rt: HostRuntime) -> Result<()
     Ok(())
 }
 
-// The connection fails in the turn behind the Logon, and a second one is served.
+// The connection fails in the turn after the Logon, and a second one is served.
 fn connected_again<O: Outside>(alloc: Global, o: &mut O) -> Result<Session, Fail> {
     let mut session = begun(alloc, o)?;
     match run(&mut session, o, 1) {
         RunEnd::LinkFault => {}
         _ => return Err(OutOfMemory.into()),
     }
-    if session.in_hand() || session.last() != 2 {
+    if session.pending_draft() || session.last() != 2 {
         return Err(OutOfMemory.into());
     }
     begin(&mut session, o)?;
@@ -344,7 +346,26 @@ struct Full {
 }
 
 impl Outside for Full {
-    ghost seen = { λ s. record { tape = None; Holds = λ e. ⊥; open_at = if s.loaded then Some 999999999 else None; Tells = ⊥; Breaks = λ place. ⊥; faults = record { store = 0; link = 0; app = 0 }; parts = record { to_come = None; readings = None; written = None; link_room = None; lines = None; line_room = None; asked = None; to_ask = None; store_room = None } } };
+    ghost seen = { λ s.
+        record {
+          tape = None;
+          Holds = λ e. ⊥;
+          open_at = if s.loaded then Some 999999999 else None;
+          Tells = ⊥;
+          Breaks = λ place. ⊥;
+          faults = record { store = 0; link = 0; app = 0 };
+          parts = record {
+            to_come = None;
+            readings = None;
+            written = None;
+            link_room = None;
+            lines = None;
+            line_room = None;
+            asked = None;
+            to_ask = None;
+            store_room = None;
+          };
+        } };
 
     fn now(&mut self) -> Result<u64, OutOfMemory> {
         Ok(TIME)

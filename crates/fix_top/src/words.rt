@@ -1,15 +1,12 @@
-ghost use Rattle.std.specs.List.{list_all};
-ghost use Rattle.std.specs.Prelude.{◌≡◌, ◌&&◌, nat_le, [], ◌∷◌, map, MatchBool, IfOk, IfSome, IfNone};
-ghost use Rattle.fix_base.specs.Session.{is_comp_id};
+//! Reads the arguments of a program: who the session is between. `serve` calls this first, and `main` of
+//! fixacceptor asks here before it makes its parts.
+ghost use Rattle.std.specs.Prelude.{◌≡◌, [], ◌∷◌, map, MatchBool, IfOk, IfSome, IfNone};
 ghost use Rattle.fix_top.specs.Words.{IsForm, IsNoForm, identity_of};
 
-use fix_base::{Begin, Bytes, Identity, OutOfMemory};
+use fix_base::{Begin, Bytes, Identity, OutOfMemory, is_comp_id};
 use std::alloc::Global;
 
-/// The longest CompID, in bytes.
-const LONGEST_COMP_ID: usize = 64;
-
-/// Who a session is between, as the words say it.
+/// Who a session is between, as the arguments say it.
 #[derive(Clone, Copy)]
 pub struct Named<'a> {
     pub begin: Begin,
@@ -19,40 +16,7 @@ pub struct Named<'a> {
     pub target: &'a [u8],
 }
 
-// Whether each byte is from 0x20 to 0x7E.
-fn is_printable(text: &[u8]) -> bool
-    ensures { result ≡ list_all (λ b. nat_le 32 b && nat_le b 126) text.now }
-{
-    text.iter().all(|byte| 32 <= *byte && *byte <= 126)
-}
-
-// Whether the bytes are a CompID: 1 to 64 bytes from 0x20 to 0x7E.
-fn is_comp(text: &[u8]) -> bool
-    ensures { result ≡ is_comp_id text.now }
-{
-    !text.is_empty() && text.len() <= LONGEST_COMP_ID && is_printable(text)
-}
-
-// What four words name, if they ask for a session.
-fn party_of<'a>(mode: &[u8], begin: &[u8], sender: &'a [u8], target: &'a [u8]) -> Option<Named<'a>>
-    ensures known { IfSome result (λ n. IsForm (mode.now ∷ begin.now ∷ sender.now ∷ target.now ∷ []) (identity_of n)) }
-    ensures each { IfNone result (IsNoForm (mode.now ∷ begin.now ∷ sender.now ∷ target.now ∷ [])) }
-{
-    if mode != b"--stdio".as_slice() {
-        return None;
-    }
-    let begin = Begin::of(begin)?;
-    if !is_comp(sender) || !is_comp(target) {
-        return None;
-    }
-    Some(Named {
-        begin,
-        sender,
-        target,
-    })
-}
-
-/// What the words ask for: `--stdio`, BeginString (8), this end's CompID, and the counterparty's.
+/// What the arguments name: `--stdio`, BeginString (8), this end's CompID, and the counterparty's.
 pub fn read_words<'a>(words: &'a [&'a str]) -> Option<Named<'a>>
     ensures known { IfSome result (λ n. IsForm (map (λ w. w.now) words.now) (identity_of n)) }
     ensures each { IfNone result (IsNoForm (map (λ w. w.now) words.now)) }
@@ -60,7 +24,7 @@ pub fn read_words<'a>(words: &'a [&'a str]) -> Option<Named<'a>>
     let [mode, begin, sender, target] = words else {
         return None;
     };
-    party_of(
+    named_in(
         mode.as_bytes(),
         begin.as_bytes(),
         sender.as_bytes(),
@@ -68,7 +32,7 @@ pub fn read_words<'a>(words: &'a [&'a str]) -> Option<Named<'a>>
     )
 }
 
-/// Whether the words ask for a session.
+/// Whether the arguments name a session.
 pub fn asks_for_session(words: &[&str]) -> bool
     ensures { MatchBool result (IsNoForm (map (λ w. w.now) words.now) → ⊥) (IsNoForm (map (λ w. w.now) words.now)) }
 {
@@ -86,5 +50,24 @@ pub fn identity_from(alloc: Global, named: &Named<'_>) -> Result<Identity, OutOf
         begin: named.begin,
         sender: Bytes::copy(alloc, named.sender)?,
         target: Bytes::copy(alloc, named.target)?,
+    })
+}
+
+// What four arguments name, if they name a session.
+fn named_in<'a>(mode: &[u8], begin: &[u8], sender: &'a [u8], target: &'a [u8]) -> Option<Named<'a>>
+    ensures known { IfSome result (λ n. IsForm (mode.now ∷ begin.now ∷ sender.now ∷ target.now ∷ []) (identity_of n)) }
+    ensures each { IfNone result (IsNoForm (mode.now ∷ begin.now ∷ sender.now ∷ target.now ∷ [])) }
+{
+    if mode != b"--stdio".as_slice() {
+        return None;
+    }
+    let begin = Begin::of(begin)?;
+    if !is_comp_id(sender) || !is_comp_id(target) {
+        return None;
+    }
+    Some(Named {
+        begin,
+        sender,
+        target,
     })
 }

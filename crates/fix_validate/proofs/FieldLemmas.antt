@@ -5,13 +5,13 @@ use Rattle.std.proofs.Math.Seq.{take-add}
 use Rattle.std.proofs.lemmas.Grind.{common_steps}
 use Rattle.fix_base.specs.Fields.{Field}
 use Rattle.fix_fields.specs.Shapes.{Shapes}
-use Rattle.fix_dict.specs.Book.{Book}
+use Rattle.fix_dict.specs.Dictionary.{DictionarySeen}
 use Rattle.std.specs.Prelude.{nat_lt, is_some}
 use Rattle.std.proofs.lemmas.Bool.{both_ways}
 use Rattle.fix_base.specs.declared.fault.Fault.{Fault}
 use Rattle.fix_fields.specs.declared.kind.ValueKind.{ValueKind}
 use Rattle.fix_fields.specs.NoTwice.{has_tag}
-use Rattle.fix_dict.specs.Book.{kind_of}
+use Rattle.fix_dict.specs.Dictionary.{kind_of}
 use Rattle.fix_validate.specs.Rows.{Finds}
 use Rattle.fix_validate.proofs.RowLemmas.{finds_later}
 use Rattle.fix_validate.specs.Table.{has_field, is_member, IsNoValueOf, value_out_of_range, field_rows_by, is_header, is_trailer, is_misplaced, has_left_header, has_trailer, field_rows, fields_rows}
@@ -22,11 +22,11 @@ take_more fs n d h = grind (arith, common_steps, take-add)
 pub drop_more : {X : Type 0} (fs : List X) (n : ℕ) (d : X) → n < length fs → drop n fs ≡ get_or fs n d ∷ drop (n + 1) fs
 drop_more fs n d h = grind (arith, common_steps)
 
-pub fields_step : (book : Book) (root : Shapes) (order : Bool) (fs : List Field) (i : ℕ) (f : Field) → i < length fs → f ≡ get_or fs i f
-    → fields_rows book root order (take i fs) (drop i fs) ≡ field_rows book root order (take i fs) f ++ fields_rows book root order (take (i + 1) fs) (drop (i + 1) fs)
-fields_step book root order fs i f lt here =
-    ap (fields_rows book root order (take i fs)) (drop_more fs i f lt ∙ ap (λ (g : Field). g ∷ drop (i + 1) fs) (sym here))
-    ∙ ap (λ (b : List Field). field_rows book root order (take i fs) f ++ fields_rows book root order b (drop (i + 1) fs)) (ap (λ (g : Field). take i fs ++ g ∷ []) here ∙ sym (take_more fs i f lt))
+pub fields_step : (dictionary : DictionarySeen) (root : Shapes) (order : Bool) (fs : List Field) (i : ℕ) (f : Field) → i < length fs → f ≡ get_or fs i f
+    → fields_rows dictionary root order (take i fs) (drop i fs) ≡ field_rows dictionary root order (take i fs) f ++ fields_rows dictionary root order (take (i + 1) fs) (drop (i + 1) fs)
+fields_step dictionary root order fs i f lt here =
+    ap (fields_rows dictionary root order (take i fs)) (drop_more fs i f lt ∙ ap (λ (g : Field). g ∷ drop (i + 1) fs) (sym here))
+    ∙ ap (λ (b : List Field). field_rows dictionary root order (take i fs) f ++ fields_rows dictionary root order b (drop (i + 1) fs)) (ap (λ (g : Field). take i fs ++ g ∷ []) here ∙ sym (take_more fs i f lt))
 
 or_end : (a b : Bool) → (a || (b || false)) ≡ (a || b)
 or_end true b = refl
@@ -58,29 +58,29 @@ misplaced_case false true l false b = refl
 misplaced_case false false l true b = refl
 misplaced_case false false l false b = refl
 
-pub misplaced_is : (book : Book) (order : Bool) (before : List Field) (tag : ℕ) (left in_trailer m : Bool) → left ≡ (order && has_left_header book before) → in_trailer ≡ (order && has_trailer book before)
-    → m ≡ ((is_header book tag && left) || (not (is_trailer book tag) && in_trailer)) → m ≡ (order && is_misplaced book before tag)
-misplaced_is book order before tag left in_trailer m l t is =
-    is ∙ ap (λ b. (is_header book tag && b) || (not (is_trailer book tag) && in_trailer)) l ∙ ap (λ b. (is_header book tag && (order && has_left_header book before)) || (not (is_trailer book tag) && b)) t
-    ∙ misplaced_case order (is_header book tag) (has_left_header book before) (is_trailer book tag) (has_trailer book before)
+pub misplaced_is : (dictionary : DictionarySeen) (order : Bool) (before : List Field) (tag : ℕ) (left in_trailer m : Bool) → left ≡ (order && has_left_header dictionary before) → in_trailer ≡ (order && has_trailer dictionary before)
+    → m ≡ ((is_header dictionary tag && left) || (not (is_trailer dictionary tag) && in_trailer)) → m ≡ (order && is_misplaced dictionary before tag)
+misplaced_is dictionary order before tag left in_trailer m l t is =
+    is ∙ ap (λ b. (is_header dictionary tag && b) || (not (is_trailer dictionary tag) && in_trailer)) l ∙ ap (λ b. (is_header dictionary tag && (order && has_left_header dictionary before)) || (not (is_trailer dictionary tag) && b)) t
+    ∙ misplaced_case order (is_header dictionary tag) (has_left_header dictionary before) (is_trailer dictionary tag) (has_trailer dictionary before)
 
 -- none of the rows but the last holds
-pub last_row : (book : Book) (root : Shapes) (again misplaced : Bool) (f : Field) (tag : ℕ) (kind : Option ValueKind) (a : Option Fault) → tag ≡ f.tag → kind ≡ kind_of book tag → (nat_lt tag 5000 && not (is_some kind)) ≡ false → (length f.value == 0) ≡ false
-    → (is_some kind && not (has_tag tag root)) ≡ false → again ≡ false → misplaced ≡ false → (IsNoValueOf kind f.value → ⊥) → Finds (value_out_of_range book f ∷ []) a → Finds (field_rows_by book root again misplaced f) a
-last_row book root again misplaced f tag kind a t k invalid empty foreign once placed right h =
-    let at : kind ≡ kind_of book f.tag = k ∙ ap (kind_of book) t in
-    finds_later _ _ a (both_ways _ (ap (λ x. nat_lt x 5000 && not (is_some (kind_of book f.tag))) (sym t) ∙ ap (λ x. nat_lt tag 5000 && not (is_some x)) (sym at) ∙ invalid))
+pub last_row : (dictionary : DictionarySeen) (root : Shapes) (again misplaced : Bool) (f : Field) (tag : ℕ) (kind : Option ValueKind) (a : Option Fault) → tag ≡ f.tag → kind ≡ kind_of dictionary tag → (nat_lt tag 5000 && not (is_some kind)) ≡ false → (length f.value == 0) ≡ false
+    → (is_some kind && not (has_tag tag root)) ≡ false → again ≡ false → misplaced ≡ false → (IsNoValueOf kind f.value → ⊥) → Finds (value_out_of_range dictionary f ∷ []) a → Finds (field_rows_by dictionary root again misplaced f) a
+last_row dictionary root again misplaced f tag kind a t k invalid empty foreign once placed right h =
+    let at : kind ≡ kind_of dictionary f.tag = k ∙ ap (kind_of dictionary) t in
+    finds_later _ _ a (both_ways _ (ap (λ x. nat_lt x 5000 && not (is_some (kind_of dictionary f.tag))) (sym t) ∙ ap (λ x. nat_lt tag 5000 && not (is_some x)) (sym at) ∙ invalid))
     (finds_later _ _ a (both_ways _ empty)
-    (finds_later _ _ a (both_ways _ (ap (λ x. is_some (kind_of book f.tag) && not (has_tag x root)) (sym t) ∙ ap (λ x. is_some x && not (has_tag tag root)) (sym at) ∙ foreign))
+    (finds_later _ _ a (both_ways _ (ap (λ x. is_some (kind_of dictionary f.tag) && not (has_tag x root)) (sym t) ∙ ap (λ x. is_some x && not (has_tag tag root)) (sym at) ∙ foreign))
     (finds_later _ _ a (both_ways _ once)
     (finds_later _ _ a (both_ways _ placed)
     (finds_later _ _ a (λ e. right (rw at e)) h)))))
 
 -- what is found of a field whose place among those before it is known
-pub found_row : (book : Book) (root : Shapes) (order : Bool) (before : List Field) (f : Field) (tag : ℕ) (again misplaced left in_trailer : Bool) (a : Option Fault) → tag ≡ f.tag → again ≡ (has_field tag before && not (is_member root tag))
-    → left ≡ (order && has_left_header book before) → in_trailer ≡ (order && has_trailer book before) → misplaced ≡ ((is_header book tag && left) || (not (is_trailer book tag) && in_trailer))
-    → Finds (field_rows_by book root again misplaced f) a → Finds (field_rows book root order before f) a
-found_row book root order before f tag again misplaced left in_trailer a t x l r m h =
+pub found_row : (dictionary : DictionarySeen) (root : Shapes) (order : Bool) (before : List Field) (f : Field) (tag : ℕ) (again misplaced left in_trailer : Bool) (a : Option Fault) → tag ≡ f.tag → again ≡ (has_field tag before && not (is_member root tag))
+    → left ≡ (order && has_left_header dictionary before) → in_trailer ≡ (order && has_trailer dictionary before) → misplaced ≡ ((is_header dictionary tag && left) || (not (is_trailer dictionary tag) && in_trailer))
+    → Finds (field_rows_by dictionary root again misplaced f) a → Finds (field_rows dictionary root order before f) a
+found_row dictionary root order before f tag again misplaced left in_trailer a t x l r m h =
     let e : again ≡ (has_field f.tag before && not (is_member root f.tag)) = x ∙ ap (λ (n : ℕ). has_field n before && not (is_member root n)) t in
-    let g : misplaced ≡ (order && is_misplaced book before f.tag) = misplaced_is book order before tag left in_trailer misplaced l r m ∙ ap (λ (n : ℕ). order && is_misplaced book before n) t in
-    subst (λ (b : Bool). Finds (field_rows_by book root (has_field f.tag before && not (is_member root f.tag)) b f) a) g (subst (λ (b : Bool). Finds (field_rows_by book root b misplaced f) a) e h)
+    let g : misplaced ≡ (order && is_misplaced dictionary before f.tag) = misplaced_is dictionary order before tag left in_trailer misplaced l r m ∙ ap (λ (n : ℕ). order && is_misplaced dictionary before n) t in
+    subst (λ (b : Bool). Finds (field_rows_by dictionary root (has_field f.tag before && not (is_member root f.tag)) b f) a) g (subst (λ (b : Bool). Finds (field_rows_by dictionary root b misplaced f) a) e h)

@@ -3,7 +3,7 @@ use Rattle.std.proofs.Common.{List, [], ◌∷◌, ◌++◌, Option, Some, None,
 use Rattle.fix_fields.specs.Shapes.{Shapes}
 use Rattle.fix_groups.specs.Tagged.{Tagged}
 use Rattle.fix_groups.specs.Looked.{or_else, group_at}
-use Rattle.fix_groups.specs.Misfits.{judged_at, count_misfit, stray, first_misfit}
+use Rattle.fix_groups.specs.Misfits.{judged_at, count_misfit, outside_group, first_misfit}
 use Rattle.fix_groups.specs.declared.misfit.Misfit.{Misfit}
 use Rattle.fix_validate.specs.Rows.{Row, Finds}
 use Rattle.fix_validate.specs.Groups.{group_fault, misfit_rows, count_rows, groups_rows}
@@ -22,4 +22,4 @@ count_finds root [] = finds_none None refl
 count_finds root (f ∷ fs) = either_finds _ _ (judged_at f fs (group_at f.tag root)) (count_misfit root fs) (misfit_finds (judged_at f fs (group_at f.tag root))) (count_finds root fs)
 
 pub groups_finds : (root : Shapes) (fs : List Tagged) → Finds (groups_rows root fs) (option_map group_fault (first_misfit root fs))
-groups_finds root fs = either_finds _ _ (count_misfit root fs) (stray root [] fs) (count_finds root fs) (misfit_finds (stray root [] fs))
+groups_finds root fs = either_finds _ _ (count_misfit root fs) (outside_group root [] fs) (count_finds root fs) (misfit_finds (outside_group root [] fs))

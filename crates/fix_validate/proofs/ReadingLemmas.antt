@@ -3,7 +3,7 @@ use Rattle.std.proofs.Common.{◌≡◌, ◌≢◌, ℕ, ◌+◌, ◌<◌, lengt
 use Rattle.fix_base.specs.Front.{Begins}
 use Rattle.fix_base.specs.Fields.{Field, IsField, FieldsAfter, data_after}
 use Rattle.fix_base.specs.Says.{value_of}
-use Rattle.fix_fields.specs.Noted.{IsLeft}
+use Rattle.fix_fields.specs.HeaderValues.{IsLeft}
 use Rattle.fix_fields.proofs.EnvelopeLemmas.{value_here}
 use Rattle.fix_validate.proofs.FieldLemmas.{drop_more}
 use Rattle.fix_fields.proofs.FieldsLeft.{left_start, left_step, left_none, left_end}

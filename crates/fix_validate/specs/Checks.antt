@@ -6,35 +6,36 @@ use Rattle.fix_base.specs.declared.fault.Fault.{Fault}
 use Rattle.fix_fields.specs.Shapes.{Shapes}
 use Rattle.fix_groups.specs.Joined.{joined}
 use Rattle.fix_groups.specs.Tagged.{all_tagged}
-use Rattle.fix_dict.specs.Book.{Book, layout_of}
+use Rattle.fix_dict.specs.Dictionary.{DictionarySeen, layout_of}
 use Rattle.fix_validate.specs.Rows.{Row, Finds}
 use Rattle.fix_validate.specs.Table.{fields_rows}
 use Rattle.fix_validate.specs.Groups.{groups_rows}
 use Rattle.fix_validate.specs.Required.{required_rows}
 
 -- the members of a message with those of its header and trailer
-abbrev pub whole : Book → Shapes → Shapes
-whole book message = joined book.header (joined message book.trailer)
+abbrev pub whole : DictionarySeen → Shapes → Shapes
+whole dictionary message = joined dictionary.header (joined message dictionary.trailer)
 
 -- 11, Invalid MsgType
 abbrev pub invalid_type : Row
 invalid_type = record { holds = ⊤; fault = record { reason = 11; tag = None } }
 
 -- the layout of a message with these fields, by its MsgType (35)
-abbrev pub layout_for : Book → List Field → Option Shapes
-layout_for book fs = option_and_then (layout_of book) (value_of 35 fs)
+abbrev pub layout_for : DictionarySeen → List Field → Option Shapes
+layout_for dictionary fs = option_and_then (layout_of dictionary) (value_of 35 fs)
 
 -- the table of a message with this layout: field by field, then the groups, then the required tags
 -- of header, message and trailer
-abbrev pub rows_by : Book → Bool → List Field → Option Shapes → List Row
-rows_by book order fs None = invalid_type ∷ []
-rows_by book order fs (Some message) =
-    fields_rows book (whole book message) order [] fs
-    ++ (groups_rows (whole book message) (all_tagged fs)
-    ++ (required_rows book.header (all_tagged fs) ++ (required_rows message (all_tagged fs) ++ required_rows book.trailer (all_tagged fs))))
+abbrev pub rows_by : DictionarySeen → Bool → List Field → Option Shapes → List Row
+rows_by dictionary order fs None = invalid_type ∷ []
+rows_by dictionary order fs (Some message) =
+    fields_rows dictionary (whole dictionary message) order [] fs
+    ++ (groups_rows (whole dictionary message) (all_tagged fs)
+    ++ (required_rows dictionary.header (all_tagged fs)
+    ++ (required_rows message (all_tagged fs) ++ required_rows dictionary.trailer (all_tagged fs))))
 
-abbrev pub rows : Book → Bool → List Field → List Row
-rows book order fs = rows_by book order fs (layout_for book fs)
+abbrev pub rows : DictionarySeen → Bool → List Field → List Row
+rows dictionary order fs = rows_by dictionary order fs (layout_for dictionary fs)
 
 abbrev pub field_of_tag : ℕ → List ℕ → Field
 field_of_tag tag value = record { tag = tag; value = value }
@@ -50,7 +51,7 @@ pub record HasAllFields (frame : List ℕ) (fields : List Field) : Type 0 where
   pub spelled : FieldsAfter None frame fields
 
 -- the answer is the first fault in the table of the frame's fields
-pub record Checks (book : Book) (order : Bool) (frame : List ℕ) (answer : Option Fault) : Type 0 where
+pub record Checks (dictionary : DictionarySeen) (order : Bool) (frame : List ℕ) (answer : Option Fault) : Type 0 where
   pub fields : List Field
   pub all : HasAllFields frame fields
-  pub first : Finds (rows book order fields) answer
+  pub first : Finds (rows dictionary order fields) answer

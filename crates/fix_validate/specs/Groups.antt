@@ -4,12 +4,13 @@ use Rattle.fix_base.specs.declared.fault.Fault.{Fault}
 use Rattle.fix_fields.specs.Shapes.{Shapes}
 use Rattle.fix_groups.specs.Tagged.{Tagged}
 use Rattle.fix_groups.specs.Looked.{group_at}
-use Rattle.fix_groups.specs.Misfits.{judged_at, stray}
+use Rattle.fix_groups.specs.Misfits.{judged_at, outside_group}
 use Rattle.fix_groups.specs.declared.misfit.Misfit.{Misfit}
 use Rattle.fix_groups.specs.declared.misfit.Misfit.TheVariants.{Count, Order}
 use Rattle.fix_validate.specs.Rows.{Row, fault_at}
 
--- 16, Incorrect NumInGroup count for repeating group, and 15, Repeating group fields out of order: both name the count
+-- 16, Incorrect NumInGroup count for repeating group, and 15, Repeating group fields out of order: both name
+-- the count
 abbrev pub group_fault : Misfit → Fault
 group_fault (Count count) = fault_at 16 count
 group_fault (Order count) = fault_at 15 count
@@ -24,6 +25,6 @@ abbrev pub count_rows : Shapes → List Tagged → List Row
 count_rows root [] = []
 count_rows root (f ∷ fs) = misfit_rows (judged_at f fs (group_at f.tag root)) ++ count_rows root fs
 
--- behind all of them the first member that stands outside every run of its group
+-- after all of them the first member that stands outside every run of its group
 abbrev pub groups_rows : Shapes → List Tagged → List Row
-groups_rows root fs = count_rows root fs ++ misfit_rows (stray root [] fs)
+groups_rows root fs = count_rows root fs ++ misfit_rows (outside_group root [] fs)

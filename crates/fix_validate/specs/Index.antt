@@ -28,4 +28,5 @@ IsIndexOf fs index = 48 < length fs → IsSortedIndex fs index
 pub record IsLeast (index : List ℕ) (wanted at : ℕ) : Type 0 where
   pub bound : at < length index
   pub enough : wanted ≤ slice_index_or index at 0
-  pub least : (k : ℕ) → k < length index → wanted ≤ slice_index_or index k 0 → slice_index_or index at 0 ≤ slice_index_or index k 0
+  pub least : (k : ℕ) → k < length index → wanted ≤ slice_index_or index k 0
+      → slice_index_or index at 0 ≤ slice_index_or index k 0

@@ -22,12 +22,14 @@ up_to delimiter (f ∷ fs) = if f.tag == delimiter then [] else f ∷ up_to deli
 -- the instances of a run: each is a delimiter with the fields up to the next
 abbrev pub instances_of : ℕ → List Tagged → List (List Tagged)
 instances_of delimiter [] = []
-instances_of delimiter (f ∷ fs) = if f.tag == delimiter then (f ∷ up_to delimiter fs) ∷ instances_of delimiter fs else instances_of delimiter fs
+instances_of delimiter (f ∷ fs) = if f.tag == delimiter then
+    (f ∷ up_to delimiter fs) ∷ instances_of delimiter fs else instances_of delimiter fs
 
 -- those of each run of the group with this count
 abbrev pub instances_in : ℕ → Shapes → List Tagged → List (List Tagged)
 instances_in count g [] = []
-instances_in count g (f ∷ fs) = if f.tag == count then instances_of (lead g) (run_of g fs) ++ instances_in count g fs else instances_in count g fs
+instances_in count g (f ∷ fs) = if f.tag == count then instances_of (lead g) (run_of g fs)
+    ++ instances_in count g fs else instances_in count g fs
 
 -- the rows of each of the lists
 abbrev pub rows_of_each : (List Tagged → List Row) → List (List Tagged) → List Row
@@ -39,4 +41,5 @@ abbrev pub required_rows : Shapes → List Tagged → List Row
 required_rows no_more fs = []
 required_rows (plain tag required more) fs = required_tag_missing tag required fs ∷ required_rows more fs
 required_rows (group count required inner more) fs =
-    required_tag_missing count required fs ∷ (rows_of_each (required_rows inner) (instances_in count inner fs) ++ required_rows more fs)
+    required_tag_missing count required fs ∷ (rows_of_each (required_rows inner) (instances_in count inner fs)
+    ++ required_rows more fs)

@@ -18,7 +18,8 @@ tested test reason tag = record { holds = IsTrue test; fault = fault_at reason t
 -- the faults of the rows that hold, in the order of the table
 abbrev pub AreFaults : List Row → List Fault → Type 0
 AreFaults [] faults = faults ≡ []
-AreFaults (r ∷ rs) faults = (r.holds × (more : List Fault) × (faults ≡ r.fault ∷ more) × AreFaults rs more) ⊎ ((r.holds → ⊥) × AreFaults rs faults)
+AreFaults (r ∷ rs) faults = (r.holds × (more : List Fault) × (faults ≡ r.fault ∷ more) × AreFaults rs more)
+    ⊎ ((r.holds → ⊥) × AreFaults rs faults)
 
 -- the first of a list
 abbrev pub first : List Fault → Option Fault

@@ -1,3 +1,5 @@
+//! Whether a tag appears again (373=13). `checking` has the index of the tags made, and `fields` asks for each
+//! field.
 ghost use Rattle.std.specs.Prelude.{◌≡◌, ◌<◌, ◌≤◌, ℕ, ◌&&◌, not, IfOk};
 ghost use Rattle.std.specs.Prelude.{length, take, slice_index_or};
 ghost use Rattle.std.specs.List.Sorted.{IsNonDecreasing};
@@ -28,24 +30,6 @@ pub fn index_of(alloc: Global, fields: &[Lent<'_>]) -> Result<Vec<u128>, AllocEr
     Ok(index)
 }
 
-// The key of each field, in the order of the fields.
-fn keys_of(alloc: Global, fields: &[Lent<'_>]) -> Result<Vec<u128>, AllocError>
-    ensures { IfOk result (λ keys. keys.items ≡ keys_from 0 fields.now) }
-{
-    let mut keys = Vec::with_capacity(alloc, fields.len())?;
-    for i in 0..fields.len() {
-        keys.push(key(fields[i].tag(), i))?;
-    }
-    Ok(keys)
-}
-
-// A tag with a place. Keys are in the order of the tags, and those of one tag in that of the places.
-fn key(tag: Tag, place: usize) -> u128
-    ensures { result ≡ key tag place }
-{
-    u128::from(tag.get()) * PLACES + place as u128
-}
-
 /// Whether the tag, which the field at the place has, stands before it, and no group has it as a
 /// member.
 pub fn appears_again(
@@ -64,6 +48,24 @@ pub fn appears_again(
         return false;
     }
     root.owner(tag).is_none()
+}
+
+// The key of each field, in the order of the fields.
+fn keys_of(alloc: Global, fields: &[Lent<'_>]) -> Result<Vec<u128>, AllocError>
+    ensures { IfOk result (λ keys. keys.items ≡ keys_from 0 fields.now) }
+{
+    let mut keys = Vec::with_capacity(alloc, fields.len())?;
+    for i in 0..fields.len() {
+        keys.push(key(fields[i].tag(), i))?;
+    }
+    Ok(keys)
+}
+
+// A tag with a place. Keys are in the order of the tags, and those of one tag in that of the places.
+fn key(tag: Tag, place: usize) -> u128
+    ensures { result ≡ key tag place }
+{
+    u128::from(tag.get()) * PLACES + place as u128
 }
 
 fn stands_before(fields: &[Lent<'_>], index: &[u128], place: usize, tag: Tag) -> bool

@@ -1,3 +1,5 @@
+//! The call of this crate, for who checks a frame. It runs `reading`, `again` and `fields`, then
+//! `first_misfit_of` of fix_groups, and then `required`.
 ghost use Rattle.std.specs.Prelude.{◌≡◌, ◌++◌, Some, IfOk};
 ghost use Rattle.fix_base.specs.Shape.{IsFrame};
 ghost use Rattle.fix_groups.specs.Tagged.{all_tagged};
@@ -10,14 +12,12 @@ use crate::again::index_of;
 use crate::fields::fields_fault;
 use crate::reading::{collect, value_of};
 use crate::required::missing;
+use fix_base::tags::MSG_TYPE;
 use fix_base::{Fault, OutOfMemory};
 use fix_dict::Dictionary;
 use fix_fields::Layout;
 use fix_groups::{Lent, Misfit, Whole, first_misfit_of};
 use std::alloc::Global;
-
-/// MsgType (35).
-const MSG_TYPE: u32 = 35;
 
 /// The first fault of a frame by a dictionary, or None: SessionRejectReason (373) and RefTagID (371).
 /// First the MsgType (35) is looked for; then each field is asked in the order of the frame, from

@@ -1,6 +1,7 @@
+//! Judges each field by its tag, its place and its value. `checking` calls this before the groups are judged.
 ghost use Rattle.std.specs.Prelude.{◌≡◌, ◌||◌, ◌&&◌, not, [], nat_lt, ◌↔◌, IsTrue, is_some};
 ghost use Rattle.fix_fields.specs.NoTwice.{has_tag};
-ghost use Rattle.fix_dict.specs.Book.{kind_of};
+ghost use Rattle.fix_dict.specs.Dictionary.{kind_of};
 ghost use Rattle.fix_dict.specs.Allowed.{allows};
 ghost use Rattle.fix_validate.specs.Rows.{Finds, fault_at};
 ghost use Rattle.fix_validate.specs.Table.{is_named, is_header, is_trailer, field_rows_by, fields_rows, IsNoValueOf};
@@ -132,7 +133,7 @@ fn is_trailer(dict: &Dictionary, tag: Tag) -> bool
     has_tag(dict.trailer(), tag)
 }
 
-// Whether a field with the tag may not stand behind these: `left_header` says that a field which
+// Whether a field with the tag may not stand after these: `left_header` says that a field which
 // isn't of the header stands before it, and `in_trailer` that one of the trailer does.
 fn is_misplaced(dict: &Dictionary, tag: Tag, left_header: bool, in_trailer: bool) -> bool
     ensures { result ≡ ((is_header dict.now tag && left_header) || (not (is_trailer dict.now tag) && in_trailer)) }

@@ -1,3 +1,4 @@
+//! Reads the fields of a frame into a list, and looks tags up in it. `checking` and `again` call this.
 ghost use Rattle.std.specs.Prelude.{◌≡◌, None, List, IfOk, option_map};
 ghost use Rattle.fix_base.specs.Fields.{Field, FieldsAfter};
 ghost use Rattle.fix_base.specs.Says.{value_of};

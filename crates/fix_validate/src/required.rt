@@ -1,3 +1,5 @@
+//! Asks for the tags that a layout requires (373=1). `checking` calls this last: for header, message and
+//! trailer.
 ghost use Rattle.std.specs.Prelude.{◌≡◌, ◌+◌, ◌<◌, ◌≤◌, ◌∷◌, not, ◌&&◌, length, take, drop, slice_index_or};
 ghost use Rattle.fix_base.specs.Fields.{Field};
 ghost use Rattle.fix_groups.specs.Tagged.{tagged, all_tagged};
@@ -42,7 +44,8 @@ pub fn missing(layout: &Layout, fields: &[Lent<'_>]) -> Option<Fault>
 // The same in each instance of a group among the fields.
 #[cycle(missing)]
 fn missing_in_group(count: Tag, group: &Layout, fields: &[Lent<'_>]) -> Option<Fault>
-    ensures { Finds (rows_of_each (required_rows group.now) (instances_in count group.now (all_tagged fields.now))) result }
+    ensures { Finds
+        (rows_of_each (required_rows group.now) (instances_in count group.now (all_tagged fields.now))) result }
 {
     let wanted = count.get();
     for i in 0..fields.len() {
@@ -59,7 +62,8 @@ fn missing_in_group(count: Tag, group: &Layout, fields: &[Lent<'_>]) -> Option<F
 // The same in each instance of a run.
 #[cycle(missing)]
 fn missing_in_run(group: &Layout, run: &[Lent<'_>]) -> Option<Fault>
-    ensures { Finds (rows_of_each (required_rows group.now) (instances_of (lead group.now) (all_tagged run.now))) result }
+    ensures { Finds
+        (rows_of_each (required_rows group.now) (instances_of (lead group.now) (all_tagged run.now))) result }
 {
     let delimiter = lead(group);
     for i in 0..run.len() {
@@ -92,7 +96,8 @@ fn after<'a, 'b>(fields: &'b [Lent<'a>], n: usize) -> &'b [Lent<'a>]
 // The instance whose delimiter stands at the place.
 fn instance_at<'a, 'b>(run: &'b [Lent<'a>], place: usize, delimiter: u32) -> &'b [Lent<'a>]
     requires { place < length run.now }
-    ensures { (d : Field) → all_tagged result.now ≡ tagged (slice_index_or run.now place d) ∷ up_to delimiter (all_tagged (drop (place + 1) run.now)) }
+    ensures { (d : Field) → all_tagged result.now
+        ≡ tagged (slice_index_or run.now place d) ∷ up_to delimiter (all_tagged (drop (place + 1) run.now)) }
 {
     let behind = after(run, place + 1);
     let end = place + 1 + length_up_to(behind, delimiter);

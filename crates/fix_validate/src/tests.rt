@@ -1,3 +1,4 @@
+//! That the first fault of a frame is told, by the rules below and by the samples of fix_dict.
 use crate::check;
 use fix_base::{Fault, Tag};
 use fix_dict::{Dictionary, SAMPLE_42, SAMPLE_44};
@@ -80,7 +81,8 @@ const HEAD: &str = "35=D|34=2|49=BUY|52=20240102-10:00:00|56=SELL|";
 // No fault.
 const NONE: u16 = 99;
 
-// Fields behind HEAD, or all of them where they begin with `35=`; SessionRejectReason and RefTagID (0 where there is none).
+// Fields after HEAD, or all of them where they begin with `35=`; SessionRejectReason and RefTagID (0 where
+// there is none).
 const FREE: [(&str, u16, u32); 82] = [
     ("11=A|54=1|", NONE, 0),
     ("54=1|11=A|", NONE, 0),

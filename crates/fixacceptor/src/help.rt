@@ -1,3 +1,5 @@
+//! The texts of `--help` and `--version`. `main` prints them.
+
 /// What `--version` prints.
 pub const VERSION: &str = "fixacceptor 0.1.0\n";
 
@@ -34,7 +36,7 @@ Exit status:
    6  Link         the connection failed
    7  Application  the lines could not be written
    8  Turns        the connection lasted too long
-   9  Memory       memory was refused
+   9  Memory       out of memory
   10  NotBuilt     a message came that isn't answered yet
   11  Numbers      every MsgSeqNum (34) is used
 ";

@@ -9,15 +9,15 @@ ghost use Rattle.fix_top.specs.Words.{IsNoForm};
 
 use fix_base::Status;
 use fix_disk::{MemoryDisk, StreamSink};
-use fix_engine::Rim;
 use fix_parts::{LineApp, NoTape, StdioLink, SystemClock};
+use fix_rim::Rim;
 use fix_top::{asks_for_session, serve_stdio, status_name};
 use help::{HELP, VERSION};
 use std::alloc::{AllocError, Global};
 use std::env;
 use std::process::ExitCode;
 
-/// Words that can't be read.
+/// Arguments that can't be read.
 const WORDS: Status = Status(2);
 /// The text can't be printed.
 const LINK: Status = Status(6);
@@ -65,7 +65,7 @@ fn run(rt: &HostRuntime, words: &[&str]) -> Status {
     }
 }
 
-// The arguments as words, without the program's name.
+// The arguments as texts, without the program's name.
 fn words_of(alloc: Global, args: &[String]) -> Result<Vec<&str>, AllocError> {
     let mut words = Vec::new(alloc);
     for arg in args.iter().skip(1) {

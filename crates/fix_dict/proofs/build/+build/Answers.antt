@@ -4,4 +4,4 @@ use Rattle.fix_dict.proofs.RoomLemmas.{members_below}
 use Rattle.fix_dict.proofs.build.+build.Goals as goal
 
 pub inner_members-returns : goal.inner_members-returns
-inner_members-returns t c = subst (λ ms. IfOk c.members_of.result (λ members. members.items ≡ ms)) (members_below c.args.room (map view c.args.items.now) c.if-room-eq0.false) c.members_of.ensures
+inner_members-returns t c = subst (λ ms. IfOk c.members_of.result (λ members. members.items ≡ ms)) (members_below c.args.depth_left (map view c.args.items.now) c.if-depth_left-eq0.false) c.members_of.ensures

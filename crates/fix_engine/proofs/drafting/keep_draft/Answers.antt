@@ -1,10 +1,10 @@
-use Rattle.fix_base.proofs.SeenLemmas.{Moves-nil}
+use Rattle.fix_base.proofs.SeenLemmas.{Trace-nil}
 use Rattle.fix_fields.proofs.DraftBodies.{draft_payload}
 use Rattle.fix_engine.specs.Drafted.{unkept, kept_lost, was_kept}
 use Rattle.fix_engine.proofs.drafting.keep_draft.Goals as goal
 
 pub returns-in-Err-clause-notes : goal.returns-in-Err-clause-notes
-returns-in-Err-clause-notes g c = (_, Moves-nil _, unkept)
+returns-in-Err-clause-notes g c = (_, Trace-nil _, unkept)
 
 pub keep-requires-clause-payload : goal.keep-requires-clause-payload
 keep-requires-clause-payload g c = rw c.in-Ok.ensures.made

@@ -1,6 +1,6 @@
 use Rattle.std.proofs.Common.{sym, ◌∙◌}
 use Rattle.std.proofs.lemmas.List.{append-nil}
-use Rattle.fix_base.proofs.SeenLemmas.{Moves-append}
+use Rattle.fix_base.proofs.SeenLemmas.{Trace-append}
 use Rattle.fix_engine.specs.Drafted.{went, cut, cut_memory, no_cut}
 use Rattle.fix_engine.proofs.drafting.send_and_cut.Goals as goal
 
@@ -18,7 +18,7 @@ pub returns-in-Ok-mark-clause-notes : goal.returns-in-Ok-mark-clause-notes
 returns-in-Ok-mark-clause-notes g c =
     let h = c.in-Err.ensures.notes in (
       _,
-      Moves-append _ _ _ _ _ h.1 c.in-Ok-mark.ensures.noted,
+      Trace-append _ _ _ _ _ h.1 c.in-Ok-mark.ensures.noted,
       cut (sym c.is_cut_sent.ensures ∙ c.if-not-is_cut_sent.false) h.2,
     )
 
@@ -26,6 +26,6 @@ pub returns-in-Err-mark-clause-notes : goal.returns-in-Err-mark-clause-notes
 returns-in-Err-mark-clause-notes g c =
     let h = c.in-Err.ensures.notes in (
       _,
-      Moves-append _ _ _ _ _ h.1 c.in-Err-mark.ensures.noted,
+      Trace-append _ _ _ _ _ h.1 c.in-Err-mark.ensures.noted,
       rw append-nil (cut_memory (sym c.is_cut_sent.ensures ∙ c.if-not-is_cut_sent.false) h.2),
     )

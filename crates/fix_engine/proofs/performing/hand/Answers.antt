@@ -1,12 +1,12 @@
 use Rattle.std.proofs.Common.{sym, ap}
-use Rattle.fix_base.proofs.SeenLemmas.{Moves-nil}
+use Rattle.fix_base.proofs.SeenLemmas.{Trace-nil}
 use Rattle.fix_engine.specs.Answer.{taken, hand_lost, hand_memory}
 use Rattle.fix_engine.proofs.FrameLemmas.{fields_in, frame_has}
 use Rattle.fix_engine.proofs.KindLemmas.{body_kind}
 use Rattle.fix_engine.proofs.performing.hand.Goals as goal
 
 pub returns-in-Err-clause-notes : goal.returns-in-Err-clause-notes
-returns-in-Err-clause-notes g c = (_, Moves-nil _, hand_memory _ _)
+returns-in-Err-clause-notes g c = (_, Trace-nil _, hand_memory _ _)
 
 pub hand-requires : goal.hand-requires
 hand-requires g c =

@@ -1,7 +1,7 @@
 use Rattle.std.proofs.Common.{sym, ◌∙◌}
 use Rattle.std.proofs.lemmas.List.{append-nil}
-use Rattle.fix_base.proofs.SeenLemmas.{Moves-append}
-use Rattle.fix_engine.specs.Desk.{all_turns, cut, cut_memory, no_cut}
+use Rattle.fix_base.proofs.SeenLemmas.{Trace-append}
+use Rattle.fix_engine.specs.Turn.{all_turns, cut, cut_memory, no_cut}
 use Rattle.fix_engine.proofs.turn.run_and_cut.Goals as goal
 
 pub returns-then-not-is_cut-clause-notes : goal.returns-then-not-is_cut-clause-notes
@@ -17,12 +17,12 @@ returns-in-Ok-clause-notes g c =
 pub returns-in-Ok-mark-clause-notes : goal.returns-in-Ok-mark-clause-notes
 returns-in-Ok-mark-clause-notes g c =
     let h = c.in-Err.ensures.notes in
-    (_, Moves-append _ _ _ _ _ h.1 c.in-Ok-mark.ensures.noted, cut (sym c.is_cut.ensures ∙ c.if-not-is_cut.false) h.2)
+    (_, Trace-append _ _ _ _ _ h.1 c.in-Ok-mark.ensures.noted, cut (sym c.is_cut.ensures ∙ c.if-not-is_cut.false) h.2)
 
 pub returns-in-Err-mark-clause-notes : goal.returns-in-Err-mark-clause-notes
 returns-in-Err-mark-clause-notes g c =
     let h = c.in-Err.ensures.notes in (
       _,
-      Moves-append _ _ _ _ _ h.1 c.in-Err-mark.ensures.noted,
+      Trace-append _ _ _ _ _ h.1 c.in-Err-mark.ensures.noted,
       rw append-nil (cut_memory (sym c.is_cut.ensures ∙ c.if-not-is_cut.false) h.2),
     )

@@ -1,7 +1,7 @@
 use Rattle.std.proofs.Common.{◌∙◌, List, ℕ, Option, None, Bor, ap, sym, subst}
 use Rattle.std.specs.Prelude.{option_map}
 use Rattle.fix_base.specs.Fields.{FieldsAfter}
-use Rattle.fix_fields.specs.Noted.{Firsts, firsts_of}
+use Rattle.fix_fields.specs.HeaderValues.{Firsts, firsts_of}
 use Rattle.fix_fields.proofs.EnvelopeLemmas.{has_type, some_of_map, header_from}
 use Rattle.fix_fields.proofs.reading.envelope.Goals as goal
 

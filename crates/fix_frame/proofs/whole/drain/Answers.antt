@@ -5,7 +5,7 @@ use Rattle.fix_frame.proofs.whole.drain.Goals as goal
 pub loop-frame-smaller : goal.loop-frame-smaller
 loop-frame-smaller c =
     let given : NextFrame c.loop-frame.reader c.next.follows.lender-at-none c.in-Some.frame.now = rw c.in-Some.is at c.next.follows.holds-at-none in
-    frame_shorter c.loop-frame.reader.ahead _ c.in-Some.frame.now given.gives
+    frame_shorter c.loop-frame.reader.unread _ c.in-Some.frame.now given.gives
 
 pub loop-frame-preserved : goal.loop-frame-preserved
 loop-frame-preserved c =

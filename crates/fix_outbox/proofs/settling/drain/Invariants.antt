@@ -1,7 +1,7 @@
 use Rattle.std.proofs.Common.{◌≡◌, ◌≤◌, ◌+◌, List, ◌++◌, map, length, vec_capacity}
 use Rattle.crossbeam_queue.specs.Passes.{view, IsPassOf}
-use Rattle.fix_outbox.specs.declared.line.Item.{Item}
-use Rattle.fix_outbox.specs.Line.{count_posted, with_list}
+use Rattle.fix_outbox.specs.declared.queue.Item.{Item}
+use Rattle.fix_outbox.specs.Queue.{count_posted, with_list}
 use Rattle.fix_outbox.specs.Passes.{draft_of}
 use Rattle.fix_outbox.proofs.settling.drain.Given as goal
 

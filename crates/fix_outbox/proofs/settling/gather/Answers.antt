@@ -3,7 +3,7 @@ use Rattle.std.proofs.lemmas.Grind.{common_steps}
 use Rattle.std.proofs.lemmas.List.Elements.{All-pop}
 use Rattle.fix_outbox.specs.Passes.{IsSenderOf}
 use Rattle.fix_outbox.proofs.OrderLemmas.{merges}
-use Rattle.fix_outbox.proofs.ShutLemmas.{joins}
+use Rattle.fix_outbox.proofs.ClosingLemmas.{joins}
 use Rattle.fix_outbox.proofs.SettleLemmas.{cleaned}
 use Rattle.fix_outbox.proofs.settling.gather.Goals as goal
 

@@ -1,9 +1,9 @@
 use Rattle.std.proofs.Common.{◌≡◌, List, ◌++◌, All, map, vec_len}
 use Rattle.crossbeam_queue.specs.Passes.{view, IsPassOf}
-use Rattle.fix_outbox.specs.declared.line.Ended.{Ended}
-use Rattle.fix_outbox.specs.Line.{IsTaker, taker}
+use Rattle.fix_outbox.specs.declared.queue.Ended.{Ended}
+use Rattle.fix_outbox.specs.Queue.{IsTaker, taker}
 use Rattle.fix_outbox.specs.Passes.{IsSenderOf, ended_of, AreClean}
-use Rattle.fix_outbox.specs.Shut.{Clean}
+use Rattle.fix_outbox.specs.Closing.{Clean}
 use Rattle.fix_outbox.proofs.settling.gather.Given as goal
 
 abbrev pub invariant-loop-pass : goal.invariant-loop-pass

@@ -33,5 +33,5 @@ returns c =
     record {
       right = read_right line _ g are1 (sym c.in_default.is ∙ c.keys_fault.ensures);
       settings = record { each = read_each line _ g c.in_ok-settings.settings are1 (sym c.in_default.is ∙ c.keys_fault.ensures) (λ k. c.in_ok-settings.ensures.each k ∙ ap (λ ps. shaped k (value_from (rule_of k) (pair_at ps k))) same); ignored = kept };
-      party_is = read_party line _ g _ are2 c.party_of-party.ensures;
+      party_is = read_party line _ g _ are2 c.endpoints_of-endpoints.ensures;
     }

@@ -7,6 +7,6 @@ use Rattle.fix_validate.proofs.RowLemmas.{only_first}
 use Rattle.fix_validate.proofs.laws.a_check_has_one_answer.Goals as goal
 
 pub returns : goal.returns
-returns c = λ book order frame one other a b.
-    only_first (rows book order b.fields) one other
-    (subst (λ (fs : List Field). Finds (rows book order fs) one) (fields_same None frame a.fields b.fields a.all.spelled b.all.spelled) a.first).is b.first.is
+returns c = λ dictionary order frame one other a b.
+    only_first (rows dictionary order b.fields) one other
+    (subst (λ (fs : List Field). Finds (rows dictionary order fs) one) (fields_same None frame a.fields b.fields a.all.spelled b.all.spelled) a.first).is b.first.is

@@ -1,5 +1,5 @@
 use Rattle.std.proofs.Common.{length}
-use Rattle.fix_fields.specs.Noted.{IsLeft}
+use Rattle.fix_fields.specs.HeaderValues.{IsLeft}
 use Rattle.fix_validate.proofs.ReadingLemmas.{Taken}
 use Rattle.fix_validate.proofs.reading.collect.Given as goal
 

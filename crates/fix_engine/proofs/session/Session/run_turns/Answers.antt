@@ -1,17 +1,17 @@
 use Rattle.std.proofs.Common.{ℕ, arith, length, length-take, length-append, sym, ap, ◌∙◌}
 use Rattle.std.specs.Prelude.{None}
-use Rattle.fix_engine.specs.Turn.{live}
+use Rattle.fix_engine.specs.Reading.{connection_seen}
 use Rattle.fix_engine.specs.Faults.{stop_cause}
-use Rattle.fix_engine.proofs.Causes.{RanTo-has_cause}
-use Rattle.fix_engine.proofs.Phases.{Ran-phase}
-use Rattle.fix_engine.proofs.Settled.{Ran-settled}
-use Rattle.fix_engine.proofs.Turns.{Ran-has_turns}
+use Rattle.fix_engine.proofs.Causes.{RunsTo-has_cause}
+use Rattle.fix_engine.proofs.Phases.{RunAndCut-phase}
+use Rattle.fix_engine.proofs.Settled.{RunAndCut-settled}
+use Rattle.fix_engine.proofs.Turns.{RunAndCut-has_turns}
 use Rattle.fix_engine.proofs.Prefix.{as_stated}
 use Rattle.fix_engine.proofs.Recounting.{looks_back}
 use Rattle.fix_engine.proofs.LawfulRuns.{run_lawful}
 use Rattle.fix_engine.proofs.InStepLemmas.{run_in_step, run_stands, run_trails, run_connected, run_serves}
 use Rattle.fix_engine.proofs.PeerEnds.{shows_peer_end}
-use Rattle.fix_engine.proofs.Untried.{Ran-untried}
+use Rattle.fix_engine.proofs.Untried.{RunAndCut-untried}
 use Rattle.fix_engine.proofs.session.Session.run_turns.Goals as goal
 
 pub invariant_of-self : goal.invariant_of-self
@@ -23,30 +23,30 @@ invariant_of-self g c =
       c.self.invariant.0,
       c.run_and_cut-ran.ensures.ready.range,
       omega (arith, length-take {A = ℕ}, length-append {A = ℕ}, kept, room.len, ap length room.value, c.self.invariant.2),
-      λ goes_on. Ran-untried _ _ _ _ _ _ (c.self.invariant.3 c.in_default.is) h.2 (answered ∙ goes_on),
+      λ goes_on. RunAndCut-untried _ _ _ _ _ _ (c.self.invariant.3 c.in_default.is) h.2 (answered ∙ goes_on),
     )
 
 pub returns-clause-cause : goal.returns-clause-cause
 returns-clause-cause g c =
-    rw (← c.self.view_is, c.in_default.is, c.answer_of-answer.ensures) (RanTo-has_cause _ _ _ _ _ _ _ c.run_and_cut-ran.ensures.notes)
+    rw (← c.self.view_is, c.in_default.is, c.answer_of-answer.ensures) (RunsTo-has_cause _ _ _ _ _ _ _ c.run_and_cut-ran.ensures.notes)
 
 pub returns-clause-phase : goal.returns-clause-phase
 returns-clause-phase g c =
     let h = c.run_and_cut-ran.ensures.notes in
-    rw (← c.self.view_is, c.in_default.is, c.answer_of-answer.ensures) (Ran-phase _ _ _ _ _ _ (rw (← c.self.view_is, c.in_default.is) at c.requires.phase) h.2)
+    rw (← c.self.view_is, c.in_default.is, c.answer_of-answer.ensures) (RunAndCut-phase _ _ _ _ _ _ (rw (← c.self.view_is, c.in_default.is) at c.requires.phase) h.2)
 
 pub returns-clause-turns : goal.returns-clause-turns
 returns-clause-turns g c =
-    rw (← c.self.view_is, c.in_default.is, c.answer_of-answer.ensures) (Ran-has_turns _ _ _ _ _ _ _ c.run_and_cut-ran.ensures.notes)
+    rw (← c.self.view_is, c.in_default.is, c.answer_of-answer.ensures) (RunAndCut-has_turns _ _ _ _ _ _ _ c.run_and_cut-ran.ensures.notes)
 
 pub returns-clause-settled : goal.returns-clause-settled
 returns-clause-settled g c =
     let h = c.run_and_cut-ran.ensures.notes in
-    rw (← c.self.view_is, c.in_default.is, c.answer_of-answer.ensures) (λ held. Ran-settled _ _ _ _ _ _ held h.2)
+    rw (← c.self.view_is, c.in_default.is, c.answer_of-answer.ensures) (λ held. RunAndCut-settled _ _ _ _ _ _ held h.2)
 
 pub returns-clause-as_stated : goal.returns-clause-as_stated
 returns-clause-as_stated g c =
-    rw (← c.self.view_is, c.in_default.is, c.answer_of-answer.ensures) (λ calm. as_stated _ c.self.invariant.0 _ _ _ _ _ _ c.self.invariant.1.reading c.look_at.ensures c.run_and_cut-ran.ensures.notes calm)
+    rw (← c.self.view_is, c.in_default.is, c.answer_of-answer.ensures) (λ calm. as_stated _ c.self.invariant.0 _ _ _ _ _ _ c.self.invariant.1.reading c.pending_is_draft.ensures c.run_and_cut-ran.ensures.notes calm)
 
 pub returns-clause-looks_back : goal.returns-clause-looks_back
 returns-clause-looks_back g c =
@@ -76,4 +76,4 @@ returns-clause-stands g c =
 
 pub returns-clause-trails : goal.returns-clause-trails
 returns-clause-trails g c =
-    rw (← c.self.view_is, c.in_default.is) (run_trails _ (record { identity = c.self.inside.party.identity; live = live c.self.inside.state c.self.inside.reader.ahead; hand = c.self.inside.hand; stopped = None }) _ _ _ _ _ _ (rw (← c.self.view_is, c.in_default.is) at c.requires.phase) c.run_and_cut-ran.ensures.notes)
+    rw (← c.self.view_is, c.in_default.is) (run_trails _ (record { identity = c.self.inside.context.identity; connection = connection_seen c.self.inside.state c.self.inside.reader.unread; pending = c.self.inside.pending; stopped = None }) _ _ _ _ _ _ (rw (← c.self.view_is, c.in_default.is) at c.requires.phase) c.run_and_cut-ran.ensures.notes)

@@ -1,5 +1,5 @@
 use Rattle.std.proofs.Common.{rules}
-use Rattle.fix_outbox.proofs.ShutLemmas.{closes}
+use Rattle.fix_outbox.proofs.ClosingLemmas.{closes}
 use Rattle.fix_outbox.proofs.pass.Outbox.close.Goals as goal
 
 pub store-requires : goal.store-requires

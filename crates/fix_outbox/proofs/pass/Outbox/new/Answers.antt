@@ -1,6 +1,6 @@
 use Rattle.std.proofs.Common.{rules, []}
 use Rattle.fix_outbox.proofs.OrderLemmas as orders
-use Rattle.fix_outbox.proofs.ShutLemmas as shuts
+use Rattle.fix_outbox.proofs.ClosingLemmas as shuts
 use Rattle.fix_outbox.proofs.pass.Outbox.new.Goals as goal
 
 pub ruled-requires-clause-rule : goal.ruled-requires-clause-rule

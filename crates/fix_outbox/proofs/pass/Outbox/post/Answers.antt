@@ -1,5 +1,5 @@
 use Rattle.std.proofs.Common.{rules}
-use Rattle.fix_outbox.proofs.ShutLemmas.{finds}
+use Rattle.fix_outbox.proofs.ClosingLemmas.{finds}
 use Rattle.fix_outbox.proofs.OrderLemmas.{pushes, learns}
 use Rattle.fix_outbox.proofs.pass.Outbox.post.Goals as goal
 

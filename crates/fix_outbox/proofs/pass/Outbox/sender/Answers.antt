@@ -1,6 +1,6 @@
 use Rattle.std.proofs.Common.{rules}
 use Rattle.fix_outbox.proofs.OrderLemmas.{forks}
-use Rattle.fix_outbox.proofs.ShutLemmas.{splits}
+use Rattle.fix_outbox.proofs.ClosingLemmas.{splits}
 use Rattle.fix_outbox.proofs.pass.Outbox.sender.Goals as goal
 
 pub another-theirs-requires-clause-rule : goal.another-theirs-requires-clause-rule

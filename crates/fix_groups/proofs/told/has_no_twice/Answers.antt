@@ -1,6 +1,0 @@
-use Rattle.std.proofs.Common.{rules}
-use Rattle.fix_groups.proofs.ToldLemmas.{told_is, is_told}
-use Rattle.fix_groups.proofs.told.has_no_twice.Goals as goal
-
-pub returns : goal.returns
-returns c = (λ h. told_is c.args.layout.now (search (rules, h, c.told.ensures)), λ t. search (rules, is_told c.args.layout.now t, c.told.ensures))

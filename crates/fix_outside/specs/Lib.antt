@@ -1,0 +1,3 @@
+pub mod Connection
+pub mod Handing
+pub mod Outside
