@@ -173,6 +173,26 @@ fn note_all<T: Tape>(tape: &mut T, acts: &[Noted<'_>]) -> Result<(), OutOfMemory
     Ok(())
 }
 
+// A record of several entries: a Reject (3) and an order, with the number that is expected then.
+fn two_entries(alloc: Global) -> Result<Record, Fail> {
+    let order = Bytes::copy(alloc, ORDER)?;
+    let mut pushes = Vec::new(alloc);
+    pushes.push(Entry::Admin {
+        time: 9,
+        kind: b'3',
+        about: 2,
+    })?;
+    pushes.push(Entry::App {
+        time: 9,
+        by: By::Engine,
+        body: order,
+    })?;
+    Ok(Record::Many {
+        pushes: Entries::from_vec(pushes),
+        expect: 3,
+    })
+}
+
 #[test]
 fn a_tape_keeps_each_act(rt: HostRuntime) -> Result<(), Fail> {
     let alloc = rt.alloc();
@@ -186,24 +206,6 @@ fn a_tape_keeps_each_act(rt: HostRuntime) -> Result<(), Fail> {
         kind: b'A',
         about: 0,
     });
-    let both = Record::Many {
-        pushes: Entries::from_vec(copy_entries(
-            alloc,
-            &[
-                Entry::Admin {
-                    time: 9,
-                    kind: b'3',
-                    about: 2,
-                },
-                Entry::App {
-                    time: 9,
-                    by: By::Engine,
-                    body: Bytes::copy(alloc, ORDER)?,
-                },
-            ],
-        )?),
-        expect: 3,
-    };
     let handed = message(4, true, ORDER);
     let noted = [
         Noted::Opened,
@@ -211,7 +213,6 @@ fn a_tape_keeps_each_act(rt: HostRuntime) -> Result<(), Fail> {
         Noted::Read(b"8=FIX"),
         Noted::Kept(&order),
         Noted::KeepLost(&logon),
-        Noted::Kept(&both),
         Noted::Handed(&handed),
         Noted::Cut,
     ];
@@ -225,7 +226,6 @@ fn a_tape_keeps_each_act(rt: HostRuntime) -> Result<(), Fail> {
         Act::Read(Bytes::copy(alloc, b"8=FIX")?),
         Act::Kept(copy_record(alloc, &order)?),
         Act::KeepLost(copy_record(alloc, &logon)?),
-        Act::Kept(copy_record(alloc, &both)?),
         Act::Handed {
             number: 4,
             marked: true,
@@ -233,6 +233,16 @@ fn a_tape_keeps_each_act(rt: HostRuntime) -> Result<(), Fail> {
         },
         Act::Cut,
     ];
+    assert!(rt; tape.acts() == want.as_slice());
+    Ok(())
+}
+
+#[test]
+fn a_tape_keeps_a_record_of_several_entries(rt: HostRuntime) -> Result<(), Fail> {
+    let both = two_entries(rt.alloc())?;
+    let mut tape = KeptTape::new(rt.alloc());
+    note_all(&mut tape, &[Noted::Kept(&both)])?;
+    let want = [Act::Kept(two_entries(rt.alloc())?)];
     assert!(rt; tape.acts() == want.as_slice());
     Ok(())
 }
