@@ -59,8 +59,8 @@ said_less : (store said kept kept' : ℕ) → said + 19 + 10 * (4 - kept) ≤ st
 said_less store said kept kept' room same = omega (arith, room, same)
 
 -- its entry was kept, and the number that is kept is the same
-sent_leaves : (s to : State) (say : Say) (text : List ℕ) (notes : List Note) (said : ℕ) → notes ≡ Did (act.Kept (Push (entry_of s say))) ∷ Did (act.Wrote text) ∷ [] → to.kept ≡ s.stored_expected → Leaves notes (to_keep (said + 19) s) (to_keep said to)
-sent_leaves s to say text notes said all same store room = subst (λ (w : List Note). to_keep said to ≤ store_left store w) (sym all) (said_less store said s.stored_expected to.kept room same)
+sent_leaves : (s to : State) (say : Say) (text : List ℕ) (notes : List Note) (said : ℕ) → notes ≡ Did (act.Kept (Push (entry_of s say))) ∷ Did (act.Wrote text) ∷ [] → to.stored_expected ≡ s.stored_expected → Leaves notes (to_keep (said + 19) s) (to_keep said to)
+sent_leaves s to say text notes said all same store room = subst (λ (w : List Note). to_keep said to ≤ store_left store w) (sym all) (said_less store said s.stored_expected to.stored_expected room same)
 
 -- ---- the Logon
 
@@ -70,8 +70,8 @@ at_order s mid to at sent is =
     let whole : to ≡ with_expected (with_phase (with_last s (s.last + 1)) Up) 2 = is ∙ ap (λ (m : State). with_expected (with_phase m Up) 2) sent in
     subst (IsAt AtOrder) (sym whole) (record { phase = refl; expected = refl; low = omega (arith, at.low); last = ap (λ n. n + 1) at.last; reading = at.reading })
 
-kept_there : (s mid to : State) → mid ≡ with_last s (s.last + 1) → to ≡ with_expected (with_phase mid Up) 2 → to.kept ≡ s.stored_expected
-kept_there s mid to sent is = ap (λ (m : State). m.kept) is ∙ ap (λ (m : State). m.kept) sent
+kept_there : (s mid to : State) → mid ≡ with_last s (s.last + 1) → to ≡ with_expected (with_phase mid Up) 2 → to.stored_expected ≡ s.stored_expected
+kept_there s mid to sent is = ap (λ (m : State). m.stored_expected) is ∙ ap (λ (m : State). m.stored_expected) sent
 
 logon_goes : (s s' : State) (notes : List Note) (r : Result ⊤ Ending) → IsAt AtLogon s → Follows LOGON (HasSent s (Logon 30)) (step.GoUp ∷ step.Count 1 ∷ step.Nothing ∷ []) notes r s' → Came AtLogon s notes (IsNextAt AtLogon s') s' r
 logon_goes s s' notes r at f =
@@ -111,8 +111,8 @@ at_logout s mid to at same is =
     let whole : to ≡ with_expected s 3 = is ∙ ap (λ (m : State). with_expected m 3) same in
     subst (IsAt AtLogout) (sym whole) (record { phase = at.phase; expected = refl; low = omega (arith, at.low); last = at.last; reading = at.reading })
 
-kept_still : (s mid to : State) → mid ≡ s → to ≡ with_expected mid 3 → to.kept ≡ s.stored_expected
-kept_still s mid to same is = ap (λ (m : State). m.kept) is ∙ ap (λ (m : State). m.kept) same
+kept_still : (s mid to : State) → mid ≡ s → to ≡ with_expected mid 3 → to.stored_expected ≡ s.stored_expected
+kept_still s mid to same is = ap (λ (m : State). m.stored_expected) is ∙ ap (λ (m : State). m.stored_expected) same
 
 -- the order was handed over, and nothing more
 handed_notes : (fields : List Field) (notes first more : List Note) → notes ≡ first ++ more → first ≡ Did (act.Handed 2 false (body_of fields)) ∷ [] → more ≡ [] → notes ≡ Did (act.Handed 2 false (body_of fields)) ∷ []
@@ -125,8 +125,8 @@ same_room : (store said kept kept' : ℕ) → said + 10 * (4 - kept) ≤ store �
 same_room store said kept kept' room same = omega (arith, room, same)
 
 -- the store keeps its room
-handed_leaves : (s to : State) (fields : List Field) (notes : List Note) (said : ℕ) → notes ≡ Did (act.Handed 2 false (body_of fields)) ∷ [] → to.kept ≡ s.stored_expected → Leaves notes (to_keep said s) (to_keep said to)
-handed_leaves s to fields notes said all same store room = subst (λ (w : List Note). to_keep said to ≤ store_left store w) (sym all) (same_room store said s.stored_expected to.kept room same)
+handed_leaves : (s to : State) (fields : List Field) (notes : List Note) (said : ℕ) → notes ≡ Did (act.Handed 2 false (body_of fields)) ∷ [] → to.stored_expected ≡ s.stored_expected → Leaves notes (to_keep said s) (to_keep said to)
+handed_leaves s to fields notes said all same store room = subst (λ (w : List Note). to_keep said to ≤ store_left store w) (sym all) (same_room store said s.stored_expected to.stored_expected room same)
 
 order_goes : (s s' : State) (notes : List Note) (r : Result ⊤ Ending) → IsAt AtOrder s → Follows ORDER (HasHanded ORDER s 2 false) (step.Count 2 ∷ step.Nothing ∷ step.Nothing ∷ []) notes r s' → Came AtOrder s notes (IsNextAt AtOrder s') s' r
 order_goes s s' notes r at f =
@@ -157,8 +157,8 @@ order_handles s s' notes r at fit d =
 -- ---- the Logout
 
 -- the number behind the Logout is expected then
-closed_at : (s mid to : State) → s.expected ≡ 4 → mid ≡ with_last s (s.last + 1) → to ≡ with_phase mid Down → (to.expected ≡ 4) × (to.kept ≡ s.stored_expected)
-closed_at s mid to four sent is = (ap (λ (m : State). m.expected) is ∙ ap (λ (m : State). m.expected) sent ∙ four, ap (λ (m : State). m.kept) is ∙ ap (λ (m : State). m.kept) sent)
+closed_at : (s mid to : State) → s.expected ≡ 4 → mid ≡ with_last s (s.last + 1) → to ≡ with_phase mid Down → (to.expected ≡ 4) × (to.stored_expected ≡ s.stored_expected)
+closed_at s mid to four sent is = (ap (λ (m : State). m.expected) is ∙ ap (λ (m : State). m.expected) sent ∙ four, ap (λ (m : State). m.stored_expected) is ∙ ap (λ (m : State). m.stored_expected) sent)
 
 logout_goes : (s s' : State) (notes : List Note) (r : Result ⊤ Ending) → IsAt AtLogout s → Follows LOGOUT (HasSent (with_expected s 4) Logout) (step.Close (LoggedOut 3) ∷ step.Nothing ∷ []) notes r s' → Came AtLogout s notes (IsNextAt AtLogout s') s' r
 logout_goes s s' notes r at f =

@@ -80,10 +80,10 @@ inbound_is text fs i o has time h =
 
 -- the state there, with this number kept
 abbrev state_at : Place → ℕ → State
-state_at p kept = record { phase = phase_at p; expected = expected_at p; kept = kept; last = last_at p; reading = SAMPLE_TIME }
+state_at p kept = record { phase = phase_at p; expected = expected_at p; stored_expected = kept; last = last_at p; reading = SAMPLE_TIME }
 
 state_is : (p : Place) (s : State) → IsAt p s → s ≡ state_at p s.stored_expected
-state_is p s at = λ i. record { phase = at.phase i; expected = at.expected i; kept = s.stored_expected; last = at.last i; reading = at.reading i }
+state_is p s at = λ i. record { phase = at.phase i; expected = at.expected i; stored_expected = s.stored_expected; last = at.last i; reading = at.reading i }
 
 logon_computes : (kept : ℕ) → answer_to SAMPLE_ID (state_at AtLogon kept) (presented LOGON_FIELDS (Some 30)) ≡ logon_steps 1 30
 logon_computes kept = refl

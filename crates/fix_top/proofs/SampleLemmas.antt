@@ -50,7 +50,7 @@ record Rests (more : List ℕ) (l : ConnectionSeen) (p : Place) : Type 0 where
 
 -- ---- the frames of a read
 
-AnswerFrames-came : (more : List ℕ) (l : ConnectionSeen) (notes : List Note) (r : Result ⊤ Ending) (to : ConnectionSeen) → Taken SAMPLE_ID l notes r to → (p : Place) → IsFit p l.state notes → Stands more l p → Came p l.state notes (Rests more to) to.state r
+AnswerFrames-came : (more : List ℕ) (l : ConnectionSeen) (notes : List Note) (r : Result ⊤ Ending) (to : ConnectionSeen) → AnswerFrames SAMPLE_ID l notes r to → (p : Place) → IsFit p l.state notes → Stands more l p → Came p l.state notes (Rests more to) to.state r
 AnswerFrames-came more l notes r to (turn.no_more {s = s} {a = a} {b = b} gives) p fit h =
     let still = none_given a b more (text_at p) (rest_at p) (whole_at p) h.unread gives in
     on p (record { stands = record { state = h.state; unread = still.0 }; none = still.1 }) [] [] (record { wrote = refl; gave = refl }) refl refl (λ store room. room)

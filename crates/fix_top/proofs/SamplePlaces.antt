@@ -84,7 +84,7 @@ to_keep said s = said + 10 * (4 - s.stored_expected)
 pub data Came (p : Place) (s : State) (notes : List Note) (P : Place → Type 0) (to : State) : Result ⊤ Ending → Type 0 where
   no_memory : Came p s notes P to (Err ending.OutOfMemory)
   on : (q : Place) → P q → (w : List ℕ) (h : List Act) → Tells notes w h → w ++ written_at q ≡ written_at p → h ++ handed_at q ≡ handed_at p → Leaves notes (to_keep (said_at p) s) (to_keep (said_at q) to) → Came p s notes P to (Ok tt)
-  over : (n : ℕ) → Tells notes (written_at p) (handed_at p) → to.expected ≡ 4 → to.kept ≤ 4 → Leaves notes (to_keep (said_at p) s) (to_keep 0 to) → Came p s notes P to (Err (ending.Closed (LoggedOut n)))
+  over : (n : ℕ) → Tells notes (written_at p) (handed_at p) → to.expected ≡ 4 → to.stored_expected ≤ 4 → Leaves notes (to_keep (said_at p) s) (to_keep 0 to) → Came p s notes P to (Err (ending.Closed (LoggedOut n)))
 
 -- the parts have room for what is to come from there on
 pub record IsFit (p : Place) (s : State) (notes : List Note) : Type 0 where
@@ -152,7 +152,7 @@ low_at AtLogout s at = record { kept = omega (arith, at.expected, at.low); expec
 pub record IsSilent (s : State) (notes : List Note) (to : State) : Type 0 where
   pub tells : Tells notes [] []
   pub expected : to.expected ≡ s.expected
-  pub low : to.kept ≤ 4
+  pub low : to.stored_expected ≤ 4
   pub leaves : (said : ℕ) → Leaves notes (to_keep said s) (to_keep said to)
 
 -- one part, and behind it something quiet
