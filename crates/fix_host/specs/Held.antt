@@ -1,5 +1,5 @@
 -- A connection of which bytes were read ahead.
-use Rattle.std.specs.Prelude.{◌≡◌, ℕ, ◌<◌, min, List, [], length, take, drop, option_map}
+use Rattle.std.specs.Prelude.{◌≡◌, ℕ, ◌+◌, ◌<◌, ◌≤◌, vec_len, vec_capacity, min, List, [], length, take, drop, option_map}
 use Rattle.fix_base.specs.Parts.{left_before}
 use Rattle.fix_parts.specs.Link.{LinkSeen, LinkReads}
 use Rattle.fix_outside.specs.declared.connection.ReadTurn.{ReadTurn}
@@ -13,6 +13,10 @@ ahead_of h = drop h.given h.unread.items
 -- the connection itself
 abbrev pub inner_of : {L : Type 0} → Held L → L
 inner_of h = h.link
+
+-- it can keep so many more bytes ahead, without memory
+abbrev pub HasRoomFor : {L : Type 0} → Held L → ℕ → Type 0
+HasRoomFor h count = vec_len h.unread + count ≤ vec_capacity h.unread
 
 -- what is seen of it, where this is seen of the connection itself: the bytes come as a piece in front
 abbrev pub held_seen : List ℕ → LinkSeen → LinkSeen

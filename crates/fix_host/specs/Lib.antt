@@ -1,6 +1,10 @@
 pub mod Slot
 pub mod Starts
 pub mod Held
+pub mod Known
+pub mod Looking
+pub mod Greet
+pub mod Steps
 pub mod Made
 pub mod World
 pub mod Damaged

@@ -3,7 +3,11 @@
 ghost use Rattle.std.specs.Prelude.{◌≡◌, ◌≤◌, ◌<◌, [], length, take, min};
 ghost use Rattle.fix_parts.specs.Link.{LinkReads, LinkWrites};
 ghost use Rattle.fix_host.specs.Held.{ahead_of, inner_of, held_seen, HeldReads};
+ghost use Rattle.fix_host.specs.Greet.{bytes_of};
+ghost use Rattle.std.specs.Prelude.{◌++◌, ◌+◌, vec_len, vec_capacity, OnOk, OnErr};
 
+use fix_base::OutOfMemory;
+use fix_disk::put_bytes;
 use fix_parts::{Link, ReadTurn, WriteTurn};
 use std::alloc::Global;
 
@@ -14,6 +18,7 @@ pub struct Held<L> {
     unread: Vec<u8>,
     // how many of these were given
     given: usize,
+    ghost within: { given ≤ vec_len unread },
 }
 
 impl<L: Link> Held<L> {
@@ -35,6 +40,37 @@ impl<L: Link> Held<L> {
     {
         let Held { link, .. } = self;
         link
+    }
+
+    /// The bytes that were read ahead.
+    pub fn ahead(&self) -> &[u8]
+        ensures { result.now ≡ ahead_of self.now }
+    {
+        &self.unread[self.given..]
+    }
+
+    // Has room for so many more bytes ahead.
+    pub(crate) fn reserve(&mut self, count: usize) -> Result<(), OutOfMemory>
+        ensures ahead { ahead_of self.new ≡ ahead_of self.old }
+        ensures inner { inner_of self.new ≡ inner_of self.old }
+        ensures room { OnOk result (HasRoomFor self.new count) }
+    {
+        self.unread.reserve(count)?;
+        Ok(())
+    }
+
+    // Reads the connection itself, and keeps what came after the bytes ahead.
+    pub(crate) fn read_ahead(&mut self, room: &mut [u8]) -> ReadTurn
+        requires some { 0 < length room.old }
+        requires room { HasRoomFor self.old (length room.old) }
+        ensures moves { LinkReads result room.new (L.link (inner_of self.old)) (L.link (inner_of self.new)) }
+        ensures ahead { ahead_of self.new ≡ ahead_of self.old ++ bytes_of result room.new }
+    {
+        let turn = self.link.read(room);
+        if let ReadTurn::Bytes(count) = turn {
+            put_bytes(&mut self.unread, &room[..count]);
+        }
+        turn
     }
 }
 

@@ -2,14 +2,21 @@
 //! be none. This is the step from a connection that was accepted to the thread of its session.
 #![tactic(auto)]
 
+mod greeting;
 mod held;
+mod known;
+mod looking;
 mod slot;
 mod spawner;
+#[cfg(test)]
+mod greeting_tests;
 #[cfg(test)]
 mod tests;
 mod world;
 
+pub use greeting::greet;
 pub use held::Held;
+pub use known::Greeted;
 pub use slot::{LinkSlot, SlotState};
 pub use spawner::{Anything, FailingSpawner, Spawner, ThreadSpawner};
 pub use world::{Ear, Gate, MakeFault, World};
