@@ -1,1 +1,4 @@
 pub mod HeldLemmas
+pub mod LookLemmas
+pub mod GreetLemmas
+pub mod PostLemmas

@@ -45,13 +45,13 @@ fn still(alloc: Global) -> Result<MemoryClock, Fail> {
 fn a_logon_in_parts_is_known_and_read_again(rt: HostRuntime) -> Result<(), Fail> {
     let alloc = rt.alloc();
     let known = sessions(alloc)?;
-    let mut link = link_of(alloc, &[b"junk", &LOGON[..20], b"", &LOGON[20..], b"more"])?;
+    let mut link = link_of(alloc, &[b"jun\x01", &LOGON[..20], b"", &LOGON[20..], b"more"])?;
     let mut clock = still(alloc)?;
     let answer = greet(alloc, &mut link, &mut clock, &known, 10, 100);
     assert_eq!(rt; answer, Greeted::Known { index: 1 });
     let mut room = [0u8; 4];
     assert_eq!(rt; link.read(&mut room), ReadTurn::Bytes(4));
-    assert_eq!(rt; room, *b"junk");
+    assert_eq!(rt; room, *b"jun\x01");
     assert_eq!(rt; link.ahead(), LOGON);
     Ok(())
 }

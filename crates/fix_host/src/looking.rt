@@ -20,7 +20,7 @@ pub(crate) fn look(bytes: &[u8], from: usize) -> Looked
     ensures { Looks bytes.now result }
 {
     let mut at = from;
-    loop {
+    'items: loop {
         match frame_at(bytes, at) {
             Framed::Frame(frame) => return Looked::Frame(at, at + frame.len()),
             Framed::Skip(count) => at += count,
