@@ -1,4 +1,3 @@
 pub mod HeldLemmas
 pub mod LookLemmas
 pub mod GreetLemmas
-pub mod PostLemmas

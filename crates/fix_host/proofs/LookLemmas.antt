@@ -16,8 +16,7 @@ pub looked_start : (bytes : List ℕ) → IsLookedTo bytes 0
 looked_start bytes = record { items = []; take = refl; none = refl; inside = omega arith }
 
 not_first : (n : ℕ) (b : Bool) → 0 < n → nat_eq n 0 || b ≡ b
-not_first zero b p = absurd (omega (arith, p))
-not_first (suc n) b p = refl
+not_first n b p = grind arith
 
 -- one more item is skipped
 pub looked_on : (bytes : List ℕ) (at n : ℕ) → IsLookedTo bytes at → Skipped (ahead_of bytes at) n → IsLookedTo bytes (at + n)
@@ -59,8 +58,8 @@ first_is_frame bytes frame h = h.gives.frame_there.is.1
 same_mark : (bytes more : List ℕ) (at : ℕ) → at ≤ length bytes → (ahead_of bytes at).may_mark ≡ (ahead_of (bytes ++ more) at).may_mark
 same_mark bytes more zero le = refl
 same_mark bytes more (suc at) le =
-    let lt : at < length bytes = omega (arith, le) in
-    ap (λ b. nat_eq b 1) (sym (get_or_append_left bytes more 0 at lt))
+    let lt : suc at - 1 < length bytes = omega (arith, le) in
+    ap (λ x. nat_eq (suc at) 0 || nat_eq x 1) (sym (get_or_append_left bytes more 0 (suc at - 1) lt))
 
 -- what was looked at needs no second look when more bytes come
 pub looked_more : (bytes more : List ℕ) (at : ℕ) → IsLookedTo bytes at → IsLookedTo (bytes ++ more) at

@@ -1,5 +1,5 @@
 -- A counterparty is known by the first frame of its connection.
-use Rattle.std.specs.Prelude.{◌≡◌, ℕ, ◌<◌, true, Bool, ◌&&◌, bytes_eq, List, length, Option, Some, None}
+use Rattle.std.specs.Prelude.{◌≡◌, ℕ, ◌<◌, true, false, Bool, ◌&&◌, bytes_eq, List, length, Option, Some, None}
 use Rattle.std.specs.List.{IsFirstMatchOrLen}
 use Rattle.fix_base.specs.Stream.{UnreadBytes}
 use Rattle.fix_base.specs.Fields.{Field}

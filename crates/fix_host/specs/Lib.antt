@@ -5,8 +5,6 @@ pub mod Known
 pub mod Looking
 pub mod Greet
 pub mod Steps
-pub mod Posting
-pub mod Apps
 pub mod Made
 pub mod World
 pub mod Damaged

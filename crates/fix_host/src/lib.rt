@@ -6,14 +6,10 @@ mod greeting;
 mod held;
 mod known;
 mod looking;
-mod posting;
 mod slot;
 mod spawner;
-mod take_app;
 #[cfg(test)]
 mod greeting_tests;
-#[cfg(test)]
-mod outbox_tests;
 #[cfg(test)]
 mod tests;
 mod world;
@@ -21,8 +17,6 @@ mod world;
 pub use greeting::greet;
 pub use held::Held;
 pub use known::Greeted;
-pub use posting::{SenderEnd, post_all};
 pub use slot::{LinkSlot, SlotState};
 pub use spawner::{Anything, FailingSpawner, Spawner, ThreadSpawner};
-pub use take_app::TakeApp;
 pub use world::{Ear, Gate, MakeFault, World};
