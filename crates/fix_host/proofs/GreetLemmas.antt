@@ -1,25 +1,28 @@
 -- The turns of a greeting, one after another.
-use Rattle.std.proofs.Common.{◌≡◌, ℕ, ◌+◌, ◌<◌, ◌≤◌, List, [], ◌∷◌, ◌++◌, length, Option, refl, sym, ap, subst, ◌∙◌, append_assoc, arith}
+use Rattle.std.proofs.Common.{◌≡◌, ℕ, ◌+◌, ◌-◌, ◌<◌, ◌≤◌, min, List, [], ◌∷◌, ◌++◌, length, Option, refl, sym, ap, subst, ◌∙◌, append_assoc, arith}
 use Rattle.std.specs.Prelude.{All}
 use Rattle.std.proofs.lemmas.List.{append-nil, length-append}
 use Rattle.std.proofs.lemmas.List.Elements.{All-push, All-nil}
 use Rattle.fix_base.specs.Parts.{ClockReads}
 use Rattle.fix_base.specs.declared.identity.Identity.{Identity}
-use Rattle.fix_parts.specs.Link.{LinkSeen}
+use Rattle.fix_outside.specs.declared.connection.ReadTurn.{ReadTurn}
+use Rattle.fix_parts.specs.Link.{LinkSeen, LinkReads}
+use Rattle.fix_host.proofs.LookLemmas.{looked_more}
+use Rattle.fix_host.specs.declared.greeting.Step.{Step}
 use Rattle.fix_host.specs.declared.known.Greeted.{Greeted}
 use Rattle.fix_host.specs.declared.known.Greeted.TheVariants as greeted
 use Rattle.fix_host.specs.declared.greeting.Step.TheVariants as step
 use Rattle.fix_host.specs.Looking.{IsLookedTo}
-use Rattle.fix_host.specs.Greet.{Turn, bytes_in, times_in, ReadsOnce, ReadsAll, ReadsClock, IsOpen, IsEarly, IsUndecided, GoesOn, Decides, EndsIn, at_once, in_turn, spent, refused, Greets}
-use Rattle.fix_host.specs.Steps.{ComesTo, TakesStep}
+use Rattle.fix_host.specs.Greet.{Turn, bytes_of, bytes_in, times_in, ReadsOnce, ReadsAll, ReadsClock, IsOpen, IsEarly, IsUndecided, GoesOn, Decides, EndsIn, at_once, in_turn, spent, refused, Greets}
+use Rattle.fix_host.specs.Steps.{ComesTo, turn_of, TakesStep}
 use Rattle.fix_host.specs.Steps as steps
 
 -- the turns up to here, none of which ended it
-pub record SoFar (seconds since count : ℕ) (ahead held : List ℕ) (link link' : LinkSeen) (readings readings' : Option (List ℕ)) : Type 0 where
+pub record SoFar (seconds since count : ℕ) (ahead ahead' : List ℕ) (link link' : LinkSeen) (readings readings' : Option (List ℕ)) : Type 0 where
   pub taken : List Turn
   pub clock : ReadsClock (since ∷ times_in taken) readings readings'
   pub reads : ReadsAll ahead taken link link'
-  pub held : held ≡ ahead ++ bytes_in taken
+  pub held : ahead' ≡ ahead ++ bytes_in taken
   pub on : GoesOn seconds since ahead taken
   pub many : length taken ≡ count
 
@@ -28,7 +31,7 @@ bytes_push [] t = append-nil t.bytes
 bytes_push (x ∷ ts) t = ap (λ w. x.bytes ++ w) (bytes_push ts t) ∙ sym (append_assoc x.bytes (bytes_in ts) t.bytes)
 
 clock_push : (s : ℕ) (ts : List Turn) (t : Turn) (a b c : Option (List ℕ)) → ReadsClock (s ∷ times_in ts) a b → ClockReads t.now b c → ReadsClock (s ∷ times_in (ts ++ t ∷ [])) a c
-clock_push s [] t a b c r now = (r.0, r.1, c, subst (λ x. ClockReads t.now x c) r.2 now, refl)
+clock_push s [] t a b c r now = (r.0, r.1, (c, subst (λ x. ClockReads t.now x c) r.2 now, refl))
 clock_push s (x ∷ ts) t a b c r now = (r.0, r.1, clock_push x.now ts t r.0 b c r.2 now)
 
 reads_push : (held : List ℕ) (ts : List Turn) (t : Turn) (a b c : LinkSeen) → ReadsAll held ts a b → ReadsOnce (held ++ bytes_in ts) t b c → ReadsAll held (ts ++ t ∷ []) a c
@@ -41,15 +44,15 @@ held_push ahead held held' ts t e more = more ∙ ap (λ w. w ++ t.bytes) e ∙ 
 
 -- nothing was read yet
 pub so_far : (seconds since : ℕ) (ahead : List ℕ) (link : LinkSeen) (a b : Option (List ℕ)) → ClockReads since a b → IsUndecided ahead → SoFar seconds since 0 ahead ahead link link a b
-so_far seconds since ahead link a b now open = record {
+so_far seconds since ahead link a b now undecided = record {
   taken = [];
   clock = (b, now, refl);
   reads = refl;
   held = sym (append-nil ahead);
   on = record {
-    open = All-nil (λ turn. IsOpen turn.read);
+    given = All-nil (λ turn. IsOpen turn.read);
     early = All-nil (λ turn. IsEarly seconds since turn.now);
-    undecided = subst IsUndecided (sym (append-nil ahead)) open;
+    undecided = subst IsUndecided (sym (append-nil ahead)) undecided;
   };
   many = refl;
 }
@@ -64,7 +67,7 @@ goes_on known seconds since count place ahead held held' a b c x y z s (steps.ta
       reads = reads_push ahead s.taken turn a b c s.reads (subst (λ h. ReadsOnce h turn b c) s.held reads);
       held = is;
       on = record {
-        open = All-push _ _ _ s.on.open comes.0;
+        given = All-push _ _ _ s.on.given comes.0;
         early = All-push _ _ _ s.on.early comes.1;
         undecided = subst IsUndecided is comes.2.0;
       };
@@ -73,7 +76,7 @@ goes_on known seconds since count place ahead held held' a b c x y z s (steps.ta
 
 -- where the bytes up to here were looked at
 pub looked_at : (known : List Identity) (seconds since place : ℕ) (held held' : List ℕ) (b c : LinkSeen) (y z : Option (List ℕ)) → TakesStep known seconds since held held' b c y z (step.GoesOn place) → IsUndecided held' × IsLookedTo held' place
-looked_at known seconds since place held held' b c y z (steps.takes turn reads now more comes) = comes.2
+looked_at known seconds since place held held' b c y z (steps.takes turn reads now more comes) = (comes.2.0, comes.2.1)
 
 -- the bytes ahead decide it
 pub at_first : (known : List Identity) (seconds turns since : ℕ) (answer : Greeted) (ahead : List ℕ) (link : LinkSeen) (a b : Option (List ℕ)) → ClockReads since a b → Decides known ahead answer → Greets known seconds turns answer ahead ahead link link a b
@@ -129,3 +132,19 @@ turns_spent known seconds turns since ahead held a b x y s = record {
   held = s.held;
   answers = spent s.on s.many;
 }
+
+-- where the bytes before were looked at, with those that a read gave
+pub looked_after : (old mid new bytes given : List ℕ) (place : ℕ) → mid ≡ old → new ≡ mid ++ given → bytes ≡ new → IsLookedTo old place → IsLookedTo bytes place
+looked_after old mid new bytes given place same more is looked =
+    subst (λ w. IsLookedTo w place) (sym (is ∙ more ∙ ap (λ w. w ++ given) same)) (looked_more old given place looked)
+
+-- a step that read, and looked at the clock
+pub step_taken : (known : List Identity) (seconds since now : ℕ) (old mid new bytes room : List ℕ) (read : ReadTurn) (a b c : LinkSeen) (x y : Option (List ℕ)) (step : Step) → mid ≡ old → b ≡ a → new ≡ mid ++ bytes_of read room → bytes ≡ new → length room ≤ min 65536 (1048612 - length old) → LinkReads read room b c → ClockReads now x y → ((given : List ℕ) → ComesTo known seconds since bytes (turn_of read given now) step) → TakesStep known seconds since old new a c x y step
+step_taken known seconds since now old mid new bytes room read a b c x y step same same_link more is most reads clock comes =
+    steps.takes (turn_of read (bytes_of read room) now)
+        (record { room = room; most = most; reads = subst (λ l. LinkReads read room l c) same_link reads; bytes = refl })
+        clock (more ∙ ap (λ w. w ++ bytes_of read room) same)
+        (subst (λ w. ComesTo known seconds since w (turn_of read (bytes_of read room) now) step) is (comes (bytes_of read room)))
+
+-- the exits of a greeting
+pub ruleset turns = (so_far, goes_on, looked_at, at_first, ends, gives_up, turns_spent)

@@ -1,3 +1,4 @@
 pub mod HeldLemmas
 pub mod LookLemmas
+pub mod KnownLemmas
 pub mod GreetLemmas

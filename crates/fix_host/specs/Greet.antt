@@ -1,6 +1,6 @@
 -- How a connection is greeted: what is read of it, and what that comes to.
-use Rattle.std.specs.Prelude.{◌≡◌, ◌⊎◌, ℕ, ◌+◌, ◌-◌, ◌*◌, ◌<◌, ◌≤◌, min, All, List, [], ◌∷◌, ◌++◌, length, map, take}
-use Rattle.std.specs.Prelude.{Option}
+use Rattle.std.specs.Prelude.{◌≡◌, ℕ, ◌+◌, ◌-◌, ◌*◌, ◌<◌, ◌≤◌, min, All, List, [], ◌∷◌, ◌++◌, length, take}
+use Rattle.std.specs.Prelude.{Option, ⊤}
 use Rattle.fix_base.specs.Parts.{ClockReads}
 use Rattle.fix_base.specs.declared.identity.Identity.{Identity}
 use Rattle.fix_outside.specs.declared.connection.ReadTurn.{ReadTurn}
@@ -74,7 +74,7 @@ pub record IsUndecided (bytes : List ℕ) : Type 0 where
 
 -- nothing has ended the greeting: there are no more bytes than these before the turns and those read in them
 pub record GoesOn (seconds since : ℕ) (ahead : List ℕ) (turns : List Turn) : Type 0 where
-  pub open : All (λ turn. IsOpen turn.read) turns
+  pub given : All (λ turn. IsOpen turn.read) turns
   pub early : All (λ turn. IsEarly seconds since turn.now) turns
   pub undecided : IsUndecided (ahead ++ bytes_in turns)
 

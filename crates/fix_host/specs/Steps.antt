@@ -1,5 +1,5 @@
 -- One step of a greeting.
-use Rattle.std.specs.Prelude.{◌≡◌, ℕ, ◌*◌, ◌-◌, nat_le, if◌then◌else◌, List, ◌++◌, Option}
+use Rattle.std.specs.Prelude.{◌≡◌, ℕ, List, ◌++◌, Option}
 use Rattle.fix_base.specs.Parts.{ClockReads}
 use Rattle.fix_base.specs.declared.identity.Identity.{Identity}
 use Rattle.fix_outside.specs.declared.connection.ReadTurn.{ReadTurn}
@@ -21,12 +21,6 @@ abbrev pub ComesTo : List Identity → (seconds since : ℕ) → List ℕ → Tu
 ComesTo known seconds since bytes turn (step.Ends answer) = EndsIn known seconds since bytes turn answer
 ComesTo known seconds since bytes turn (step.GoesOn place) = IsOpen turn.read × IsEarly seconds since turn.now
     × IsUndecided bytes × IsLookedTo bytes place
-
--- the greeting is late where it would go on and so many seconds have gone
-abbrev pub late_or : Step → (seconds since now : ℕ) → Step
-late_or (step.Ends answer) seconds since now = step.Ends answer
-late_or (step.GoesOn place) seconds since now =
-    if nat_le (seconds * 1000000) (now - since) then step.Ends (greeted.Late since now) else step.GoesOn place
 
 -- a turn that this read and this reading of the clock made
 abbrev pub turn_of : ReadTurn → List ℕ → ℕ → Turn

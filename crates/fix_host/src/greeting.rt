@@ -1,10 +1,11 @@
 //! Greets a connection: reads it up to its first frame, within so many bytes, turns and seconds, and says for which
 //! session that frame is. `accept` hands the connection to that session, which reads these bytes again.
-ghost use Rattle.std.specs.Prelude.{◌≡◌, ◌<◌, ◌≤◌, ◌-◌, List, ℕ, length, min};
+ghost use Rattle.std.specs.Prelude.{◌≡◌, ◌<◌, ◌≤◌, ◌-◌, ◌*◌, List, ℕ, MatchBool, length, min};
+ghost use Rattle.fix_outside.specs.declared.connection.ReadTurn.{ReadTurn};
 ghost use Rattle.fix_host.specs.Held.{ahead_of, inner_of};
 ghost use Rattle.fix_host.specs.Looking.{IsLookedTo};
-ghost use Rattle.fix_host.specs.Greet.{Greets, IsUndecided};
-ghost use Rattle.fix_host.specs.Steps.{Judges, ComesTo, turn_of, TakesStep, late_or};
+ghost use Rattle.fix_host.specs.Greet.{Greets, IsUndecided, IsOpen, IsEarly};
+ghost use Rattle.fix_host.specs.Steps.{Judges, ComesTo, turn_of, TakesStep};
 
 use crate::Held;
 use crate::known::{Greeted, recognise};
@@ -31,6 +32,7 @@ pub(crate) enum Step {
 /// Reads the connection until its first frame, and says for which of the sessions it is. It reads the clock, and again
 /// after each read. All bytes that were read stay ahead: what reads the connection next has them first. Bytes that
 /// were ahead before the call are the first of the connection's bytes, and take no turn.
+#[tactic(auto, using(crate::proofs::LookLemmas::looked_start, crate::proofs::GreetLemmas::turns))]
 pub fn greet<L: Link, C: Clock>(
     alloc: Global,
     link: &mut Held<L>,
@@ -50,7 +52,7 @@ pub fn greet<L: Link, C: Clock>(
     let Ok(mut room) = Vec::from_elem(alloc, 0u8, MOST_AT_ONCE) else {
         return Greeted::OutOfMemory;
     };
-    for _ in 0..turns {
+    for taken in 0..turns {
         match take_step(link, clock, &mut room, from, known, seconds, since) {
             Step::Ends(answer) => return answer,
             Step::GoesOn(place) => from = place,
@@ -108,14 +110,44 @@ fn outcome(
     ensures { (given : List ℕ) → ComesTo known.now seconds since bytes.now (turn_of turn given now) result }
 {
     match turn {
-        ReadTurn::Bytes(_) | ReadTurn::Idle => {
-            let judged = judge(bytes, from, known);
-            unless_late(judged, seconds, since, now)
-        }
+        ReadTurn::Bytes(_) => judge_in_time(bytes, from, known, seconds, since, now),
+        ReadTurn::Idle => judge_in_time(bytes, from, known, seconds, since, now),
         ReadTurn::End => Step::Ends(Greeted::Ended),
         ReadTurn::Failed => Step::Ends(Greeted::LinkFault),
         ReadTurn::OutOfMemory => Step::Ends(Greeted::OutOfMemory),
     }
+}
+
+// What the bytes decide. Where they decide nothing it is late once so many seconds have gone.
+fn judge_in_time(
+    bytes: &[u8],
+    from: usize,
+    known: &[Identity],
+    seconds: u64,
+    since: u64,
+    now: u64,
+) -> Step
+    requires { IsLookedTo bytes.now from }
+    ensures { (read : ReadTurn) (given : List ℕ) → IsOpen read
+        → ComesTo known.now seconds since bytes.now (turn_of read given now) result }
+{
+    match judge(bytes, from, known) {
+        Step::Ends(answer) => Step::Ends(answer),
+        Step::GoesOn(place) => {
+            if is_late(seconds, since, now) {
+                Step::Ends(Greeted::Late { since, now })
+            } else {
+                Step::GoesOn(place)
+            }
+        }
+    }
+}
+
+// Whether so many seconds have gone.
+fn is_late(seconds: u64, since: u64, now: u64) -> bool
+    ensures { MatchBool result (seconds * 1000000 ≤ now - since) (IsEarly seconds since now) }
+{
+    now.saturating_sub(since) / 1_000_000 >= seconds
 }
 
 // What the bytes decide.
@@ -130,22 +162,6 @@ fn judge(bytes: &[u8], from: usize, known: &[Identity]) -> Step
                 Step::GoesOn(place)
             } else {
                 Step::Ends(Greeted::NotFrame)
-            }
-        }
-    }
-}
-
-// A greeting that would go on is late once so many seconds have gone.
-fn unless_late(judged: Step, seconds: u64, since: u64, now: u64) -> Step
-    ensures { result ≡ late_or judged seconds since now }
-{
-    match judged {
-        Step::Ends(answer) => Step::Ends(answer),
-        Step::GoesOn(place) => {
-            if now.saturating_sub(since) / 1_000_000 >= seconds {
-                Step::Ends(Greeted::Late { since, now })
-            } else {
-                Step::GoesOn(place)
             }
         }
     }

@@ -1,10 +1,6 @@
 //! A link that may have unread bytes of its connection. A read takes from these first, and a write goes to the
 //! connection itself.
-ghost use Rattle.std.specs.Prelude.{◌≡◌, ◌≤◌, ◌<◌, [], length, take, min};
-ghost use Rattle.fix_parts.specs.Link.{LinkReads, LinkWrites};
-ghost use Rattle.fix_host.specs.Held.{ahead_of, inner_of, held_seen, HeldReads};
-ghost use Rattle.fix_host.specs.Greet.{bytes_of};
-ghost use Rattle.std.specs.Prelude.{◌++◌, ◌+◌, vec_len, vec_capacity, OnOk, OnErr};
+ghost use Rattle.std.specs.Prelude.{◌≡◌, ◌≤◌, vec_len, min, length, take};
 
 use fix_base::OutOfMemory;
 use fix_disk::put_bytes;
@@ -22,6 +18,11 @@ pub struct Held<L> {
 }
 
 impl<L: Link> Held<L> {
+    ghost use Rattle.std.specs.Prelude.{◌≡◌, ◌<◌, ◌++◌, [], length, OnOk};
+    ghost use Rattle.fix_parts.specs.Link.{LinkReads};
+    ghost use Rattle.fix_host.specs.Held.{ahead_of, inner_of, HasRoomFor};
+    ghost use Rattle.fix_host.specs.Greet.{bytes_of};
+
     /// A connection of which nothing was read yet.
     pub fn new(alloc: Global, link: L) -> Held<L>
         ensures unread { ahead_of result ≡ [] }

@@ -1,0 +1,14 @@
+use Rattle.std.proofs.Common.{◌≡◌, ℕ, length}
+use Rattle.fix_host.specs.Held.{ahead_of, inner_of}
+use Rattle.fix_host.specs.Looking.{IsLookedTo}
+use Rattle.fix_host.specs.Greet.{IsUndecided}
+use Rattle.fix_host.proofs.GreetLemmas.{SoFar}
+use Rattle.fix_host.proofs.greeting.greet.Given as goal
+
+abbrev pub invariant-loop-taken : goal.invariant-loop-taken
+invariant-loop-taken g l = record {
+  so_far : SoFar l.seconds l.since l.taken (ahead_of l.initial.link) (ahead_of l.link) (g.L.link (inner_of l.initial.link)) (g.L.link (inner_of l.link)) (g.C.readings l.initial.clock) (g.C.readings l.clock);
+  looked : IsLookedTo (ahead_of l.link) l.from;
+  undecided : IsUndecided (ahead_of l.link);
+  room : length l.room.items ≡ 65536;
+}
