@@ -69,14 +69,14 @@ goes_on known seconds since count place ahead held held' a b c x y z s (steps.ta
       on = record {
         given = All-push _ _ _ s.on.given comes.0;
         early = All-push _ _ _ s.on.early comes.1;
-        undecided = subst IsUndecided is comes.2.0;
+        undecided = subst IsUndecided is comes.2;
       };
       many = length-append s.taken (turn ∷ []) ∙ ap (λ n. n + 1) s.many;
     }
 
 -- where the bytes up to here were looked at
 pub looked_at : (known : List Identity) (seconds since place : ℕ) (held held' : List ℕ) (b c : LinkSeen) (y z : Option (List ℕ)) → TakesStep known seconds since held held' b c y z (step.GoesOn place) → IsUndecided held' × IsLookedTo held' place
-looked_at known seconds since place held held' b c y z (steps.takes turn reads now more comes) = (comes.2.0, comes.2.1)
+looked_at known seconds since place held held' b c y z (steps.takes turn reads now more comes) = (comes.2, comes.3)
 
 -- the bytes ahead decide it
 pub at_first : (known : List Identity) (seconds turns since : ℕ) (answer : Greeted) (ahead : List ℕ) (link : LinkSeen) (a b : Option (List ℕ)) → ClockReads since a b → Decides known ahead answer → Greets known seconds turns answer ahead ahead link link a b

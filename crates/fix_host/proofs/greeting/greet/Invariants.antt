@@ -7,7 +7,7 @@ use Rattle.fix_host.proofs.greeting.greet.Given as goal
 
 abbrev pub invariant-loop-taken : goal.invariant-loop-taken
 invariant-loop-taken g l = record {
-  so_far : SoFar l.seconds l.since l.taken (ahead_of l.initial.link) (ahead_of l.link) (g.L.link (inner_of l.initial.link)) (g.L.link (inner_of l.link)) (g.C.readings l.initial.clock) (g.C.readings l.clock);
+  so_far : SoFar l.seconds l.since l.taken (ahead_of l.initial.link) (ahead_of l.link) (g.L.Link.link (inner_of l.initial.link)) (g.L.Link.link (inner_of l.link)) (g.C.Clock.readings l.initial.clock) (g.C.Clock.readings l.clock);
   looked : IsLookedTo (ahead_of l.link) l.from;
   undecided : IsUndecided (ahead_of l.link);
   room : length l.room.items ≡ 65536;

@@ -8,4 +8,4 @@ pub returns-then-is_late : goal.returns-then-is_late
 returns-then-is_late c = λ read given opens. greets.late opens c.in-GoesOn.ensures.0 c.if-is_late.ensures
 
 pub returns-else-is_late : goal.returns-else-is_late
-returns-else-is_late c = λ read given opens. (opens, c.if-is_late.ensures, (c.in-GoesOn.ensures.0, c.in-GoesOn.ensures.1))
+returns-else-is_late c = λ read given opens. (opens, c.if-is_late.ensures, c.in-GoesOn.ensures.0, c.in-GoesOn.ensures.1)

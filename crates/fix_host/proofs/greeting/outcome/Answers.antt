@@ -7,7 +7,7 @@ pub returns-in-Bytes : goal.returns-in-Bytes
 returns-in-Bytes c = λ given. c.judge_in_time.ensures c.args.turn given (subst IsOpen (sym c.in-Bytes.is) tt)
 
 pub returns-in-Idle : goal.returns-in-Idle
-returns-in-Idle c = λ given. c.judge_in_time-2.ensures c.args.turn given (subst IsOpen (sym c.in-Idle.is) tt)
+returns-in-Idle c = λ given. c.judge_in_time-in-Idle.ensures c.args.turn given (subst IsOpen (sym c.in-Idle.is) tt)
 
 pub returns-in-End : goal.returns-in-End
 returns-in-End c = λ given. greets.ended c.in-End.is
