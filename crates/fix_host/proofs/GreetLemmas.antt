@@ -67,8 +67,8 @@ goes_on known seconds since count place ahead held held' a b c x y z s (steps.ta
       reads = reads_push ahead s.taken turn a b c s.reads (subst (λ h. ReadsOnce h turn b c) s.held reads);
       held = is;
       on = record {
-        given = All-push _ _ _ s.on.given comes.0;
-        early = All-push _ _ _ s.on.early comes.1;
+        given = All-push (λ t. IsOpen t.read) s.taken turn s.on.given comes.0;
+        early = All-push (λ t. IsEarly seconds since t.now) s.taken turn s.on.early comes.1;
         undecided = subst IsUndecided is comes.2;
       };
       many = length-append s.taken (turn ∷ []) ∙ ap (λ n. n + 1) s.many;
@@ -145,6 +145,3 @@ step_taken known seconds since now old mid new bytes room read a b c x y step sa
         (record { room = room; most = most; reads = subst (λ l. LinkReads read room l c) same_link reads; bytes = refl })
         clock (more ∙ ap (λ w. w ++ bytes_of read room) same)
         (subst (λ w. ComesTo known seconds since w (turn_of read (bytes_of read room) now) step) is (comes (bytes_of read room)))
-
--- the exits of a greeting
-pub ruleset turns = (so_far, goes_on, looked_at, at_first, ends, gives_up, turns_spent)

@@ -32,7 +32,6 @@ pub(crate) enum Step {
 /// Reads the connection until its first frame, and says for which of the sessions it is. It reads the clock, and again
 /// after each read. All bytes that were read stay ahead: what reads the connection next has them first. Bytes that
 /// were ahead before the call are the first of the connection's bytes, and take no turn.
-#[tactic(auto, using(crate::proofs::LookLemmas::looked_start, crate::proofs::GreetLemmas::turns))]
 pub fn greet<L: Link, C: Clock>(
     alloc: Global,
     link: &mut Held<L>,
