@@ -1,5 +1,5 @@
 -- What a session message says, and a BusinessMessageReject, may stand after the header of a frame.
-use Rattle.std.proofs.Common.{◌≡◌, ◌≢◌, ℕ, zero, suc, ◌+◌, ◌*◌, ◌/◌, ◌%◌, ◌<◌, ◌≤◌, ◌==◌, ◌&&◌, nat_lt, nat_le, Bool, true, false, if◌then◌else◌, List, [], ◌∷◌, ◌++◌, length, length-append, get_or, take, codes, Option, Some, None, refl, sym, ap, subst, ◌∙◌, lit≤, lit<, arith}
+use Rattle.std.proofs.Common.{◌≡◌, ◌≢◌, ℕ, zero, suc, ◌+◌, ◌*◌, ◌/◌, ◌%◌, ◌<◌, ◌≤◌, ◌==◌, ◌&&◌, nat_lt, nat_le, Bool, true, false, if◌then◌else◌, List, [], ◌∷◌, ◌++◌, length, length-append, get_or, take, codes, Option, Some, None, refl, sym, ap, subst, ◌∙◌, append_assoc, lit≤, lit<, arith}
 use Rattle.std.specs.Prelude.{IfOk, Result, Ok, Err}
 use Rattle.std.specs.List.{AllByRecursion, list_all}
 use Rattle.std.proofs.lemmas.Bool.{leb-true}
@@ -10,7 +10,7 @@ use Rattle.fix_base.specs.declared.identity.Begin.{Begin}
 use Rattle.fix_base.specs.declared.fault.Fault.{Fault}
 use Rattle.fix_base.specs.Tags.{data_tag, is_session_tag}
 use Rattle.fix_base.specs.Frame.{HasNoSoh}
-use Rattle.fix_base.specs.Fields.{Field, FieldsAfter}
+use Rattle.fix_base.specs.Fields.{Field, FieldsAfter, data_after}
 use Rattle.fix_base.specs.Says.{field_text, fields_text}
 use Rattle.fix_base.specs.Payload.{field, IsEntryField, LONGEST_BODY}
 use Rattle.fix_base.proofs.PlainFields.{IsPlainField, plain_fields}
@@ -19,7 +19,8 @@ use Rattle.fix_admin.specs.declared.say.LogoutText.{LogoutText}
 use Rattle.fix_admin.specs.declared.say.LogoutText.TheVariants as text
 use Rattle.fix_admin.specs.Say as say
 use Rattle.fix_admin.specs.Say.{SaySeen, fields_of, business_fields, logon_fields, id_fields, tag_fields, reason_fields, text_fields, reset_fields, version_fields, ref_type, reason_text, logout_text}
-use Rattle.fix_admin.specs.Follows.{MayFollow, IsClear, GivesBackValues}
+use Rattle.fix_fields.specs.Faulty.{due_behind}
+use Rattle.fix_admin.specs.Follows.{MayFollow, IsClear, GivesBackValues, IsWhole}
 
 -- ---- values with no SOH
 
@@ -295,3 +296,24 @@ business_follows about type reason t h k =
 pub ok_also : {E : Type 0} (P : List ℕ → Type 0) (r : Result (List ℕ) E) (bytes : List ℕ) → IfOk r (λ out. out ≡ bytes) → P bytes → IfOk r P
 ok_also P (Ok out) bytes is h = subst P (sym is) h
 ok_also P (Err e) bytes is h = tt
+
+-- ---- after a front of fields
+
+joined : (due : Option (ℕ × ℕ)) (front bytes : List ℕ) (fs gs : List Field) → FieldsAfter due front fs → due_behind due fs ≡ None → FieldsAfter None bytes gs → FieldsAfter due (front ++ bytes) (fs ++ gs)
+joined due front bytes [] gs p e q =
+    subst (λ (t : List ℕ). FieldsAfter due (t ++ bytes) gs) (sym p) (subst (λ (d : Option (ℕ × ℕ)). FieldsAfter d bytes gs) (sym e) q)
+joined due front bytes (f ∷ fs) gs p e q = (
+  p.0,
+  p.1 ++ bytes,
+  p.2,
+  ap (λ (t : List ℕ). t ++ bytes) p.3 ∙ append_assoc p.0 p.1 bytes,
+  joined (data_after f) p.1 bytes fs gs p.4 e q,
+)
+
+pub whole : (longest : ℕ) (front bytes : List ℕ) (fs : List Field) → FieldsAfter None front fs → due_behind None fs ≡ None → MayFollow longest bytes → IsWhole longest front bytes fs
+whole longest front bytes fs are none h = record {
+  more = h.fields;
+  are = joined None front bytes fs h.fields are none h.are;
+  each = h.each;
+  short = omega (arith, length-append front bytes, h.short);
+}

@@ -1,5 +1,5 @@
 -- Bytes that may stand after the header of a frame, so that the whole may be sealed.
-use Rattle.std.specs.Prelude.{ℕ, ◌≤◌, List, length, Option, Some, None}
+use Rattle.std.specs.Prelude.{ℕ, ◌+◌, ◌≤◌, List, ◌++◌, length, Option, Some, None}
 use Rattle.std.specs.List.{AllByRecursion}
 use Rattle.fix_base.specs.Fields.{Field, FieldsAfter}
 use Rattle.fix_base.specs.Frame.{HasNoSoh}
@@ -29,3 +29,11 @@ GivesBackValues (Reject about type fault) = HasNoSoh type
 GivesBackValues (GapFill next) = Unit {0}
 GivesBackValues (Logout text) = Unit {0}
 GivesBackValues (Logon heart reset version) = Unit {0}
+
+-- a front of a message, from MsgType (35) on, with the bytes after it: together a list of fields, those of the
+-- front first
+pub record IsWhole (longest : ℕ) (front bytes : List ℕ) (fs : List Field) : Type 0 where
+  pub more : List Field
+  pub are : FieldsAfter None (front ++ bytes) (fs ++ more)
+  pub each : AllByRecursion IsEntryField more
+  pub short : length (front ++ bytes) ≤ length front + longest
