@@ -23,6 +23,8 @@ mod first_message_tests;
 mod inbound;
 mod laws;
 mod logged_on;
+#[cfg(test)]
+mod logon_tests;
 mod machine;
 #[cfg(test)]
 mod number_tests;

@@ -1,7 +1,8 @@
 //! The words of the worked rows: states all of whose times are 2024-01-02 10:00:00, messages of BUY to SELL at
 //! that time, and the steps of an answer. The tests of rows call `reads` and `answers`.
 use crate::{
-    Event, Machine, MachineState, Options, Phase, Refusal, Requested, Role, Step, Verdict, Why,
+    Decision, Event, Machine, MachineState, Options, Phase, Refusal, Requested, Role, Step,
+    Verdict, Why,
 };
 use fix_admin::{Admin, LogoutText, Say};
 use fix_base::{Begin, Bytes, Fault, Identity, OutOfMemory, SeqNum, Tag};
@@ -308,6 +309,43 @@ pub fn rejects<'a>(about: u32, kind: &'a [u8], reason: u16, tag: u32) -> Step<'a
 
 // ---- rows
 
+/// A session in this state.
+pub fn session(alloc: Global, kind: Kind, state: MachineState) -> Result<Machine, OutOfMemory> {
+    Ok(Machine::in_state(settings(alloc, kind)?, state, T))
+}
+
+fn found(decision: Decision<'_>) -> Steps<'_> {
+    Steps {
+        first: decision.first,
+        second: decision.second,
+        third: decision.third,
+        fourth: decision.fourth,
+    }
+}
+
+/// Whether the session answers the event by these steps.
+pub fn does(machine: &mut Machine, event: &Event<'_>, steps: Steps<'_>) -> bool {
+    found(machine.decide(event)) == steps
+}
+
+/// Whether it answers the message by these steps.
+pub fn takes(
+    machine: &mut Machine,
+    flags: Flags,
+    head: Envelope<'_>,
+    verdict: Verdict<'_>,
+    steps: Steps<'_>,
+) -> bool {
+    let event = Event::Frame {
+        head: &head,
+        verdict,
+        full: flags.full,
+        gap: flags.gap,
+        reset: flags.reset,
+    };
+    does(machine, &event, steps)
+}
+
 /// Whether a session in this state answers the event by these steps, and is in this state then.
 pub fn answers(
     alloc: Global,
@@ -317,18 +355,10 @@ pub fn answers(
     steps: Steps<'_>,
     next: MachineState,
 ) -> bool {
-    let Ok(options) = settings(alloc, kind) else {
+    let Ok(mut machine) = session(alloc, kind, state) else {
         return false;
     };
-    let mut machine = Machine::in_state(options, state, T);
-    let decision = machine.decide(event);
-    let found = Steps {
-        first: decision.first,
-        second: decision.second,
-        third: decision.third,
-        fourth: decision.fourth,
-    };
-    found == steps && machine.state() == next
+    does(&mut machine, event, steps) && machine.state() == next
 }
 
 /// The same of a message, with these settings and flags.
