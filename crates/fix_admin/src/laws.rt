@@ -8,6 +8,6 @@ ghost use Rattle.fix_admin.specs.Follows.{MayFollow, IsWhole};
 /// header, of which the last announces no data: together they are a list of fields, and as long as
 /// both. So a front of 512 bytes leaves the whole within the greatest BodyLength (9), 1,048,576.
 pub fn what_may_follow_makes_a_message()
-    ensures { (longest : ℕ) (front bytes : List ℕ) (fs : List Field) → FieldsAfter None front fs → due_behind None fs ≡ None
-        → MayFollow longest bytes → IsWhole longest front bytes fs }
+    ensures { (longest : ℕ) (front bytes : List ℕ) (fs : List Field) → FieldsAfter None front fs
+        → due_behind None fs ≡ None → MayFollow longest bytes → IsWhole longest front bytes fs }
 {}
