@@ -52,8 +52,9 @@ fn a_silent_counterparty_is_asked_and_left(rt: HostRuntime) -> Result<(), OutOfM
 // Whether the order of this number is handed over and counted, and the change brings this step.
 fn passes(machine: &mut Machine, number: u32, waiting: bool, step: Step<'_>) -> bool {
     let counts = two(Step::Hand, Step::Expect(number.saturating_add(1)));
-    takes(machine, NO_FLAG, of(b"D", number), Verdict::App, counts)
-        && does(machine, &Event::Moved { waiting }, one(step))
+    let counted = takes(machine, NO_FLAG, of(b"D", number), Verdict::App, counts);
+    let moved = does(machine, &Event::Moved { waiting }, one(step));
+    counted && moved
 }
 
 #[test]
