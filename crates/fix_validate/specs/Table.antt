@@ -77,8 +77,7 @@ tag_out_of_order misplaced f = tested misplaced 14 f.tag
 
 -- 6, Incorrect data format for value
 abbrev pub incorrect_format : DictionarySeen → Field → Row
-incorrect_format dictionary f =
-    record { holds = IsNoValueOf (kind_of dictionary f.tag) f.value; fault = fault_at 6 f.tag }
+incorrect_format dictionary f = record { holds = IsNoValueOf (kind_of dictionary f.tag) f.value; fault = fault_at 6 f.tag }
 
 -- 5, Value is incorrect (out of range) for this tag: values are listed, and this isn't one
 abbrev pub value_out_of_range : DictionarySeen → Field → Row
@@ -98,8 +97,7 @@ field_rows_by dictionary root again misplaced f =
 
 -- and after these fields
 abbrev pub field_rows : DictionarySeen → Shapes → Bool → List Field → Field → List Row
-field_rows dictionary root order before f =
-    field_rows_by dictionary root (has_field f.tag before && not (is_member root f.tag))
+field_rows dictionary root order before f = field_rows_by dictionary root (has_field f.tag before && not (is_member root f.tag))
     (order && is_misplaced dictionary before f.tag) f
 
 -- field by field, each after these and those before it
