@@ -8,7 +8,8 @@ use Rattle.fix_base.specs.declared.entry.By.{By}
 use Rattle.fix_base.specs.declared.entry.Stored.{Stored}
 use Rattle.fix_base.specs.declared.act.Act.TheVariants as act
 use Rattle.fix_base.specs.declared.bytes.OutOfMemory.{OutOfMemory}
-use Rattle.fix_base.specs.End.{End, IsEntry, IsAdminAt}
+use Rattle.fix_base.specs.End.{End, IsEntry, IsAppAt, IsAdminAt}
+use Rattle.fix_base.specs.Lists.{Among}
 use Rattle.fix_base.specs.Payload.{IsAppPayload, LAST_TIME}
 use Rattle.fix_base.specs.Parts.{HasNoRoom}
 use Rattle.fix_base.specs.Trace.{Note, Did, Failed, StorePart, LinkPart, AppPart, OutsideSeen}
@@ -64,17 +65,26 @@ hands said.OutOfMemory h = []
 
 -- ---- the store: whether it is open, and what it answers
 
--- a record may be kept: the store is open, has a form for it, and a number for a further entry
+-- a record may be kept: the store is open, and has a number for each further entry
 abbrev pub HasPlace : Record → Option ℕ → Type 0
 HasPlace r None = ⊥
 HasPlace (Push entry) (Some last) = last < 999999999
 HasPlace (Expect number) (Some last) = ⊤
+HasPlace (Many pushes number) (Some last) = last + length pushes ≤ 999999999
+HasPlace (Withhold number) (Some last) = number ≤ last
 HasPlace (Reset time) (Some last) = ⊤
--- a store has no form for these yet
-HasPlace (Many pushes number) (Some last) = ⊥
-HasPlace (Withhold number) (Some last) = ⊥
-HasPlace (ResetAsk time) (Some last) = ⊥
-HasPlace Confirm (Some last) = ⊥
+HasPlace (ResetAsk time) (Some last) = ⊤
+HasPlace Confirm (Some last) = ⊤
+
+-- a number that is withheld is one of an application message, in the end that is told
+abbrev pub NamesApp : Record → OutsideSeen → Type 0
+NamesApp (Push entry) w = ⊤
+NamesApp (Expect number) w = ⊤
+NamesApp (Many pushes expect) w = ⊤
+NamesApp (Withhold number) w = (e : End) → w.Holds e → (body : List ℕ) × IsAppAt e.out number body
+NamesApp (Reset time) w = ⊤
+NamesApp (ResetAsk time) w = ⊤
+NamesApp Confirm w = ⊤
 
 -- how many entries there are after a record
 abbrev pub last_behind : Record → ℕ → ℕ
@@ -144,18 +154,25 @@ open_fetched (Ok x) at = at
 open_fetched (Err fetch.Failed) at = None
 open_fetched (Err fetch.OutOfMemory) at = at
 
--- what is fetched of entry n: an application message that may be kept, with its body, or that it is another;
--- each as the end that is told has it
+-- what is fetched of entry n: an application message that may be kept, with its body; or that it is another;
+-- or that it is withheld; each as the end that is told has it
 pub record IsFetchedApp (n time : ℕ) (body : List ℕ) (w : OutsideSeen) : Type 0 where
   pub payload : IsAppPayload time body
   pub told : (e : End) → w.Holds e → (by : By) × IsEntry e.out n (App time by body)
+  pub free : (e : End) → w.Holds e → Among n e.withheld → ⊥
 
 pub record IsFetchedAdmin (n : ℕ) (body : List ℕ) (w : OutsideSeen) : Type 0 where
   pub none : body ≡ []
   pub told : (e : End) → w.Holds e → IsAdminAt e.out n
 
+pub record IsFetchedWithheld (n : ℕ) (body : List ℕ) (w : OutsideSeen) : Type 0 where
+  pub none : body ≡ []
+  pub app : (e : End) → w.Holds e → (body : List ℕ) × IsAppAt e.out n body
+  pub withheld : (e : End) → w.Holds e → Among n e.withheld
+
 abbrev pub FetchAnswers : Result Kind FetchFault → ℕ → List ℕ → OutsideSeen → Type 0
 FetchAnswers (Ok (kind.App time)) n body w = IsFetchedApp n time body w
 FetchAnswers (Ok kind.Admin) n body w = IsFetchedAdmin n body w
+FetchAnswers (Ok kind.Withheld) n body w = IsFetchedWithheld n body w
 FetchAnswers (Err fetch.Failed) n body w = HasNoRoom 0 w.parts.store_room
 FetchAnswers (Err fetch.OutOfMemory) n body w = ⊤

@@ -7,7 +7,7 @@ ghost use Rattle.fix_fields.specs.Drafted.{draft_body};
 ghost use Rattle.fix_outside.specs.Handing.{HasKind};
 ghost use Rattle.fix_outside.specs.Connection.{IsInRoom, IsInBytes};
 ghost use Rattle.fix_outside.specs.Outside.{marks, tells_time, reads, writes, keeps, hands, loads, fetches};
-ghost use Rattle.fix_outside.specs.Outside.{HasPlace, HasEntry, open_kept, open_loaded, open_fetched, LoadAnswers};
+ghost use Rattle.fix_outside.specs.Outside.{HasPlace, NamesApp, HasEntry, open_kept, open_loaded, open_fetched, LoadAnswers};
 ghost use Rattle.fix_outside.specs.Outside.{FetchAnswers};
 
 use crate::{Handed, ReadTurn, Said, WriteTurn};
@@ -48,8 +48,10 @@ pub enum FetchFault {
 pub enum Kind {
     /// An application message, sent first at this time, in microseconds since 1970.
     App { time: u64 },
-    /// A message that a resend skips.
+    /// A message of the session layer, which a resend skips.
     Admin,
+    /// An application message that is withheld: a resend skips it too.
+    Withheld,
 }
 
 /// All that a session calls: the connection, the message store, the application, the clock and the
@@ -94,10 +96,12 @@ pub trait Outside {
         ensures in_bytes { IsInBytes result bytes.now }
         ensures opens { (seen self.new).open_at ≡ (seen self.old).open_at };
 
-    /// Keeps the record in the message store, which is open.
+    /// Keeps the record in the message store, which is open and has a number for each of its entries. A
+    /// number that is withheld is one of an application message.
     fn keep(&mut self, kept: &Record) -> Result<(), KeepFault>
         requires payload { IsKeepable kept.now }
         requires place { HasPlace kept.now (seen self.old).open_at }
+        requires named { NamesApp kept.now (seen self.old) }
         ensures noted { Trace (seen self.old) (seen self.new) (keeps result kept.now) }
         ensures opens { (seen self.new).open_at ≡ open_kept result kept.now (seen self.old).open_at };
 
