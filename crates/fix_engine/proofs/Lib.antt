@@ -1,4 +1,5 @@
 pub mod FoldLemmas
+pub mod FoldLaws
 pub mod FrameLemmas
 pub mod InboundLemmas
 pub mod SaidLemmas
