@@ -77,7 +77,8 @@ module _ (id : Identity) (P : TurnSeen → List Note → Result ⊤ Ending → T
   turn_has one last d notes r to (turns.keeps_not {mid = mid} {met = met} {first = first} {more = more} {e = e} h k lost) =
       law.not_stored d mid to first more met e (one d first met mid k) (last mid more (Err e) to lost)
 
-  turns_have : Has P (SendReadClock id) → Has P (Beside StoreExpected) → (n : ℕ) → Has P (TakeTurns id n)
+  -- of turns
+  pub turns_have : Has P (SendReadClock id) → Has P (Beside StoreExpected) → (n : ℕ) → Has P (TakeTurns id n)
   turns_have one last n d notes r to k =
       each_has P (OneTurn id) law.parts (λ u. turn_has one last) (replicate n tt) d notes r to k
 
