@@ -19,8 +19,11 @@ pub mod DraftLeads
 pub mod LawfulRuns
 pub mod EachTime
 pub mod EachFrame
+pub mod Complete
 pub mod Settled
 pub mod Turns
+pub mod CompleteAnswers
+pub mod CompleteDrafts
 pub mod Prefix
 pub mod RunActs
 pub mod WritingLemmas
