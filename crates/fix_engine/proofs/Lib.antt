@@ -25,6 +25,7 @@ pub mod Turns
 pub mod CompleteAnswers
 pub mod CompleteDrafts
 pub mod Prefix
+pub mod OneRun
 pub mod RunActs
 pub mod WritingLemmas
 pub mod InStepLemmas
