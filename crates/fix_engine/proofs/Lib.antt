@@ -5,6 +5,7 @@ pub mod InboundLemmas
 pub mod SaidLemmas
 pub mod Carrying
 pub mod Begun
+pub mod EndedLemmas
 pub mod TakenLemmas
 pub mod BeginLemmas
 pub mod Causes

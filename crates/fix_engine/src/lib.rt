@@ -8,6 +8,7 @@ mod faults;
 mod handling;
 mod inbound;
 mod laws;
+mod leaving;
 mod machine;
 mod outbound;
 mod pending;
@@ -16,6 +17,7 @@ mod session;
 mod state;
 mod stop;
 mod turn;
+mod work;
 mod writing;
 
 pub use fix_outside::{
