@@ -4,7 +4,17 @@ use Rattle.fix_engine.specs.Drafted.{spent}
 use Rattle.fix_engine.specs.Reading.{connection_seen}
 use Rattle.fix_engine.proofs.SendLemmas.{sent_goes, send_lawful, send_in_step, send_stands, send_trails, send_connected, send_has_cause}
 use Rattle.fix_engine.proofs.LookBackLemmas.{send_from_here}
+use Rattle.fix_engine.proofs.EndedLemmas.{send_stops_down}
 use Rattle.fix_engine.proofs.session.Session.send.Goals as goal
+
+pub invariant_of-self : goal.invariant_of-self
+invariant_of-self g c = (
+  c.self.invariant.0,
+  c.send_and_cut-sent.ensures.ready.range,
+  c.self.invariant.2,
+  λ goes_on. c.self.invariant.3 c.in_default.is,
+  rw c.stop_of_sent-self-inside.ensures (send_stops_down _ _ _ _ _ _ c.send_and_cut-sent.ensures.notes.2),
+)
 
 pub returns-then-self-ge-LAST_SEQ_NUM-clause-sends : goal.returns-then-self-ge-LAST_SEQ_NUM-clause-sends
 returns-then-self-ge-LAST_SEQ_NUM-clause-sends g c = rw (← c.self.view_is, c.in_default.is) (_, Trace-nil _, spent c.if-self-ge-LAST_SEQ_NUM.true)
