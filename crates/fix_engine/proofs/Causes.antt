@@ -6,7 +6,6 @@ use Rattle.fix_base.specs.Trace.{Note, OutsideSeen, Faults, Counts, HasTrace, st
 use Rattle.fix_base.proofs.SeenLemmas.{store_failures-append, link_failures-append, app_failures-append}
 use Rattle.fix_engine.specs.State.{State, Ending, Step}
 use Rattle.fix_engine.specs.declared.state.Ending.TheVariants as ending
-use Rattle.fix_engine.specs.Fold.{AndThen}
 use Rattle.fix_engine.specs.Answer.{Performed, nothing, count, go_up, close, give_up, taken, hand_lost, hand_memory}
 use Rattle.fix_engine.specs.Answer.{spent, keep_memory, keep_lost, sent, write_lost, write_memory}
 use Rattle.fix_fields.specs.Drafted.{DraftText}

@@ -1,5 +1,5 @@
 -- What comes after an end: the connection ends, and a session that is stopped is Down.
-use Rattle.std.proofs.Common.{◌≡◌, ◌<◌, ◌≤◌, ℕ, length, List, [], ◌∷◌, ◌++◌, Bool, true, false, Option, Some, None, Result, Ok, Err, refl, sym, subst}
+use Rattle.std.proofs.Common.{◌≡◌, ◌<◌, ◌≤◌, ℕ, length, List, ◌∷◌, ◌++◌, Bool, true, Option, Some, None, Result, Ok, Err, refl, sym, subst}
 use Rattle.std.specs.Prelude.{⊤, IfSome}
 use Rattle.std.proofs.lemmas.List.{append-nil}
 use Rattle.fix_base.specs.declared.identity.Identity.{Identity}

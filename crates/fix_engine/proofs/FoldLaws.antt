@@ -1,5 +1,5 @@
 -- What holds of each part of a run holds of the run: a law says what of one part after another, and of each part.
-use Rattle.std.proofs.Common.{List, [], ◌∷◌, ◌++◌, Result, Ok, Err, ℕ, true, ◌≡◌, replicate}
+use Rattle.std.proofs.Common.{List, [], ◌∷◌, ◌++◌, Result, Ok, Err, ℕ, replicate}
 use Rattle.std.specs.Prelude.{⊤}
 use Rattle.fix_base.specs.declared.identity.Identity.{Identity}
 use Rattle.fix_base.specs.declared.act.Act.TheVariants as act

@@ -7,7 +7,7 @@ use Rattle.fix_base.specs.declared.act.Act.{Act}
 use Rattle.fix_base.specs.declared.act.Act.TheVariants as act
 use Rattle.fix_base.specs.Reader.{AreOfOneConnection}
 use Rattle.fix_base.specs.Payload.{LAST_TIME, IsPersistentEntry}
-use Rattle.fix_base.specs.Trace.{Note, Did, acts_of}
+use Rattle.fix_base.specs.Trace.{Note, acts_of}
 use Rattle.fix_base.proofs.SeenLemmas.{acts_of-append}
 use Rattle.fix_fields.specs.Drafted.{DraftText}
 use Rattle.fix_engine.specs.State.{State, Ending, Step, Say, Logon, Logout, with_last, counted}

@@ -23,9 +23,7 @@ mod writing;
 pub use fix_outside::{
     FetchFault, Handed, KeepFault, Kind, LoadFault, Outside, ReadTurn, Said, WriteTurn,
 };
-pub use laws::{
-    a_new_session_is_in_step, a_stop_is_lawful, runs_are_one_run, two_sessions_agree,
-};
+pub use laws::{a_new_session_is_in_step, a_stop_is_lawful, runs_are_one_run, two_sessions_agree};
 pub use session::Session;
 pub use state::{Decision, Ending, Phase, Refusal, Say, State, Step, Why};
 pub use stop::{BeginFault, RunEnd, SendFault, StopCause};

@@ -25,11 +25,7 @@ pub struct PendingDraft {
 
 /// In phase Up, asks the application for a draft, unless one is in hand, and sends what is in hand
 /// then.
-pub fn offer_draft<O: Outside>(
-    o: &mut O,
-    context: &Context,
-    work: &mut Work,
-) -> Result<(), Ending>
+pub fn offer_draft<O: Outside>(o: &mut O, context: &Context, work: &mut Work) -> Result<(), Ending>
     requires ready { IsReadyToTurn context.now.identity (O.seen o.old) (Some work.old.state.last) work.old }
     ensures ready { IsReadyToTurn context.now.identity (O.seen o.new) (open_behind result work.new.state) work.new }
     ensures notes { HasTrace (O.seen o.old) (O.seen o.new)

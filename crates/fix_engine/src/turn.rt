@@ -79,11 +79,7 @@ fn turn<O: Outside>(o: &mut O, context: &Context, work: &mut Work) -> Result<(),
 }
 
 // Sends a draft of the application, reads, and then looks at the clock.
-fn send_read_clock<O: Outside>(
-    o: &mut O,
-    context: &Context,
-    work: &mut Work,
-) -> Result<(), Ending>
+fn send_read_clock<O: Outside>(o: &mut O, context: &Context, work: &mut Work) -> Result<(), Ending>
     requires ready { IsReadyToTurn context.now.identity (O.seen o.old) (Some work.old.state.last) work.old }
     ensures ready { IsReadyToTurn context.now.identity (O.seen o.new) (open_behind result work.new.state) work.new }
     ensures notes { HasTrace (O.seen o.old) (O.seen o.new)
