@@ -1,0 +1,4 @@
+pub mod FoldLemmas
+pub mod OutgoingLemmas
+pub mod StageLemmas
+pub mod Carrying

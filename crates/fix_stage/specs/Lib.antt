@@ -1,0 +1,6 @@
+pub mod Combine
+pub mod Stage
+pub mod Sender
+pub mod Flush
+pub mod Outgoing
+pub mod Staging
