@@ -4,3 +4,5 @@ pub mod Sender
 pub mod Flush
 pub mod Outgoing
 pub mod Staging
+pub mod Causes
+pub mod Stated

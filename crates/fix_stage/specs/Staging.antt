@@ -29,7 +29,7 @@ with_staged b m frame = with_stage b (with_entry b.stage m.entry frame)
 
 -- the entry is staged with its frame
 pub data Put (id : Identity) (m : Outgoing) (b : Sender) : List Note → Result ⊤ StageFault → Sender → Type 0 where
-  put : (frame : Option (List ℕ)) → IsOutgoing m → next_number b ≤ 999999999 → IsStagedFrame id (next_number b) m frame
+  put : (frame : Option (List ℕ)) → IsOutgoing m → IsStagedFrame id (next_number b) m frame
       → Put id m b [] (Ok tt) (with_staged b m frame)
   put_memory : Put id m b [] (Err OutOfMemory) b
 

@@ -10,4 +10,4 @@ returns-in-Err-clause-notes g c = rw c.in-Err.ensures.stays (_, Trace-nil _, put
 
 pub returns-in-Ok-push-clause-notes : goal.returns-in-Ok-push-clause-notes
 returns-in-Ok-push-clause-notes g c = rw c.in-Ok-push.ensures.pushed
-    (_, Trace-nil _, put _ c.requires.outgoing c.requires.free (rw c.len.ensures.is at c.in-Ok.ensures))
+    (_, Trace-nil _, put _ c.requires.outgoing (rw c.len.ensures.is at c.in-Ok.ensures))
