@@ -4,4 +4,8 @@ pub mod OutgoingLemmas
 pub mod StageLemmas
 pub mod EachTime
 pub mod SendingLemmas
+pub mod LeadsLemmas
+pub mod PlainLemmas
+pub mod ChainLemmas
+pub mod KeepLeads
 pub mod Carrying

@@ -81,10 +81,10 @@ header_short id n time at valid small sent =
 -- ---- a message that is sent
 
 -- its fields
-abbrev whole : Identity → ℕ → List ℕ → (m : Outgoing) → IsOutgoing m → List Field
+abbrev pub whole : Identity → ℕ → List ℕ → (m : Outgoing) → IsOutgoing m → List Field
 whole id n at m h = original_fields id (decimal n) at m.type h.fields
 
-outgoing_are : (id : Identity) (n time : ℕ) (at : List ℕ) (m : Outgoing) (h : IsOutgoing m) → IsValidIdentity id →
+pub outgoing_are : (id : Identity) (n time : ℕ) (at : List ℕ) (m : Outgoing) (h : IsOutgoing m) → IsValidIdentity id →
     n ≤ 999999999 → IsTimeTextOf 3 time at → FieldsAfter None (fields_text (whole id n at m h)) (whole id n at m h)
 outgoing_are id n time at m h valid small sent =
     field_ahead (field 35 m.type) (field 34 (decimal n) ∷ field 49 id.sender ∷ field 52 at ∷ field 56 id.target ∷
@@ -100,7 +100,7 @@ outgoing_are id n time at m h valid small sent =
     h.are))))
 
 -- MsgType, the header and the rest are the fields of the message
-outgoing_message : (id : Identity) (n : ℕ) (at : List ℕ) (m : Outgoing) (h : IsOutgoing m) →
+pub outgoing_message : (id : Identity) (n : ℕ) (at : List ℕ) (m : Outgoing) (h : IsOutgoing m) →
     message_text m.type (fields_text (header_fields id n at)) (fields_text h.fields) ≡ fields_text (whole id n at m h)
 outgoing_message id n at m h =
     append_assoc (field_text (field 35 m.type)) (fields_text (header_fields id n at)) (fields_text h.fields)
@@ -119,7 +119,7 @@ type_long type =
       length-append (field_text (field 35 type)) [],
     )
 
-outgoing_short : (id : Identity) (n time : ℕ) (at : List ℕ) (m : Outgoing) (h : IsOutgoing m) → IsValidIdentity id →
+pub outgoing_short : (id : Identity) (n time : ℕ) (at : List ℕ) (m : Outgoing) (h : IsOutgoing m) → IsValidIdentity id →
     n ≤ 999999999 → IsTimeTextOf 3 time at →
     length (message_text m.type (fields_text (header_fields id n at)) (fields_text h.fields)) ≤ 1048576
 outgoing_short id n time at m h valid small sent =
@@ -207,7 +207,7 @@ outgoing_fits id n time m header valid small h t =
     rw (t.spelled, h.spelled) (outgoing_short id n time t.at m h valid small t.sent_at)
 
 -- its frame is the original of its entry
-pub frame_original : (id : Identity) (n : ℕ) (m : Outgoing) (text : List ℕ) → IsValidIdentity id → n ≤ 999999999 →
+abbrev pub frame_original : (id : Identity) (n : ℕ) (m : Outgoing) (text : List ℕ) → IsValidIdentity id → n ≤ 999999999 →
     IsOutgoing m → IsFrameOf id n m text → IsOriginal id n m.entry text
 frame_original id n m text valid small h f =
     let t = f.heads in

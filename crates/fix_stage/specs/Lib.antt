@@ -6,3 +6,4 @@ pub mod Outgoing
 pub mod Staging
 pub mod Causes
 pub mod Stated
+pub mod Lawful
