@@ -37,7 +37,7 @@ use Rattle.fix_stage.proofs.ChainLemmas.{moves_run, push_run, expect_run, chain_
 
 -- ---- nothing due, a number that isn't 0
 
-none_due : (k : ℕ) → (k == 0) ≡ true → not (length {A = Entry} [] == 0 && k == 0) ≡ true → ⊥
+pub none_due : (k : ℕ) → (k == 0) ≡ true → not (length {A = Entry} [] == 0 && k == 0) ≡ true → ⊥
 none_due k z due = let w : not (true && true) ≡ true = subst (λ t. not (true && t) ≡ true) z due in cc
 
 positive : (k : ℕ) → (k == 0) ≡ false → 0 < k
@@ -47,16 +47,16 @@ positive (suc k) z = omega arith
 -- ---- an end that grew, on the same connection
 
 -- the end where a record is kept, with what is staged
-record KeptEnd (id : Identity) (n k : ℕ) (b : Sender) (e : EndState) (c : Connection) : Type 0 where
-  to : EndState
-  run : EndRun id e (act.Kept (record_of b.stage.entries k) ∷ []) to
-  end : to.end ≡ folded e.end (record_of b.stage.entries k)
-  many : to.end ≡ folded e.end (Many b.stage.entries k)
-  doubt : to.doubt ≡ None
-  role : to.role ≡ e.role
-  connection : to.connection ≡ Some c
-  expected : to.expected ≡ n
-  base : c.base ≤ length to.handled
+pub record KeptEnd (id : Identity) (n k : ℕ) (b : Sender) (e : EndState) (c : Connection) : Type 0 where
+  pub to : EndState
+  pub run : EndRun id e (act.Kept (record_of b.stage.entries k) ∷ []) to
+  pub end : to.end ≡ folded e.end (record_of b.stage.entries k)
+  pub many : to.end ≡ folded e.end (Many b.stage.entries k)
+  pub doubt : to.doubt ≡ None
+  pub role : to.role ≡ e.role
+  pub connection : to.connection ≡ Some c
+  pub expected : to.expected ≡ n
+  pub base : c.base ≤ length to.handled
 
 -- a record of these, and several entries with the number, leave the same end
 record_same : (e : End) (es : List Entry) (k : ℕ) (t : Bool) → (k == 0) ≡ t → not (length es == 0 && k == 0) ≡ true → folded e (Many es k) ≡ folded e (record_of es k)
@@ -118,7 +118,7 @@ kept_at id read given n k b e f which due t z =
       base = subst (λ h. f.on.connection.base ≤ length h) (sym (chain_handled k e a.to t)) a.base;
     }
 
-kept_end : (id : Identity) (read given : List ℕ) (n k : ℕ) (b : Sender) (e : EndState) (f : Fits id read given n b e) → (k ≡ 0) ⊎ (k ≡ n) → is_due b k ≡ true → KeptEnd id n k b e f.on.connection
+pub kept_end : (id : Identity) (read given : List ℕ) (n k : ℕ) (b : Sender) (e : EndState) (f : Fits id read given n b e) → (k ≡ 0) ⊎ (k ≡ n) → is_due b k ≡ true → KeptEnd id n k b e f.on.connection
 kept_end id read given n k b e f which due = kept_at id read given n k b e f which due (k == 0) refl
 
 -- what several entries with a number leave
@@ -129,7 +129,7 @@ many_stored e es k stored h = by (k == 0)
     by true = h
     by false = refl
 
-many_out : (e : End) (es : List Entry) (k : ℕ) → (folded e (Many es k)).out ≡ e.out ++ es
+pub many_out : (e : End) (es : List Entry) (k : ℕ) → (folded e (Many es k)).out ≡ e.out ++ es
 many_out e es k = by (k == 0)
   where
     by : (t : Bool) → (if t then record e { out = e.out ++ es } else record e { out = e.out ++ es; stored = k }).out ≡ e.out ++ es
@@ -137,7 +137,7 @@ many_out e es k = by (k == 0)
     by false = refl
 
 -- the session counts what is kept, and the end is certain
-kept_certain : (id : Identity) (read given : List ℕ) (n k : ℕ) (b : Sender) (e : EndState) (f : Fits id read given n b e) (p : KeptEnd id n k b e f.on.connection) (e' : EndState) → e'.end ≡ p.to.end → e'.doubt ≡ None → e'.role ≡ e.role → IsCertain (numbers_kept b.numbers (length b.stage.entries) k) e'
+pub kept_certain : (id : Identity) (read given : List ℕ) (n k : ℕ) (b : Sender) (e : EndState) (f : Fits id read given n b e) (p : KeptEnd id n k b e f.on.connection) (e' : EndState) → e'.end ≡ p.to.end → e'.doubt ≡ None → e'.role ≡ e.role → IsCertain (numbers_kept b.numbers (length b.stage.entries) k) e'
 kept_certain id read given n k b e f p e' same doubt role = record {
   doubt = doubt;
   kept = record {
@@ -198,7 +198,7 @@ lost_at id n k (x ∷ []) e c a P sure which due false z holds =
     subst (λ r. LawfulRunTo id e (act.KeepLost r ∷ []) P) (sym is) (many_lost id n k (x ∷ []) e c a P sure which false z (λ e' end role doubt closed. holds e' end role (doubt ∙ ap Some (sym is)) closed))
 lost_at id n k (x ∷ y ∷ es) e c a P sure which due t z holds = many_lost id n k (x ∷ y ∷ es) e c a P sure which t z holds
 
-lost_leads : (id : Identity) (read given : List ℕ) (n k : ℕ) (b to : Sender) (e : EndState) → to.numbers ≡ b.numbers → Fits id read given n b e → (k ≡ 0) ⊎ (k ≡ n) → is_due b k ≡ true → LawfulRunTo id e (act.KeepLost (record_of b.stage.entries k) ∷ []) (IsInDoubt to)
+pub lost_leads : (id : Identity) (read given : List ℕ) (n k : ℕ) (b to : Sender) (e : EndState) → to.numbers ≡ b.numbers → Fits id read given n b e → (k ≡ 0) ⊎ (k ≡ n) → is_due b k ≡ true → LawfulRunTo id e (act.KeepLost (record_of b.stage.entries k) ∷ []) (IsInDoubt to)
 lost_leads id read given n k b to e same f which due =
     lost_at id n k b.stage.entries e f.on.connection f.ahead (IsInDoubt to) f.certain.doubt which due (k == 0) refl
     (λ e' end role doubt closed. in_doubt n k b to e e' same f.expected which f.certain.kept end role doubt closed)

@@ -12,7 +12,7 @@ use Rattle.std.specs.Prelude.{⊤}
 use Rattle.fix_base.specs.Trace.{ActStores, Stores, Note, acts_of}
 use Rattle.fix_base.proofs.SeenLemmas.{acts_of-append}
 use Rattle.fix_base.proofs.RunLemmas.{EndRun-append}
-use Rattle.fix_stage.specs.Combine.{Each, none, ends, goes, AndThen, first_ends, both}
+use Rattle.fix_stage.specs.Combine.{Each, none, ends, goes, AndThen, first_ends, both, Lifted, goes_well, fails}
 use Rattle.fix_stage.specs.Lawful.{IsStoredOrInDoubt, LawfulRunTo, After, LeadsFrom}
 
 -- where no record is in doubt a store holds the end
@@ -134,3 +134,10 @@ module _ {S E : Type 0} (id : Identity) (Failed : E → S → EndState → Type 
     pub each_leads : (P : S → EndState → Type 0) → HasNoDoubt P → ((x : X) → LeadsFrom id Failed P (λ s. R s x) P) → (xs : List X) → LeadsFrom id Failed P (λ s. Each R s xs) P
     each_leads P certain one [] s notes r to d e h = none_leads P s notes r to d e h
     each_leads P certain one (x ∷ xs) s notes r to d e h = first_leads P P P x xs certain (one x) (each_leads P certain one xs) s notes r to d e h
+
+-- the doing of a part of a value, where what holds of the part holds of the whole
+pub lifted_leads : {S T E F : Type 0} (id : Identity) (get : T → S) (put : T → S → T) (fault : E → F) (Failed : E → S → EndState → Type 0) (Failed' : F → T → EndState → Type 0) (P Q : S → EndState → Type 0) (P' Q' : T → EndState → Type 0) (R : S → List Note → Result ⊤ E → S → Type 0) → ((t : T) (e : EndState) → P' t e → P (get t) e) → ((t : T) (s : S) (from e : EndState) → P' t from → Q s e → Q' (put t s) e) → ((f : E) (t : T) (s : S) (from e : EndState) → P' t from → Failed f s e → Failed' (fault f) (put t s) e) → LeadsFrom id Failed P R Q → LeadsFrom id Failed' P' (Lifted get put fault R) Q'
+lifted_leads id get put fault Failed Failed' P Q P' Q' R out back failed one t notes r to (goes_well {s = s} d) e h =
+    leads_weaker id e (acts_of notes) (Q s) (Q' (put t s)) (λ e' q. back t s e e' h q) (one (get t) notes (Ok tt) s d e (out t e h))
+lifted_leads id get put fault Failed Failed' P Q P' Q' R out back failed one t notes r to (fails {s = s} {e = f} d) e h =
+    leads_weaker id e (acts_of notes) (Failed f s) (Failed' (fault f) (put t s)) (λ e' q. failed f t s e e' h q) (one (get t) notes (Err f) s d e (out t e h))

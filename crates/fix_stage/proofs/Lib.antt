@@ -8,4 +8,7 @@ pub mod LeadsLemmas
 pub mod PlainLemmas
 pub mod ChainLemmas
 pub mod KeepLeads
+pub mod WriteLeads
+pub mod FlushLeads
+pub mod StagingLeads
 pub mod Carrying
