@@ -1,38 +1,16 @@
 -- Chains of entries: what is owed while something is staged.
-use Rattle.std.proofs.Common.{◌≡◌, ◌≢◌, ◌⊎◌, inl, inr, ℕ, zero, suc, ◌+◌, ◌<◌, ◌≤◌, ◌==◌, ◌&&◌, not, if◌then◌else◌, List, [], ◌∷◌, ◌++◌}
-use Rattle.std.proofs.Common.{length, length-append, take, drop, Bool, true, false, Option, Some, None, Result, Ok, Err, refl, sym, ◌∙◌}
-use Rattle.std.proofs.Common.{ap, subst, append_assoc, arith}
-use Rattle.std.specs.Prelude.{⊤}
-use Rattle.std.proofs.lemmas.List.{append-nil, take-append-drop}
-use Rattle.std.proofs.lemmas.Bool.{eqb-true, eqb-false}
-use Rattle.fix_base.specs.Lists.{Among, IsPrefixOf}
+use Rattle.std.proofs.Common.{◌≡◌, ℕ, ◌<◌, ◌≤◌, List, [], ◌∷◌}
+use Rattle.std.proofs.Common.{length, None, refl, sym, ◌∙◌}
+use Rattle.std.proofs.Common.{subst, arith}
 use Rattle.fix_base.specs.declared.identity.Identity.{Identity}
 use Rattle.fix_base.specs.declared.entry.Entry.{Entry}
-use Rattle.fix_base.specs.declared.entry.Record.{Record}
-use Rattle.fix_base.specs.declared.entry.Record.TheVariants.{Push, Expect, Many}
-use Rattle.fix_base.specs.declared.act.Act.{Act}
+use Rattle.fix_base.specs.declared.entry.Record.TheVariants.{Push, Expect}
 use Rattle.fix_base.specs.declared.act.Act.TheVariants as act
-use Rattle.fix_base.specs.End.{End, folded, expecting, IsEntry, GrowsTo}
-use Rattle.fix_base.specs.Wrote as wrote
-use Rattle.fix_base.specs.Wrote.{Wrote, WroteWhole}
+use Rattle.fix_base.specs.End.{folded}
 use Rattle.fix_base.specs.EndStep as steps
 use Rattle.fix_base.specs.EndStep.{Acceptor, Connection, EndState, Pushed, Chain, Move, Row, EndStep, EndRun, LogonRule}
-use Rattle.fix_base.specs.Trace.{Note, Did, acts_of}
-use Rattle.fix_base.proofs.ListLemmas.{prefix_refl, prefix_under}
-use Rattle.fix_base.proofs.RunLemmas.{EndRun-append}
-use Rattle.fix_base.proofs.WholeLemmas.{many_grows, whole_grown, whole_more, whole_wrote, front_wrote}
-use Rattle.fix_base.proofs.FollowsLemmas.{linked}
-use Rattle.fix_stage.specs.Combine.{Each, none, ends, goes}
-use Rattle.fix_stage.specs.Stage.{no_stage}
-use Rattle.fix_stage.specs.Sender.{Sender, StageFault, numbers_kept, emptied}
-use Rattle.fix_stage.specs.declared.fault.StageFault.TheVariants as fault
-use Rattle.fix_stage.specs.Flush as flush
-use Rattle.fix_stage.specs.Flush.{record_of, is_due, Keeping, WroteOne, Flushed, sender_kept}
-use Rattle.fix_stage.specs.Lawful.{HasKept, IsCertain, IsInDoubt, IsPlainly, IsOn, IsPlainOriginal, AreOriginals, IsAhead}
-use Rattle.fix_stage.specs.Lawful.{Fits, Level, Bare, LawfulRunTo, After, AfterFault}
-use Rattle.fix_stage.proofs.SendingLemmas.{nothing_staged}
-use Rattle.fix_stage.proofs.LeadsLemmas.{leads_nowhere, leads_step, leads_lost, leads_after, leads_kept, leads_weaker}
-use Rattle.fix_stage.proofs.PlainLemmas.{plain_more, plain_rule, original_frame}
+use Rattle.fix_stage.specs.Sender.{Sender}
+use Rattle.fix_stage.specs.Lawful.{Fits, Level}
 
 -- ---- chains of entries
 
@@ -81,13 +59,13 @@ chain_expects k (steps.expects j more is) zeroed some at = absurd (omega (arith,
 chain_expects k (steps.push pushed chain) zeroed some at = steps.push pushed (chain_expects k chain zeroed some at)
 chain_expects k (steps.pass m chain) zeroed some at = steps.pass m (chain_expects k chain zeroed some at)
 
-record Plain (es : List Entry) (e : EndState) : Type 0 where
-  to : EndState
-  run : Chain e es 0 to
-  expected : to.expected ≡ e.expected
-  handled : to.handled ≡ e.handled
+pub record Plain (es : List Entry) (e : EndState) : Type 0 where
+  pub to : EndState
+  pub run : Chain e es 0 to
+  pub expected : to.expected ≡ e.expected
+  pub handled : to.handled ≡ e.handled
 
-plain : (es : List Entry) (e : EndState) → Plain es e
+pub plain : (es : List Entry) (e : EndState) → Plain es e
 plain [] e = record { to = e; run = steps.ends; expected = refl; handled = refl }
 plain (x ∷ es) e =
     let p = plain es (record e { end = folded e.end (Push x) }) in

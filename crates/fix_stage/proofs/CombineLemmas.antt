@@ -1,9 +1,8 @@
 -- What holds of parts holds of them put together: their faults have causes, they end, and they go on.
-use Rattle.std.proofs.Common.{◌≡◌, ◌≢◌, ℕ, ◌+◌, ◌<◌, ◌≤◌, List, [], ◌∷◌, ◌++◌, Result, Ok, Err, refl, sym, ap, subst, append_assoc, arith}
+use Rattle.std.proofs.Common.{◌≡◌, ◌≢◌, List, [], ◌∷◌, ◌++◌, Result, Ok, Err, refl, sym, ap, subst, append_assoc, arith}
 use Rattle.std.specs.Prelude.{⊤}
 use Rattle.std.specs.List.{AllByRecursion}
 use Rattle.fix_base.specs.Trace.{Note, Did, Failed, Asked, StorePart, LinkPart, AppPart, Faults, Counts, NoneRose}
-use Rattle.fix_base.specs.Trace.{store_failures, link_failures, app_failures}
 use Rattle.fix_base.proofs.SeenLemmas.{store_failures-append, link_failures-append, app_failures-append}
 use Rattle.fix_stage.specs.Combine.{Each, none, ends, goes, AndThen, first_ends, both, Lifted, goes_well, fails}
 use Rattle.fix_stage.specs.Causes.{Blame, NoPart, TheStore, TheLink, TheApp, HasFailed, HasRisen, Blames, Blaming}

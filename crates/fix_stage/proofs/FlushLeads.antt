@@ -1,32 +1,26 @@
 -- A flush is a run of a lawful end.
-use Rattle.std.proofs.Common.{◌≡◌, ◌⊎◌, inl, inr, ℕ, ◌+◌, ◌<◌, ◌≤◌, ◌==◌, ◌&&◌, not, if◌then◌else◌, List, [], ◌∷◌, ◌++◌, length}
-use Rattle.std.proofs.Common.{Bool, true, false, Some, None, Result, Ok, Err, refl, sym, ◌∙◌, ap, subst, arith}
+use Rattle.std.proofs.Common.{◌≡◌, ◌⊎◌, ℕ, ◌≤◌, List, [], ◌++◌, length}
+use Rattle.std.proofs.Common.{Some, Result, Ok, Err, refl, sym, ◌∙◌, ap, subst, arith}
 use Rattle.std.specs.Prelude.{⊤}
 use Rattle.std.proofs.lemmas.List.{append-nil}
 use Rattle.fix_base.specs.declared.identity.Identity.{Identity}
-use Rattle.fix_base.specs.declared.entry.Entry.{Entry}
-use Rattle.fix_base.specs.declared.entry.Record.TheVariants.{Expect}
-use Rattle.fix_base.specs.declared.act.Act.TheVariants as act
-use Rattle.fix_base.specs.End.{End, folded, GrowsTo}
+use Rattle.fix_base.specs.End.{End, GrowsTo}
 use Rattle.fix_base.specs.Wrote.{WroteWhole}
-use Rattle.fix_base.specs.EndStep as steps
-use Rattle.fix_base.specs.EndStep.{Acceptor, EndState}
+use Rattle.fix_base.specs.EndStep.{EndState}
 use Rattle.fix_base.specs.Trace.{Note, acts_of}
 use Rattle.fix_base.proofs.WholeLemmas.{many_grows, whole_grown}
 use Rattle.fix_base.proofs.FollowsLemmas.{linked}
-use Rattle.fix_stage.specs.Combine as combine
-use Rattle.fix_stage.specs.Combine.{Each}
 use Rattle.fix_stage.specs.Stage.{no_stage}
-use Rattle.fix_stage.specs.Sender.{Sender, StageFault, numbers_kept, emptied}
+use Rattle.fix_stage.specs.Sender.{Sender, StageFault, emptied}
 use Rattle.fix_stage.specs.declared.fault.StageFault.TheVariants as fault
 use Rattle.fix_stage.specs.Flush as flush
 use Rattle.fix_stage.specs.Flush.{record_of, is_due, WroteOne, Flushed, sender_kept}
-use Rattle.fix_stage.specs.Lawful.{HasKept, IsCertain, IsInDoubt, IsOn, AreOriginals, IsAhead, Fits, Level, Bare, LawfulRunTo, After, AfterFault}
+use Rattle.fix_stage.specs.Lawful.{IsCertain, IsOn, AreOriginals, Fits, Level, LawfulRunTo, After, AfterFault}
 use Rattle.fix_stage.proofs.SendingLemmas.{nothing_staged}
-use Rattle.fix_stage.proofs.LeadsLemmas.{leads_nowhere, leads_step, leads_lost, leads_after, leads_kept, leads_weaker}
+use Rattle.fix_stage.proofs.LeadsLemmas.{leads_nowhere, leads_after, leads_kept, leads_weaker}
 use Rattle.fix_stage.proofs.ChainLemmas.{moves_run}
-use Rattle.fix_stage.proofs.KeepLeads.{KeptEnd, kept_end, kept_certain, lost_leads, many_out, none_due}
-use Rattle.fix_stage.proofs.WriteLeads.{Same, StillOpen, IsWriteFault, AfterWrite, Writes, write_leads}
+use Rattle.fix_stage.proofs.KeepLeads.{KeptEnd, kept_end, kept_certain, lost_leads, many_out}
+use Rattle.fix_stage.proofs.WriteLeads.{IsWriteFault, AfterWrite, Writes, write_leads}
 
 -- the end grew by the same role and connection, and is on it still
 on_grown : (id : Identity) (read given : List ℕ) (e to : EndState) (o : IsOn id read given e) → GrowsTo e.end to.end → to.connection ≡ Some o.connection → length e.end.out ≤ length to.end.out → IsOn id read given to
@@ -136,48 +130,3 @@ flushed_leads id read given n k b notes r to which (flush.kept_and_written {more
     leads_kept id e p.to (record_of b.stage.entries k) (acts_of more) (After (AfterFault id read given n) (Level id read given n) r to) p.run p.end
     (leads_weaker id p.to (acts_of more) (AfterWrite id r p.to f.on.connection) (After (AfterFault id read given n) (Level id read given n) r to) (written_after id read given n k b e f p r)
     (write_leads id b.stage.entries e.end.out b.stage.frames f.on.connection f.on.last p.to more r tt are written w))
-
--- ---- off the connection
-
--- the end after a fault of a session that sends no more
-abbrev pub AfterBare : StageFault → Sender → EndState → Type 0
-AfterBare fault.NumbersSpent b e = ⊥
-AfterBare fault.OutOfMemory b e = IsCertain b.numbers e
-AfterBare fault.StoreFault b e = IsInDoubt b e
-AfterBare fault.LinkFault b e = ⊥
-
-number_due : (k : ℕ) (t : Bool) → (k == 0) ≡ t → not (length {A = Entry} [] == 0 && k == 0) ≡ true → (k == 0) ≡ false
-number_due k true z due = absurd (none_due k z due)
-number_due k false z due = z
-
--- with nothing staged it keeps the expected number alone
-pub bare_flushed : (id : Identity) (k : ℕ) (b : Sender) (notes : List Note) (r : Result ⊤ StageFault) (to : Sender) → (k ≡ 0) ⊎ (k ≡ b.numbers.expected) → Flushed k b notes r to → (e : EndState) → Bare b e → LawfulRunTo id e (acts_of notes) (After AfterBare Bare r to)
-bare_flushed id k b notes r to which (flush.nothing_due due) e f =
-    leads_nowhere id e (Bare (emptied b)) (record { certain = f.certain; here = f.here; empty = refl })
-bare_flushed id k b notes r to which (flush.not_kept due flush.keep_memory) e f = leads_nowhere id e (IsCertain to.numbers) f.certain
-bare_flushed id k b notes r to which (flush.not_kept due flush.keep_lost) e f =
-    let nothing : b.stage.entries ≡ [] = ap (λ t. t.entries) f.empty in
-    let some : (k == 0) ≡ false = number_due k (k == 0) refl (subst (λ es. not (length es == 0 && k == 0) ≡ true) nothing due) in
-    let is : k ≡ e.expected = elim which as (λ _. k ≡ e.expected) [ inl zeroed ↦ (let z : (0 == 0) ≡ false = subst (λ j. (j == 0) ≡ false) zeroed some in cc) | inr same ↦ same ∙ sym f.here ] in
-    let left : EndState = record e { doubt = Some (Expect k); connection = None } in
-    subst (λ es. LawfulRunTo id e (act.KeepLost (record_of es k) ∷ []) (IsInDoubt to)) (sym nothing)
-    (leads_lost id e left (Expect k) (IsInDoubt to) (record { certain = f.certain.doubt; row = steps.lost_expect k is }) refl refl
-    (record { kept = record { stored = f.certain.kept.stored; out = f.certain.kept.out; role = f.certain.kept.role }; entries = []; expect = k; due = inr (is ∙ f.here); doubt = refl; closed = refl }))
-bare_flushed id k b notes r to which (flush.kept_and_written {more = more} due flush.kept w) e f =
-    let nothing : b.stage.entries ≡ [] = ap (λ t. t.entries) f.empty in
-    let some : (k == 0) ≡ false = number_due k (k == 0) refl (subst (λ es. not (length es == 0 && k == 0) ≡ true) nothing due) in
-    let is : k ≡ e.expected = elim which as (λ _. k ≡ e.expected) [ inl zeroed ↦ (let z : (0 == 0) ≡ false = subst (λ j. (j == 0) ≡ false) zeroed some in cc) | inr same ↦ same ∙ sym f.here ] in
-    let e' : EndState = record e { end = folded e.end (Expect k) } in
-    let frames : Each WroteOne tt [] more r tt = subst (λ fs. Each WroteOne tt fs more r tt) (ap (λ t. t.frames) f.empty) w in
-    let few : length b.stage.entries ≡ 0 = ap length nothing in
-    let bare : Bare to e' = record {
-      certain = record { doubt = f.certain.doubt; kept = record { stored = rw some refl; out = omega (arith, f.certain.kept.out, few); role = f.certain.kept.role } };
-      here = f.here;
-      empty = refl;
-    } in
-    subst (λ es. LawfulRunTo id e (act.Kept (record_of es k) ∷ acts_of more) (After AfterBare Bare r to)) (sym nothing)
-    (leads_kept id e e' (Expect k) (acts_of more) (After AfterBare Bare r to) (steps.step (record { certain = f.certain.doubt; row = steps.kept_expect k is }) steps.stop) refl
-    (no_writes e' more r bare frames))
-  where
-    no_writes : (e : EndState) (more : List Note) (r : Result ⊤ StageFault) → Bare to e → Each WroteOne tt [] more r tt → LawfulRunTo id e (acts_of more) (After AfterBare Bare r to)
-    no_writes e more r h combine.none = leads_nowhere id e (Bare to) h

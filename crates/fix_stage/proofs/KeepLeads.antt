@@ -1,38 +1,22 @@
 -- A record that is kept or lost is a step of a lawful end.
 use Rattle.std.proofs.Common.{◌≡◌, ◌≢◌, ◌⊎◌, inl, inr, ℕ, zero, suc, ◌+◌, ◌<◌, ◌≤◌, ◌==◌, ◌&&◌, not, if◌then◌else◌, List, [], ◌∷◌, ◌++◌}
-use Rattle.std.proofs.Common.{length, length-append, take, drop, Bool, true, false, Option, Some, None, Result, Ok, Err, refl, sym, ◌∙◌}
-use Rattle.std.proofs.Common.{ap, subst, append_assoc, arith}
-use Rattle.std.specs.Prelude.{⊤}
-use Rattle.std.proofs.lemmas.List.{append-nil, take-append-drop}
+use Rattle.std.proofs.Common.{length, length-append, drop, Bool, true, false, Some, None, refl, sym, ◌∙◌}
+use Rattle.std.proofs.Common.{ap, subst, arith}
+use Rattle.std.proofs.lemmas.List.{append-nil}
 use Rattle.std.proofs.lemmas.Bool.{eqb-true, eqb-false}
-use Rattle.fix_base.specs.Lists.{Among, IsPrefixOf}
 use Rattle.fix_base.specs.declared.identity.Identity.{Identity}
 use Rattle.fix_base.specs.declared.entry.Entry.{Entry}
-use Rattle.fix_base.specs.declared.entry.Record.{Record}
 use Rattle.fix_base.specs.declared.entry.Record.TheVariants.{Push, Expect, Many}
-use Rattle.fix_base.specs.declared.act.Act.{Act}
 use Rattle.fix_base.specs.declared.act.Act.TheVariants as act
-use Rattle.fix_base.specs.End.{End, folded, expecting, IsEntry, GrowsTo}
-use Rattle.fix_base.specs.Wrote as wrote
-use Rattle.fix_base.specs.Wrote.{Wrote, WroteWhole}
+use Rattle.fix_base.specs.End.{End, folded}
 use Rattle.fix_base.specs.EndStep as steps
 use Rattle.fix_base.specs.EndStep.{Acceptor, Connection, EndState, Pushed, Chain, Move, Row, EndStep, EndRun, LogonRule}
-use Rattle.fix_base.specs.Trace.{Note, Did, acts_of}
-use Rattle.fix_base.proofs.ListLemmas.{prefix_refl, prefix_under}
-use Rattle.fix_base.proofs.RunLemmas.{EndRun-append}
-use Rattle.fix_base.proofs.WholeLemmas.{many_grows, whole_grown, whole_more, whole_wrote, front_wrote}
 use Rattle.fix_base.proofs.FollowsLemmas.{linked}
-use Rattle.fix_stage.specs.Combine.{Each, none, ends, goes}
-use Rattle.fix_stage.specs.Stage.{no_stage}
-use Rattle.fix_stage.specs.Sender.{Numbers, Sender, StageFault, numbers_kept, emptied}
-use Rattle.fix_stage.specs.declared.fault.StageFault.TheVariants as fault
-use Rattle.fix_stage.specs.Flush as flush
-use Rattle.fix_stage.specs.Flush.{record_of, is_due, Keeping, WroteOne, Flushed, sender_kept}
-use Rattle.fix_stage.specs.Lawful.{HasKept, IsCertain, IsInDoubt, IsPlainly, IsOn, IsPlainOriginal, AreOriginals, IsAhead}
-use Rattle.fix_stage.specs.Lawful.{Fits, Level, Bare, LawfulRunTo, After, AfterFault}
-use Rattle.fix_stage.proofs.SendingLemmas.{nothing_staged}
-use Rattle.fix_stage.proofs.LeadsLemmas.{leads_nowhere, leads_step, leads_lost, leads_after, leads_kept, leads_weaker}
-use Rattle.fix_stage.proofs.PlainLemmas.{plain_more, plain_rule, original_frame}
+use Rattle.fix_stage.specs.Sender.{Numbers, Sender, numbers_kept}
+use Rattle.fix_stage.specs.Flush.{record_of, is_due}
+use Rattle.fix_stage.specs.Lawful.{HasKept, IsCertain, IsInDoubt, IsAhead}
+use Rattle.fix_stage.specs.Lawful.{Fits, LawfulRunTo}
+use Rattle.fix_stage.proofs.LeadsLemmas.{leads_lost, leads_after}
 use Rattle.fix_stage.proofs.ChainLemmas.{moves_run, push_run, expect_run, chain_expects}
 
 -- ---- nothing due, a number that isn't 0
@@ -59,7 +43,7 @@ pub record KeptEnd (id : Identity) (n k : ℕ) (b : Sender) (e : EndState) (c : 
   pub base : c.base ≤ length to.handled
 
 -- a record of these, and several entries with the number, leave the same end
-record_same : (e : End) (es : List Entry) (k : ℕ) (t : Bool) → (k == 0) ≡ t → not (length es == 0 && k == 0) ≡ true → folded e (Many es k) ≡ folded e (record_of es k)
+pub record_same : (e : End) (es : List Entry) (k : ℕ) (t : Bool) → (k == 0) ≡ t → not (length es == 0 && k == 0) ≡ true → folded e (Many es k) ≡ folded e (record_of es k)
 record_same e [] k true z due = absurd (none_due k z due)
 record_same e [] k false z due = rw z (ap (λ out. record e { out = out; stored = k }) (append-nil e.out))
 record_same e (x ∷ []) k true z due = rw z refl
@@ -67,11 +51,11 @@ record_same e (x ∷ []) k false z due = ap (folded e) (let many : record_of (x 
 record_same e (x ∷ y ∷ es) k t z due = refl
 
 -- the chain of what is staged, with the number
-abbrev chain_of : (k : ℕ) (s s' : EndState) → Bool → EndState
+abbrev pub chain_of : (k : ℕ) (s s' : EndState) → Bool → EndState
 chain_of k s s' true = s'
 chain_of k s s' false = record s' { end = folded s'.end (Expect k) }
 
-numbered : (n k : ℕ) (es : List Entry) (e : EndState) (c : Connection) (a : IsAhead n es e c) → (k ≡ 0) ⊎ (k ≡ n) → (t : Bool) → (k == 0) ≡ t → Chain e es k (chain_of k e a.to t)
+pub numbered : (n k : ℕ) (es : List Entry) (e : EndState) (c : Connection) (a : IsAhead n es e c) → (k ≡ 0) ⊎ (k ≡ n) → (t : Bool) → (k == 0) ≡ t → Chain e es k (chain_of k e a.to t)
 numbered n k es e c a which true z = subst (λ j. Chain e es j a.to) (sym (eqb-true k 0 z)) a.run
 numbered n k es e c a which false z =
     let some : k ≢ 0 = eqb-false k 0 z in
@@ -79,7 +63,7 @@ numbered n k es e c a which false z =
     chain_expects k a.run refl (positive k z) (is ∙ sym a.expected)
 
 -- with the same chain the number that is expected, and what was handled
-chain_expected : (k : ℕ) (s s' : EndState) (t : Bool) → (chain_of k s s' t).expected ≡ s'.expected
+pub chain_expected : (k : ℕ) (s s' : EndState) (t : Bool) → (chain_of k s s' t).expected ≡ s'.expected
 chain_expected k s s' true = refl
 chain_expected k s s' false = refl
 
@@ -92,7 +76,7 @@ chain_handled k s s' false = refl
 many_run : (id : Identity) (es : List Entry) (k : ℕ) (e to : EndState) → e.doubt ≡ None → Chain e es k to → EndRun id e (act.Kept (Many es k) ∷ []) to
 many_run id es k e to sure chain = steps.step (record { certain = sure; row = steps.kept_many es k chain }) steps.stop
 
-kept_run : (id : Identity) (es : List Entry) (k : ℕ) (e to : EndState) (t : Bool) → (k == 0) ≡ t → not (length es == 0 && k == 0) ≡ true → e.doubt ≡ None → Chain e es k to → EndRun id e (act.Kept (record_of es k) ∷ []) to
+pub kept_run : (id : Identity) (es : List Entry) (k : ℕ) (e to : EndState) (t : Bool) → (k == 0) ≡ t → not (length es == 0 && k == 0) ≡ true → e.doubt ≡ None → Chain e es k to → EndRun id e (act.Kept (record_of es k) ∷ []) to
 kept_run id [] k e to true z due sure chain = absurd (none_due k z due)
 kept_run id [] k e to false z due sure chain = expect_run id sure chain refl (positive k z)
 kept_run id (x ∷ []) k e to true z due sure chain = rw z (push_run id x sure chain refl (eqb-true k 0 z))
@@ -122,7 +106,7 @@ pub kept_end : (id : Identity) (read given : List ℕ) (n k : ℕ) (b : Sender) 
 kept_end id read given n k b e f which due = kept_at id read given n k b e f which due (k == 0) refl
 
 -- what several entries with a number leave
-many_stored : (e : End) (es : List Entry) (k stored : ℕ) → e.stored ≡ stored → (folded e (Many es k)).stored ≡ (if k == 0 then stored else k)
+pub many_stored : (e : End) (es : List Entry) (k stored : ℕ) → e.stored ≡ stored → (folded e (Many es k)).stored ≡ (if k == 0 then stored else k)
 many_stored e es k stored h = by (k == 0)
   where
     by : (t : Bool) → (if t then record e { out = e.out ++ es } else record e { out = e.out ++ es; stored = k }).stored ≡ (if t then stored else k)
@@ -150,7 +134,7 @@ kept_certain id read given n k b e f p e' same doubt role = record {
 
 -- ---- a record is lost
 
-in_doubt : (n k : ℕ) (b to : Sender) (e e' : EndState) → to.numbers ≡ b.numbers → b.numbers.expected ≡ n → (k ≡ 0) ⊎ (k ≡ n) → HasKept b.numbers e → e'.end ≡ e.end → e'.role ≡ e.role → e'.doubt ≡ Some (record_of b.stage.entries k) → e'.connection ≡ None → IsInDoubt to e'
+pub in_doubt : (n k : ℕ) (b to : Sender) (e e' : EndState) → to.numbers ≡ b.numbers → b.numbers.expected ≡ n → (k ≡ 0) ⊎ (k ≡ n) → HasKept b.numbers e → e'.end ≡ e.end → e'.role ≡ e.role → e'.doubt ≡ Some (record_of b.stage.entries k) → e'.connection ≡ None → IsInDoubt to e'
 in_doubt n k b to e e' same expected which kept end role doubt closed = record {
   kept = record {
     stored = ap (λ (x : End). x.stored) end ∙ kept.stored ∙ sym (ap (λ (m : Numbers). m.stored_expected) same);
@@ -175,7 +159,7 @@ many_lost id n k es e c a P sure which t z holds =
     leads_lost id e left (Many es k) P (record { certain = sure; row = steps.lost_many es k chain }) refl refl (holds left refl refl refl refl)
 
 -- whichever record it is, it may be lost
-lost_at : (id : Identity) (n k : ℕ) (es : List Entry) (e : EndState) (c : Connection) (a : IsAhead n es e c) (P : EndState → Type 0) → e.doubt ≡ None → (k ≡ 0) ⊎ (k ≡ n) → not (length es == 0 && k == 0) ≡ true → (t : Bool) → (k == 0) ≡ t
+pub lost_at : (id : Identity) (n k : ℕ) (es : List Entry) (e : EndState) (c : Connection) (a : IsAhead n es e c) (P : EndState → Type 0) → e.doubt ≡ None → (k ≡ 0) ⊎ (k ≡ n) → not (length es == 0 && k == 0) ≡ true → (t : Bool) → (k == 0) ≡ t
     → ((e' : EndState) → e'.end ≡ e.end → e'.role ≡ e.role → e'.doubt ≡ Some (record_of es k) → e'.connection ≡ None → P e')
     → LawfulRunTo id e (act.KeepLost (record_of es k) ∷ []) P
 lost_at id n k [] e c a P sure which due true z holds = absurd (none_due k z due)

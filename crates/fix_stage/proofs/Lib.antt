@@ -10,5 +10,6 @@ pub mod ChainLemmas
 pub mod KeepLeads
 pub mod WriteLeads
 pub mod FlushLeads
+pub mod ApartLeads
 pub mod StagingLeads
 pub mod Carrying

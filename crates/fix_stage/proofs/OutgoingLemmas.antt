@@ -25,7 +25,6 @@ use Rattle.fix_fields.specs.Drafts.{body_with}
 use Rattle.fix_fields.specs.Drafted.{DraftText, IsDraft, draft_body}
 use Rattle.fix_fields.proofs.DraftLemmas.{fields_text-append}
 use Rattle.fix_fields.proofs.DraftBodies.{accepted_fields, entry_fields, draft_payload, kind_first}
-use Rattle.fix_fields.specs.Drafted as drafted
 use Rattle.fix_base.specs.Payload.{IsBodyOf}
 use Rattle.fix_frame.specs.Sealable.{message_text, IsBehindType, IsSealable}
 use Rattle.fix_stage.specs.Outgoing.{header_fields, IsHeaderText, Outgoing, draft_outgoing, IsOutgoing, IsFrameOf}

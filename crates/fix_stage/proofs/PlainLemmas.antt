@@ -1,7 +1,6 @@
 -- Frames that are no Logons with 141=Y: they ask for no reset.
-use Rattle.std.proofs.Common.{◌≡◌, inl, inr, ℕ, codes, List, [], ◌∷◌, ◌++◌, true, false, Option, Some, None, refl, sym, ap, ◌∙◌, subst, append_assoc}
+use Rattle.std.proofs.Common.{◌≡◌, inl, inr, ℕ, codes, List, [], ◌∷◌, ◌++◌, true, false, Some, None, refl, sym, ap, ◌∙◌, subst, append_assoc}
 use Rattle.std.proofs.lemmas.List.{append-nil}
-use Rattle.std.specs.List.{AllByRecursion}
 use Rattle.std.specs.Fmt.{decimal}
 use Rattle.fix_base.specs.Lists.{Among, here, IsPrefixOf}
 use Rattle.fix_base.specs.declared.identity.Identity.{Identity}
@@ -91,4 +90,3 @@ app_type (wrote.app is) = is.app.no_admin
 -- that of an application message asks for no reset
 pub app_free : (id : Identity) (n time : ℕ) (by : By) (body text : List ℕ) → IsOriginal id n (App time by body) text → IsResetLogon text → ⊥
 app_free id n time by body text h = sealed_free id (original_fields id (decimal n) h.at h.type h.rest) text (original_is id (decimal n) h.at h.type h.rest (carried h.carries)) h.sealed_so (λ type flag. no_logon h.type (app_type h.carries) type)
-

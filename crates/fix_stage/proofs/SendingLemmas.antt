@@ -1,34 +1,33 @@
 -- What holds of flushes and stagings: nothing is staged after a flush, a fault has its cause, each has an end, and goes
 -- on where it was out of memory.
-use Rattle.std.proofs.Common.{◌≡◌, ◌≢◌, ◌⊎◌, inl, inr, ℕ, suc, ◌+◌, ◌<◌, ◌≤◌, ◌==◌, ◌&&◌, not, if◌then◌else◌, List, [], ◌∷◌, ◌++◌}
-use Rattle.std.proofs.Common.{length, length-append, Bool, true, false, Option, Some, None, Result, Ok, Err, refl, sym, ◌∙◌, ap, subst, arith}
+use Rattle.std.proofs.Common.{◌≡◌, ◌≢◌, ◌⊎◌, inl, inr, ℕ, ◌<◌, ◌≤◌, ◌==◌, ◌&&◌, not, if◌then◌else◌, List, [], ◌∷◌, ◌++◌}
+use Rattle.std.proofs.Common.{length, Bool, true, false, Option, Some, None, Result, Ok, Err, refl, sym, ap, subst, arith}
 use Rattle.std.specs.Prelude.{⊤, IfSome}
 use Rattle.std.specs.List.{AllByRecursion}
-use Rattle.std.proofs.lemmas.Bool.{cases_lt, eqb-true, eqb-false, ne_eqb, and_parts, not-false}
+use Rattle.std.proofs.lemmas.Bool.{cases_lt, eqb-true, ne_eqb, and_parts, not-false}
 use Rattle.fix_base.specs.declared.identity.Identity.{Identity}
 use Rattle.fix_base.specs.declared.entry.Entry.{Entry}
 use Rattle.fix_base.specs.declared.act.Act.TheVariants as act
-use Rattle.fix_base.specs.Payload.{LAST_TIME, HasPayload}
 use Rattle.fix_base.specs.Says.{fields_text}
 use Rattle.fix_base.specs.Sealed.{sealed}
-use Rattle.fix_base.specs.Trace.{Note, Did, Failed, StorePart, LinkPart}
+use Rattle.fix_base.specs.Trace.{Note, Did, OutsideSeen, HasTrace}
 use Rattle.fix_base.specs.Wrote.{time_of_entry}
 use Rattle.fix_fields.specs.Drafted.{DraftText, IsDraft}
 use Rattle.fix_frame.specs.Sealable.{message_text}
-use Rattle.fix_stage.specs.Combine.{Each, none, ends, goes, AndThen, first_ends, both}
-use Rattle.fix_stage.specs.Stage.{no_stage, has_room, size_in_stage, with_entry}
-use Rattle.fix_stage.specs.Sender.{Numbers, Sender, PendingDraft, StageFault, next_number, emptied, due_number, numbers_kept, kept_draft, no_draft, staged_draft, with_pending}
+use Rattle.fix_stage.specs.Combine.{Each, AndThen}
+use Rattle.fix_stage.specs.Stage.{no_stage, has_room, size_in_stage}
+use Rattle.fix_stage.specs.Sender.{Numbers, Sender, PendingDraft, StageFault, next_number, emptied, due_number, kept_draft, no_draft, staged_draft, with_pending}
 use Rattle.fix_stage.specs.declared.fault.StageFault.TheVariants as fault
 use Rattle.fix_stage.specs.Flush as flush
-use Rattle.fix_stage.specs.Flush.{record_of, is_due, Keeping, WroteOne, Flushed, Settled, sender_kept}
+use Rattle.fix_stage.specs.Flush.{record_of, is_due, Keeping, WroteOne, Flushed, Settled, IsSettled, sender_kept}
 use Rattle.fix_stage.specs.Outgoing as outgoings
 use Rattle.fix_stage.specs.Outgoing.{header_fields, Outgoing, draft_outgoing, IsOutgoing, IsFrameOf, IsStagedFrame}
 use Rattle.fix_stage.specs.Staging as staging
 use Rattle.fix_stage.specs.Staging.{Numbered, Roomy, Put, Staging, with_staged, MakesAndStages, StagesPending}
-use Rattle.fix_stage.specs.Causes.{Blaming, blame_of}
-use Rattle.fix_stage.specs.Stated.{Onward, CanNotFail, Total, Resumes, Stays, IsTimely}
-use Rattle.fix_stage.proofs.CombineLemmas.{Each-blames, Then-blames, Blames-after, went_well, onward_as}
-use Rattle.fix_stage.proofs.CombineLemmas.{each_total, each_stays, each_resumes, then_total, then_stays, then_resumes}
+use Rattle.fix_stage.specs.Causes.{Blaming, HasCause, blame_of}
+use Rattle.fix_stage.specs.Stated.{Onward, Total, Resumes, Stays, IsTimely}
+use Rattle.fix_stage.proofs.CombineLemmas.{Each-blames, Then-blames, Blames-after, has_risen, went_well, onward_as}
+use Rattle.fix_stage.proofs.CombineLemmas.{each_total, each_resumes, then_total, then_stays, then_resumes}
 use Rattle.fix_stage.proofs.EachTime.{each_time}
 use Rattle.fix_stage.proofs.OutgoingLemmas.{draft_is_outgoing, payload_time}
 
@@ -120,6 +119,11 @@ StagesPending-blames id b notes r to (staging.empty h) = tt
 StagesPending-blames id b notes r to (staging.not_staged {e = e} d h k) = MakesAndStages-blames id _ b notes (Err e) to k
 StagesPending-blames id b notes r to (staging.draft_memory d h) = tt
 StagesPending-blames id b notes r to (staging.draft_staged d h k) = tt
+
+-- what came of calls has its cause
+pub caused : {S : Type 0} (R : S → List Note → Result ⊤ StageFault → S → Type 0) → Blaming blame_of R → (s to : S) (r : Result ⊤ StageFault) (old new : OutsideSeen) → HasTrace old new (λ notes. R s notes r to) → HasCause r old.faults new.faults
+caused R blames s to (Ok x) old new g = tt
+caused R blames s to (Err e) old new g = has_risen (blame_of e) old.faults new.faults g.0 g.1.faults (blames s g.0 (Err e) to g.2)
 
 -- ---- it stays timely
 
@@ -424,3 +428,10 @@ Settled-kept b notes r to one which (flush.not_kept h flush.keep_memory) =
     absurd (elim which [ inl e ↦ (let w = e in cc) | inr e ↦ (let w = e in cc) ])
 Settled-kept b notes r to one which (flush.kept_and_written h flush.kept w) =
     now_kept b.numbers (b.numbers.stored_expected == b.numbers.expected) (b.numbers.expected == 0) refl refl one
+
+pub Settled-so : (b : Sender) (notes : List Note) (r : Result ⊤ StageFault) (to : Sender) → 1 ≤ b.numbers.expected → Settled b notes r to → IsSettled r to
+Settled-so b notes (Ok x) to one d = Settled-kept b notes (Ok tt) to one (inl refl) d
+Settled-so b notes (Err fault.NumbersSpent) to one d = tt
+Settled-so b notes (Err fault.OutOfMemory) to one d = tt
+Settled-so b notes (Err fault.StoreFault) to one d = tt
+Settled-so b notes (Err fault.LinkFault) to one d = Settled-kept b notes (Err fault.LinkFault) to one (inr refl) d

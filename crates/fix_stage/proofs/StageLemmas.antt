@@ -1,6 +1,6 @@
 -- How large what is staged is, and that all of it may be kept as one record.
-use Rattle.std.proofs.Common.{◌≡◌, ◌≤◌, ◌<◌, ◌+◌, ◌&&◌, ◌==◌, not, if◌then◌else◌, ℕ, List, [], ◌∷◌, ◌++◌, length, length-append}
-use Rattle.std.proofs.Common.{Bool, true, false, nat_lt, Option, refl, arith, ap, sym, ◌∙◌, subst}
+use Rattle.std.proofs.Common.{◌≡◌, ◌<◌, ◌+◌, ℕ, List, [], ◌∷◌, ◌++◌, length, length-append}
+use Rattle.std.proofs.Common.{true, nat_lt, Option, refl, arith}
 use Rattle.std.specs.List.{AllByRecursion}
 use Rattle.std.proofs.lemmas.Bool.{and_parts, ltb-true}
 use Rattle.fix_base.specs.declared.entry.Entry.{Entry}
@@ -25,10 +25,12 @@ one_more s size e frame h is payload room =
     let p = and_parts (nat_lt (length s.entries) 64) (nat_lt (staged_size s.entries + size_in_stage e) 1114113) room in
     let few : length s.entries < 64 = ltb-true _ _ p.0 in
     let fits : staged_size s.entries + size_in_stage e < 1114113 = ltb-true _ _ p.1 in
-    let grown : payloads_size (s.entries ++ e ∷ []) ≡ payloads_size s.entries + size_in_stage e = payloads_size-push s.entries e in
-    (record {
-      same = omega (arith, h.same, length-append s.entries (e ∷ []), length-append s.frames (frame ∷ []));
-      few = omega (arith, few, length-append s.entries (e ∷ []));
-      each = all-push HasPayload s.entries e h.each payload;
-      fits = omega (arith, fits, grown);
-    }, omega (arith, grown, is))
+    let grown : payloads_size (s.entries ++ e ∷ []) ≡ payloads_size s.entries + size_in_stage e = payloads_size-push s.entries e in (
+      record {
+        same = omega (arith, h.same, length-append s.entries (e ∷ []), length-append s.frames (frame ∷ []));
+        few = omega (arith, few, length-append s.entries (e ∷ []));
+        each = all-push HasPayload s.entries e h.each payload;
+        fits = omega (arith, fits, grown);
+      },
+      omega (arith, grown, is),
+    )

@@ -1,6 +1,6 @@
 -- Staging a message is a run of a lawful end: flushes, and nothing else.
-use Rattle.std.proofs.Common.{◌≡◌, ◌⊎◌, inl, inr, ℕ, ◌+◌, ◌<◌, ◌≤◌, List, [], ◌∷◌, ◌++◌, length, length-append, drop, Bool, true, false, ◌==◌, if◌then◌else◌}
-use Rattle.std.proofs.Common.{Option, Some, None, Result, Ok, Err, refl, sym, ◌∙◌, ap, subst, append_assoc, arith}
+use Rattle.std.proofs.Common.{◌≡◌, ◌⊎◌, inl, inr, ℕ, ◌+◌, ◌≤◌, List, [], ◌∷◌, ◌++◌, length, length-append, drop, Bool, true, false, ◌==◌, if◌then◌else◌}
+use Rattle.std.proofs.Common.{Option, Some, None, Result, Ok, Err, refl, sym, ◌∙◌, ap, subst, arith}
 use Rattle.std.specs.Prelude.{⊤}
 use Rattle.std.proofs.lemmas.List.{drop-append-le}
 use Rattle.fix_base.specs.Lists.{Among, here}
@@ -8,7 +8,7 @@ use Rattle.fix_base.specs.declared.identity.Identity.{Identity}
 use Rattle.fix_base.specs.Session.{IsValidIdentity}
 use Rattle.fix_base.specs.declared.entry.Entry.{Entry}
 use Rattle.fix_base.specs.declared.entry.Entry.TheVariants.{Admin}
-use Rattle.fix_base.specs.End.{End, folded, REJECT}
+use Rattle.fix_base.specs.End.{folded, REJECT}
 use Rattle.fix_base.specs.declared.entry.Record.TheVariants.{Push}
 use Rattle.fix_base.specs.EndStep as steps
 use Rattle.fix_base.specs.EndStep.{Acceptor, Handling, Connection, EndState, IsBlocked, Rejects, Pushed, Chain, Move, Grew, first_app}
@@ -20,20 +20,21 @@ use Rattle.fix_base.proofs.FollowsLemmas.{linked}
 use Rattle.fix_fields.specs.Drafted.{DraftText, draft_body}
 use Rattle.fix_base.specs.declared.entry.By.TheVariants.{Caller}
 use Rattle.fix_stage.specs.Combine.{AndThen}
-use Rattle.fix_stage.specs.Stage.{Staged, no_stage, size_in_stage, with_entry}
-use Rattle.fix_stage.specs.Sender.{Sender, StageFault, next_number, with_numbers, with_pending, staged_draft, with_expected, due_number}
+use Rattle.fix_stage.specs.Stage.{Staged, no_stage, size_in_stage}
+use Rattle.fix_stage.specs.Sender.{Sender, StageFault, next_number, with_numbers, with_expected, due_number}
 use Rattle.fix_stage.specs.declared.fault.StageFault.TheVariants as fault
 use Rattle.fix_stage.specs.Flush.{Flushed, Settled}
 use Rattle.fix_stage.specs.Outgoing as outgoings
 use Rattle.fix_stage.specs.Outgoing.{Outgoing, draft_outgoing, IsOutgoing, IsStagedFrame}
 use Rattle.fix_stage.specs.Staging as staging
 use Rattle.fix_stage.specs.Staging.{Numbered, Roomy, Put, Staging, with_staged, MakesAndStages, StagesPending}
-use Rattle.fix_stage.specs.Lawful.{HasKept, IsCertain, IsInDoubt, IsOn, IsPlainOriginal, AreOriginals, AsksNoReset, IsAhead}
-use Rattle.fix_stage.specs.Lawful.{Fits, Level, Bare, LawfulRunTo, After, AfterFault, LeadsFrom}
+use Rattle.fix_stage.specs.Lawful.{IsCertain, AreOriginals, AsksNoReset, IsAhead}
+use Rattle.fix_stage.specs.Lawful.{Fits, Level, Apart, AreUnwritten, Bare, After, AfterFault, AfterApart, LeadsFrom}
 use Rattle.fix_stage.proofs.SendingLemmas.{Flushed-empty, Flushed-number}
 use Rattle.fix_stage.proofs.LeadsLemmas.{leads_nowhere, leads_weaker, HasNoDoubt, then_leads}
 use Rattle.fix_stage.proofs.ChainLemmas.{level_fits}
-use Rattle.fix_stage.proofs.FlushLeads.{flushed_leads, AfterBare, bare_flushed}
+use Rattle.fix_stage.proofs.FlushLeads.{flushed_leads}
+use Rattle.fix_stage.proofs.ApartLeads.{apart_flushed}
 use Rattle.fix_stage.proofs.OutgoingLemmas.{frame_original}
 use Rattle.fix_stage.proofs.PlainLemmas.{app_free}
 
@@ -41,42 +42,31 @@ use Rattle.fix_stage.proofs.PlainLemmas.{app_free}
 abbrev Numbered_ : (Sender → EndState → Type 0) → Sender → EndState → Type 0
 Numbered_ P b e = P b e × (next_number b ≤ 999999999)
 
--- ---- the parts of a staging, from and to P, which is between being level and being in step
+-- ---- the parts of a staging, from and to P. After a flush it has Q0, which is enough for P
 
-module _ (id : Identity) (read given : List ℕ) (n : ℕ) (P : Sender → EndState → Type 0)
-    (up : (b : Sender) (e : EndState) → Level id read given n b e → P b e)
-    (down : (b : Sender) (e : EndState) → P b e → Fits id read given n b e) where
-  abbrev Failed : StageFault → Sender → EndState → Type 0
-  Failed = AfterFault id read given n
-
-  risen : (r : Result ⊤ StageFault) (to : Sender) (e : EndState) → After Failed (Level id read given n) r to e → After Failed P r to e
-  risen (Ok x) to e h = up to e h
-  risen (Err f) to e h = h
-
-  pub flush_leads : LeadsFrom id Failed P (Flushed 0) P
-  flush_leads b notes r to d e p =
-      leads_weaker id e (acts_of notes) (After Failed (Level id read given n) r to) (After Failed P r to) (λ e' h. risen r to e' h)
-      (flushed_leads id read given n 0 b notes r to (inl refl) d e (down b e p))
-
+module _ (id : Identity) (Failed : StageFault → Sender → EndState → Type 0) (P Q0 : Sender → EndState → Type 0)
+    (up : (b : Sender) (e : EndState) → Q0 b e → P b e) (certain : HasNoDoubt P)
+    (memory : (b : Sender) (e : EndState) → P b e → Failed fault.OutOfMemory b e)
+    (spent : (b : Sender) (e : EndState) → b.stage ≡ no_stage → Q0 b e → Failed fault.NumbersSpent b e)
+    (flushed : LeadsFrom id Failed P (Flushed 0) Q0) where
   -- with the number that was free before it
-  free_after : (b : Sender) (notes : List Note) (r : Result ⊤ StageFault) (to : Sender) → next_number b ≤ 999999999 → Flushed 0 b notes r to → (e : EndState) → After Failed P r to e → After Failed (Numbered_ P) r to e
-  free_after b notes (Ok x) to free d e h = (h, (let same = Flushed-number 0 b notes to d in omega (arith, same, free)))
+  free_after : (b : Sender) (notes : List Note) (r : Result ⊤ StageFault) (to : Sender) → next_number b ≤ 999999999 → Flushed 0 b notes r to → (e : EndState) → After Failed Q0 r to e → After Failed (Numbered_ P) r to e
+  free_after b notes (Ok x) to free d e h = (up to e h, (let same = Flushed-number 0 b notes to d in omega (arith, same, free)))
   free_after b notes (Err f) to free d e h = h
 
   numbered_leads : LeadsFrom id Failed P Numbered (Numbered_ P)
   numbered_leads b notes r to (staging.has_number h) e p = leads_nowhere id e (Numbered_ P b) (p, h)
   numbered_leads b notes r to (staging.spent h d) e p =
-      leads_weaker id e (acts_of notes) (Level id read given n to) (Failed fault.NumbersSpent to) (λ e' l. (l, Flushed-empty 0 b notes (Ok tt) to d))
-      (flushed_leads id read given n 0 b notes (Ok tt) to (inl refl) d e (down b e p))
-  numbered_leads b notes r to (staging.spent_fault {e = f} h d) e p = flush_leads b notes (Err f) to d e p
+      leads_weaker id e (acts_of notes) (Q0 to) (Failed fault.NumbersSpent to) (λ e' l. spent to e' (Flushed-empty 0 b notes (Ok tt) to d) l) (flushed b notes (Ok tt) to d e p)
+  numbered_leads b notes r to (staging.spent_fault {e = f} h d) e p = flushed b notes (Err f) to d e p
 
   roomy_leads : (size : ℕ) → LeadsFrom id Failed (Numbered_ P) (Roomy size) (Numbered_ P)
   roomy_leads size b notes r to (staging.fits h) e p = leads_nowhere id e (Numbered_ P b) p
   roomy_leads size b notes r to (staging.full h d) e p =
-      leads_weaker id e (acts_of notes) (After Failed P r to) (After Failed (Numbered_ P) r to) (λ e' h. free_after b notes r to p.1 d e' h) (flush_leads b notes r to d e p.0)
+      leads_weaker id e (acts_of notes) (After Failed Q0 r to) (After Failed (Numbered_ P) r to) (λ e' h. free_after b notes r to p.1 d e' h) (flushed b notes r to d e p.0)
 
   certain_numbered : HasNoDoubt (Numbered_ P)
-  certain_numbered b e h = (down b e h.0).certain.doubt
+  certain_numbered b e h = certain b e h.0
 
   -- a staging leads where its last part does
   pub staging_leads : (m : Outgoing) (Q : Sender → EndState → Type 0) → LeadsFrom id Failed (Numbered_ P) (Put id m) Q → LeadsFrom id Failed P (Staging id m) Q
@@ -86,7 +76,26 @@ module _ (id : Identity) (read given : List ℕ) (n : ℕ) (P : Sender → EndSt
 
   pub makes_leads : (m : Outgoing) (Q : Sender → EndState → Type 0) → LeadsFrom id Failed (Numbered_ P) (Put id m) Q → LeadsFrom id Failed P (MakesAndStages id m) Q
   makes_leads m Q one b notes r to (staging.made d) e p = staging_leads m Q one b notes r to d e p
-  makes_leads m Q one b notes r to staging.not_made e p = leads_nowhere id e (IsCertain to.numbers) (down b e p).certain
+  makes_leads m Q one b notes r to staging.not_made e p = leads_nowhere id e (Failed fault.OutOfMemory b) (memory b e p)
+
+-- the same on the session's connection, from and to what is between being level and being in step
+module _ (id : Identity) (read given : List ℕ) (n : ℕ) (P : Sender → EndState → Type 0)
+    (up : (b : Sender) (e : EndState) → Level id read given n b e → P b e)
+    (down : (b : Sender) (e : EndState) → P b e → Fits id read given n b e) where
+  down_flushed : LeadsFrom id (AfterFault id read given n) P (Flushed 0) (Level id read given n)
+  down_flushed b notes r to d e p = flushed_leads id read given n 0 b notes r to (inl refl) d e (down b e p)
+
+  pub staging_on : (m : Outgoing) (Q : Sender → EndState → Type 0) → LeadsFrom id (AfterFault id read given n) (Numbered_ P) (Put id m) Q → LeadsFrom id (AfterFault id read given n) P (Staging id m) Q
+  staging_on m Q one =
+      staging_leads id (AfterFault id read given n) P (Level id read given n) up (λ b e p. (down b e p).certain.doubt) (λ b e p. (down b e p).certain) (λ b e s l. (l, s)) down_flushed m Q one
+
+  pub makes_on : (m : Outgoing) (Q : Sender → EndState → Type 0) → LeadsFrom id (AfterFault id read given n) (Numbered_ P) (Put id m) Q → LeadsFrom id (AfterFault id read given n) P (MakesAndStages id m) Q
+  makes_on m Q one =
+      makes_leads id (AfterFault id read given n) P (Level id read given n) up (λ b e p. (down b e p).certain.doubt) (λ b e p. (down b e p).certain) (λ b e s l. (l, s)) down_flushed m Q one
+
+-- one that has a flush first
+pub flush_fits : (id : Identity) (read given : List ℕ) (n : ℕ) → LeadsFrom id (AfterFault id read given n) (Fits id read given n) (Flushed 0) (Level id read given n)
+flush_fits id read given n b notes r to d e f = flushed_leads id read given n 0 b notes r to (inl refl) d e f
 
 -- ---- one entry more
 
@@ -140,12 +149,12 @@ chain_move (steps.pass p chain) zeroed m = steps.pass p (chain_move chain zeroed
 
 -- the end ahead, with one entry more by this push
 abbrev pub put_ahead : (id : Identity) (read given : List ℕ) (n : ℕ) (m : Outgoing) (frame : Option (List ℕ)) (b : Sender) (e : EndState) (f : Fits id read given n b e) (s : EndState) → IsValidIdentity id → AsksNoReset id m → next_number b ≤ 999999999 → IsOutgoing m → IsStagedFrame id (next_number b) m frame → Pushed f.ahead.to m.entry s → s.expected ≡ n → f.on.connection.base ≤ length s.handled → Fits id read given n (with_staged b m frame) e
-put_ahead id read given n m frame b e f s valid free fits is framed one expected base = record {
+put_ahead id read given n m frame b e f s valid free fits is shown one expected base = record {
   certain = f.certain;
   on = f.on;
   ahead = record { to = s; run = chain_push m.entry f.ahead.run refl one; expected = expected; base = base };
   expected = f.expected;
-  frames = staged_originals id b m frame valid free fits is framed f.frames;
+  frames = staged_originals id b m frame valid free fits is shown f.frames;
 }
 
 -- a message is staged in the middle of a turn
@@ -167,12 +176,12 @@ level_self id read given n b e l = l
 -- an answer
 pub staged_fits : (id : Identity) (read given : List ℕ) (n : ℕ) (m : Outgoing) → IsValidIdentity id → (IsOutgoing m → AsksNoReset id m) → LeadsFrom id (AfterFault id read given n) (Fits id read given n) (Staging id m) (Fits id read given n)
 staged_fits id read given n m valid free =
-    staging_leads id read given n (Fits id read given n) (level_fits id read given n) (fits_self id read given n) m (Fits id read given n) (put_fits id read given n m valid free)
+    staging_on id read given n (Fits id read given n) (level_fits id read given n) (fits_self id read given n) m (Fits id read given n) (put_fits id read given n m valid free)
 
 -- one whose entry is made first
 pub made_level : (id : Identity) (read given : List ℕ) (n : ℕ) (m : Outgoing) → IsValidIdentity id → (IsOutgoing m → AsksNoReset id m) → LeadsFrom id (AfterFault id read given n) (Level id read given n) (MakesAndStages id m) (Level id read given n)
 made_level id read given n m valid free =
-    makes_leads id read given n (Level id read given n) (level_self id read given n) (level_fits id read given n) m (Level id read given n) (put_level id read given n m valid free)
+    makes_on id read given n (Level id read given n) (level_self id read given n) (level_fits id read given n) m (Level id read given n) (put_level id read given n m valid free)
 
 -- no frame of a draft asks for a reset
 pub draft_free : (id : Identity) (time : ℕ) (d : DraftText) (written : Bool) → IsValidIdentity id → IsOutgoing (draft_outgoing time d written) → AsksNoReset id (draft_outgoing time d written)
@@ -203,9 +212,33 @@ due_is b n h = by (b.numbers.stored_expected == b.numbers.expected)
 pub settled_leads : (id : Identity) (read given : List ℕ) (n : ℕ) → LeadsFrom id (AfterFault id read given n) (Fits id read given n) Settled (Level id read given n)
 settled_leads id read given n b notes r to d e f = flushed_leads id read given n (due_number b.numbers) b notes r to (due_is b n f.expected) d e f
 
--- and of one that sends no more
-pub settled_bare : (id : Identity) → LeadsFrom id AfterBare Bare Settled Bare
-settled_bare id b notes r to d e f = bare_flushed id (due_number b.numbers) b notes r to (due_is b b.numbers.expected refl) d e f
+-- and of one that writes no more
+pub settled_apart : (id : Identity) → LeadsFrom id AfterApart Apart Settled Bare
+settled_apart id b notes r to d e f = apart_flushed id (due_number b.numbers) b notes r to (due_is b b.numbers.expected refl) d e f
+
+-- ---- a session that writes nothing, as one with no connection
+
+pub flush_apart : (id : Identity) → LeadsFrom id AfterApart Apart (Flushed 0) Bare
+flush_apart id b notes r to d e f = apart_flushed id 0 b notes r to (inl refl) d e f
+
+pub bare_apart : (b : Sender) (e : EndState) → Bare b e → Apart b e
+bare_apart b e h = record { certain = h.certain; here = h.here; unwritten = subst (λ (s : Staged). AreUnwritten s.frames) (sym h.empty) tt }
+
+unwritten_push : (frames : List (Option (List ℕ))) → AreUnwritten frames → AreUnwritten (frames ++ None ∷ [])
+unwritten_push [] h = tt
+unwritten_push (None ∷ frames) h = unwritten_push frames h
+unwritten_push (Some text ∷ frames) h = absurd h
+
+put_apart : (id : Identity) (m : Outgoing) → m.written ≡ false → LeadsFrom id AfterApart (Numbered_ Apart) (Put id m) Apart
+put_apart id m kept_only b notes r to (staging.put frame is (outgoings.unwritten h)) e p =
+    leads_nowhere id e (Apart to) (record { certain = p.0.certain; here = p.0.here; unwritten = unwritten_push b.stage.frames p.0.unwritten })
+put_apart id m kept_only b notes r to (staging.put frame is (outgoings.framed text h f)) e p = absurd (let both : true ≡ false = sym h ∙ kept_only in cc)
+put_apart id m kept_only b notes r to staging.put_memory e p = leads_nowhere id e (IsCertain to.numbers) p.0.certain
+
+-- a message that isn't written
+pub made_apart : (id : Identity) (m : Outgoing) → m.written ≡ false → LeadsFrom id AfterApart Apart (MakesAndStages id m) Apart
+made_apart id m kept_only =
+    makes_leads id AfterApart Apart Bare bare_apart (λ b e p. p.certain.doubt) (λ b e p. p.certain) (λ b e s h. h) (flush_apart id) m Apart (put_apart id m kept_only)
 
 -- ---- counting
 
@@ -297,5 +330,5 @@ pub staged_reject : (id : Identity) (read given : List ℕ) (n time : ℕ) (h : 
     → ((e : EndState) → (f : Connection) → e.role ≡ Acceptor → e.connection ≡ Some f → f.read ≡ read → IsBlocked e → ⊥)
     → LeadsFrom id (AfterFault id read given n) (Fits id read given n) (Staging id m) (Rejected id read given n)
 staged_reject id read given n time h m entry valid free shown unblocked =
-    staging_leads id read given n (Fits id read given n) (level_fits id read given n) (fits_self id read given n) m (Rejected id read given n)
+    staging_on id read given n (Fits id read given n) (level_fits id read given n) (fits_self id read given n) m (Rejected id read given n)
     (put_reject id read given n time h m entry valid free shown unblocked)

@@ -1,5 +1,5 @@
 -- Which part a fault blames, and that the part failed.
-use Rattle.std.specs.Prelude.{ℕ, ◌<◌, List, Result, Ok, Err, ⊤}
+use Rattle.std.specs.Prelude.{◌<◌, List, Result, Ok, Err, ⊤}
 use Rattle.fix_base.specs.Trace.{Note, Faults, Rises, store_failures, link_failures, app_failures}
 use Rattle.fix_stage.specs.Sender.{StageFault, NumbersSpent, OutOfMemory, StoreFault, LinkFault}
 

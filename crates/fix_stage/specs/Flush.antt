@@ -10,7 +10,8 @@ use Rattle.fix_base.specs.Payload.{HasPayload, LONGEST_PAYLOAD}
 use Rattle.fix_base.specs.Trace.{Note, Did, Failed, StorePart, LinkPart}
 use Rattle.fix_stage.specs.Combine.{Each}
 use Rattle.fix_stage.specs.Stage.{staged_size, is_something}
-use Rattle.fix_stage.specs.Sender.{Sender, StageFault, OutOfMemory, StoreFault, LinkFault, with_pending, numbers_kept}
+use Rattle.fix_stage.specs.Sender.{Sender, StageFault, NumbersSpent, OutOfMemory, StoreFault, LinkFault}
+use Rattle.fix_stage.specs.Sender.{with_pending, numbers_kept}
 use Rattle.fix_stage.specs.Sender.{kept_draft, lost_draft, unstaged_draft, emptied, due_number}
 
 -- One entry alone with nothing to expect is kept as Push, nothing but the expected number as Expect, and all else
@@ -71,3 +72,11 @@ pub data Flushed (expect : ℕ) (b : Sender) : List Note → Result ⊤ StageFau
 -- at the end of a turn: the expected number is kept with what is staged, where it changed
 abbrev pub Settled : Sender → List Note → Result ⊤ StageFault → Sender → Type 0
 Settled b = Flushed (due_number b.numbers) b
+
+-- after it the expected number is the one that is kept, unless the record was not kept
+abbrev pub IsSettled : Result ⊤ StageFault → Sender → Type 0
+IsSettled (Ok x) b = b.numbers.stored_expected ≡ b.numbers.expected
+IsSettled (Err NumbersSpent) b = ⊤
+IsSettled (Err OutOfMemory) b = ⊤
+IsSettled (Err StoreFault) b = ⊤
+IsSettled (Err LinkFault) b = b.numbers.stored_expected ≡ b.numbers.expected

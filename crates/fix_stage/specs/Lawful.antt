@@ -1,5 +1,5 @@
 -- What a session sends is lawful: staging leaves an end as it is, and a flush is a run of it.
-use Rattle.std.specs.Prelude.{◌≡◌, ◌⊎◌, ℕ, ◌+◌, ◌<◌, ◌≤◌, List, [], ◌∷◌, ◌++◌, length, Option, Some, None, Result, Ok, Err, ⊤}
+use Rattle.std.specs.Prelude.{◌≡◌, ◌⊎◌, ℕ, ◌+◌, ◌≤◌, List, [], ◌∷◌, length, Option, Some, None, Result, Ok, Err, ⊤}
 use Rattle.fix_base.specs.Lists.{Among}
 use Rattle.fix_base.specs.declared.identity.Identity.{Identity}
 use Rattle.fix_base.specs.declared.entry.Entry.{Entry}
@@ -106,7 +106,19 @@ pub record Level (id : Identity) (read given : List ℕ) (n : ℕ) (b : Sender) 
   pub expected : b.numbers.expected ≡ n
   pub frames : AreOriginals id b.numbers.last b.stage.entries b.stage.frames
 
--- a session that sends no more on its connection: nothing is staged
+-- there are no frames
+abbrev pub AreUnwritten : List (Option (List ℕ)) → Type 0
+AreUnwritten [] = ⊤
+AreUnwritten (None ∷ frames) = AreUnwritten frames
+AreUnwritten (Some text ∷ frames) = ⊥
+
+-- a session that writes nothing, as one that has no connection: what is staged has no frames
+pub record Apart (b : Sender) (e : EndState) : Type 0 where
+  pub certain : IsCertain b.numbers e
+  pub here : e.expected ≡ b.numbers.expected
+  pub unwritten : AreUnwritten b.stage.frames
+
+-- the same, with nothing staged
 pub record Bare (b : Sender) (e : EndState) : Type 0 where
   pub certain : IsCertain b.numbers e
   pub here : e.expected ≡ b.numbers.expected
@@ -145,3 +157,10 @@ AfterFault id read given n NumbersSpent b e = Level id read given n b e × (b.st
 AfterFault id read given n OutOfMemory b e = IsCertain b.numbers e
 AfterFault id read given n StoreFault b e = IsInDoubt b e
 AfterFault id read given n LinkFault b e = Bare b e
+
+-- the same of a session that writes nothing: its connection doesn't fail
+abbrev pub AfterApart : StageFault → Sender → EndState → Type 0
+AfterApart NumbersSpent b e = Bare b e
+AfterApart OutOfMemory b e = IsCertain b.numbers e
+AfterApart StoreFault b e = IsInDoubt b e
+AfterApart LinkFault b e = ⊥

@@ -1,5 +1,5 @@
 -- What is stated of a doing in which no part failed: it is as said, or out of memory, and would have gone on.
-use Rattle.std.specs.Prelude.{◌≢◌, ℕ, ◌≤◌, List, [], ◌∷◌, ◌++◌, Result, Ok, Err, Option, IfSome, ⊤}
+use Rattle.std.specs.Prelude.{◌≢◌, ◌≤◌, List, [], ◌∷◌, ◌++◌, Result, Err, IfSome, ⊤}
 use Rattle.fix_base.specs.Payload.{LAST_TIME}
 use Rattle.fix_base.specs.Trace.{Note, Did, Failed, Asked}
 use Rattle.fix_fields.specs.Drafted.{IsDraft}

@@ -5,6 +5,7 @@ ghost use Rattle.fix_base.specs.declared.entry.By.TheVariants.{Caller};
 ghost use Rattle.fix_base.specs.Trace.{HasTrace};
 ghost use Rattle.fix_fields.specs.Drafted.{draft_body};
 ghost use Rattle.fix_stage.specs.Sender.{IsReady, open_after};
+ghost use Rattle.fix_stage.specs.Causes.{HasCause};
 ghost use Rattle.fix_stage.specs.Staging.{MakesAndStages, StagesPending};
 ghost use Rattle.fix_stage.specs.Outgoing.{draft_outgoing};
 
@@ -28,11 +29,20 @@ pub fn stage_draft<O: Outside>(
     ensures ready { IsReady context.now.identity (O.seen o.new) (open_after result sender.new) sender.new }
     ensures notes { HasTrace (O.seen o.old) (O.seen o.new) (λ notes. MakesAndStages context.now.identity
         (draft_outgoing sender.old.numbers.reading draft.now written) sender.old notes result sender.new) }
+    ensures cause { HasCause result (O.seen o.old).faults (O.seen o.new).faults }
 {
     let Ok(entry) = entry_of(context.alloc, sender.numbers.reading, draft) else {
         return Err(StageFault::OutOfMemory);
     };
-    stage(o, context, sender, entry, draft.kind(), draft.rest(), written)
+    stage(
+        o,
+        context,
+        sender,
+        entry,
+        draft.kind(),
+        draft.rest(),
+        written,
+    )
 }
 
 /// Stages the draft in hand, if there is one. It stays in hand until the record that has its entry is kept.
@@ -45,6 +55,7 @@ pub fn stage_pending<O: Outside>(
     ensures ready { IsReady context.now.identity (O.seen o.new) (open_after result sender.new) sender.new }
     ensures notes { HasTrace (O.seen o.old) (O.seen o.new)
         (λ notes. StagesPending context.now.identity sender.old notes result sender.new) }
+    ensures cause { HasCause result (O.seen o.old).faults (O.seen o.new).faults }
 {
     let Some(draft) = &sender.pending.draft else {
         return Ok(());

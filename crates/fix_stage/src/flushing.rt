@@ -4,7 +4,8 @@ ghost use Rattle.std.specs.Prelude.{◌≡◌, ◌≤◌, ◌+◌, Some, length}
 ghost use Rattle.fix_base.specs.Trace.{HasTrace};
 ghost use Rattle.fix_stage.specs.Stage.{no_stage};
 ghost use Rattle.fix_stage.specs.Sender.{IsReady, open_after, numbers_kept, due_number};
-ghost use Rattle.fix_stage.specs.Flush.{record_of, CanKeep, Keeping, Flushed, Settled};
+ghost use Rattle.fix_stage.specs.Flush.{record_of, CanKeep, Keeping, Flushed, Settled, IsSettled};
+ghost use Rattle.fix_stage.specs.Causes.{HasCause};
 
 use crate::pending::{let_go, note_lost, unstage};
 use crate::writing::write_all;
@@ -25,6 +26,8 @@ pub fn flush<O: Outside>(
     ensures ready { IsReady context.now.identity (O.seen o.new) (open_after result sender.new) sender.new }
     ensures notes { HasTrace (O.seen o.old) (O.seen o.new)
         (λ notes. Flushed expect sender.old notes result sender.new) }
+    ensures empty { sender.new.stage ≡ no_stage }
+    ensures cause { HasCause result (O.seen o.old).faults (O.seen o.new).faults }
 {
     if !sender.stage.is_due(expect) {
         return Ok(());
@@ -44,6 +47,9 @@ pub fn settle<O: Outside>(
     requires ready { IsReady context.now.identity (O.seen o.old) (Some sender.old.numbers.last) sender.old }
     ensures ready { IsReady context.now.identity (O.seen o.new) (open_after result sender.new) sender.new }
     ensures notes { HasTrace (O.seen o.old) (O.seen o.new) (λ notes. Settled sender.old notes result sender.new) }
+    ensures empty { sender.new.stage ≡ no_stage }
+    ensures settled { IsSettled result sender.new }
+    ensures cause { HasCause result (O.seen o.old).faults (O.seen o.new).faults }
 {
     let expect = due(sender.numbers);
     flush(o, context, sender, expect)

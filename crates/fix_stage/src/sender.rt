@@ -1,7 +1,6 @@
 //! The sending half of a session: its numbers, what is staged, and the draft in hand. The functions of this crate
 //! take it and change it.
 ghost use Rattle.std.specs.Prelude.{◌≡◌, ◌≤◌};
-
 ghost use Rattle.fix_stage.specs.Sender.{IsInRange, with_reading, with_numbers, sender_down};
 
 use crate::{PendingDraft, Stage};

@@ -6,6 +6,7 @@ ghost use Rattle.fix_stage.specs.Combine.{AndThen};
 ghost use Rattle.fix_stage.specs.Stage.{size_in_stage, has_room};
 ghost use Rattle.fix_stage.specs.Sender.{IsReady, open_after, next_number};
 ghost use Rattle.fix_stage.specs.Outgoing.{outgoing, IsOutgoing, IsStagedFrame};
+ghost use Rattle.fix_stage.specs.Causes.{HasCause};
 ghost use Rattle.fix_stage.specs.Staging.{Roomy, Put, Staging};
 
 use crate::framing::frame_of;
@@ -31,6 +32,7 @@ pub fn stage<O: Outside>(
     ensures ready { IsReady context.now.identity (O.seen o.new) (open_after result sender.new) sender.new }
     ensures notes { HasTrace (O.seen o.old) (O.seen o.new) (λ notes. Staging context.now.identity
         (outgoing entry kind.now rest.now written) sender.old notes result sender.new) }
+    ensures cause { HasCause result (O.seen o.old).faults (O.seen o.new).faults }
 {
     number(o, context, sender)?;
     make_room_and_put(o, context, sender, entry, kind, rest, written)
