@@ -51,7 +51,8 @@ pub data MakesAndStages (id : Identity) (m : Outgoing) (b : Sender) : List Note 
 pub data StagesPending (id : Identity) (b : Sender) : List Note → Result ⊤ StageFault → Sender → Type 0 where
   empty : b.pending.draft ≡ None → StagesPending id b [] (Ok tt) b
   not_staged : {notes : List Note} {e : StageFault} {to : Sender} (d : DraftText) → b.pending.draft ≡ Some d
-      → MakesAndStages id (draft_outgoing b.numbers.reading d true) b notes (Err e) to → StagesPending id b notes (Err e) to
+      → MakesAndStages id (draft_outgoing b.numbers.reading d true) b notes (Err e) to
+      → StagesPending id b notes (Err e) to
   -- out of memory for a copy of it
   draft_memory : (d : DraftText) → b.pending.draft ≡ Some d → StagesPending id b [] (Err OutOfMemory) b
   draft_staged : {notes : List Note} {to : Sender} (d : DraftText) → b.pending.draft ≡ Some d

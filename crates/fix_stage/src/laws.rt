@@ -9,7 +9,8 @@ ghost use Rattle.fix_stage.specs.Flush.{Flushed, Settled};
 ghost use Rattle.fix_stage.specs.Outgoing.{Outgoing, IsOutgoing};
 ghost use Rattle.fix_stage.specs.Staging.{Staging, MakesAndStages, StagesPending};
 ghost use Rattle.fix_stage.specs.Stated.{Total, Resumes, IsTimely};
-ghost use Rattle.fix_stage.specs.Lawful.{AsksNoReset, Fits, Level, Apart, Bare, LawfulRunTo, After, AfterFault, AfterApart, LeadsFrom};
+ghost use Rattle.fix_stage.specs.Lawful.{AsksNoReset, Fits, Level, Apart, Bare, LawfulRunTo, After, AfterFault};
+ghost use Rattle.fix_stage.specs.Lawful.{AfterApart, LeadsFrom};
 
 /// A flush is a run of a lawful end: whatever end is in step with the session before it, its acts are a run of
 /// that end. Where it goes well the end has passed what the session has counted.
@@ -40,7 +41,8 @@ pub fn a_draft_is_staged_lawfully()
 
 /// A session that writes nothing, as one with no connection, keeps its messages lawfully.
 pub fn an_unwritten_message_is_kept_lawfully()
-    ensures staged { (id : Identity) (m : Outgoing) → m.written ≡ false → LeadsFrom id AfterApart Apart (MakesAndStages id m) Apart }
+    ensures staged { (id : Identity) (m : Outgoing) → m.written ≡ false
+        → LeadsFrom id AfterApart Apart (MakesAndStages id m) Apart }
     ensures kept { (id : Identity) → LeadsFrom id AfterApart Apart (Flushed 0) Bare }
     ensures settled { (id : Identity) → LeadsFrom id AfterApart Apart Settled Bare }
 {}
@@ -49,8 +51,10 @@ pub fn an_unwritten_message_is_kept_lawfully()
 pub fn what_is_out_of_memory_would_have_gone_on()
     ensures flush { (k : ℕ) → Resumes StageFault.OutOfMemory IsTimely (Flushed k) }
     ensures flush_ends { (k : ℕ) → Total StageFault.OutOfMemory IsTimely (Flushed k) }
-    ensures message { (id : Identity) (m : Outgoing) → IsOutgoing m → Resumes StageFault.OutOfMemory IsTimely (Staging id m) }
-    ensures message_ends { (id : Identity) (m : Outgoing) → IsOutgoing m → Total StageFault.OutOfMemory IsTimely (Staging id m) }
+    ensures message { (id : Identity) (m : Outgoing) → IsOutgoing m
+        → Resumes StageFault.OutOfMemory IsTimely (Staging id m) }
+    ensures message_ends { (id : Identity) (m : Outgoing) → IsOutgoing m
+        → Total StageFault.OutOfMemory IsTimely (Staging id m) }
     ensures draft { (id : Identity) → Resumes StageFault.OutOfMemory IsTimely (StagesPending id) }
     ensures draft_ends { (id : Identity) → Total StageFault.OutOfMemory IsTimely (StagesPending id) }
 {}
