@@ -77,6 +77,11 @@ back_entries (e ∷ es) fits =
     let others = ap (entries_in (length es)) (later_there p l (small_entry e fits.0)) ∙ back_entries es fits.1 in
     λ i. first i ∷ others i
 
+-- so many are read
+pub length-entries_in : (n : ℕ) (rest : List ℕ) → length (entries_in n rest) ≡ n
+length-entries_in zero rest = refl
+length-entries_in (suc n) rest = omega (arith, length-entries_in n (drop (size_in rest) (drop 4 rest)))
+
 -- ---- records
 
 -- a record is read back from its spelling

@@ -32,12 +32,12 @@ returns-in-Err-add_mark-clause-refused g c =
 pub returns-in-Err-add_mark-clause-moves_refused : goal.returns-in-Err-add_mark-clause-moves_refused
 returns-in-Err-add_mark-clause-moves_refused g c =
     let disk = g.D.Disk.disk in
-    rw c.into_disk-2.ensures (mark_refused disk (disk c.args.disk) c.in-Ok.journal c.fold.new.journal c.add_mark.new.journal (λ d. g.met.D.Disk.lawful d) c.in-Ok.ensures.opened c.in-Ok.ensures.moves c.in-Ok-fold.folded (fold_of c.add_mark.new.folded) c.in-Ok-fold.ensures.reads c.in-Ok-fold.ensures.journal c.in-Ok-fold.ensures.folds c.in-Err-add_mark.fault c.in-Err-add_mark.ensures)
+    rw c.into_disk-in-Err-add_mark.ensures (mark_refused disk (disk c.args.disk) c.in-Ok.journal c.fold.new.journal c.add_mark.new.journal (λ d. g.met.D.Disk.lawful d) c.in-Ok.ensures.opened c.in-Ok.ensures.moves c.in-Ok-fold.folded (fold_of c.add_mark.new.folded) c.in-Ok-fold.ensures.reads c.in-Ok-fold.ensures.journal c.in-Ok-fold.ensures.folds c.in-Err-add_mark.fault c.in-Err-add_mark.ensures)
 
 pub returns-in-Err-add_mark-clause-room_refused : goal.returns-in-Err-add_mark-clause-room_refused
 returns-in-Err-add_mark-clause-room_refused g c =
     let disk = g.D.Disk.disk in
-    rw c.into_disk-2.ensures (mark_room_refused disk (disk c.args.disk) c.in-Ok.journal c.fold.new.journal c.add_mark.new.journal (λ d. g.met.D.Disk.lawful d) c.in-Ok.ensures.opened c.in-Ok.ensures.moves c.in-Ok-fold.folded (fold_of c.add_mark.new.folded) c.in-Ok-fold.ensures.reads c.in-Ok-fold.ensures.journal c.in-Ok-fold.ensures.folds c.in-Ok.ensures.room c.in-Err-add_mark.fault c.in-Err-add_mark.ensures)
+    rw c.into_disk-in-Err-add_mark.ensures (mark_room_refused disk (disk c.args.disk) c.in-Ok.journal c.fold.new.journal c.add_mark.new.journal (λ d. g.met.D.Disk.lawful d) c.in-Ok.ensures.opened c.in-Ok.ensures.moves c.in-Ok-fold.folded (fold_of c.add_mark.new.folded) c.in-Ok-fold.ensures.reads c.in-Ok-fold.ensures.journal c.in-Ok-fold.ensures.folds c.in-Ok.ensures.room c.in-Err-add_mark.fault c.in-Err-add_mark.ensures)
 
 pub returns-in-Err-fold-clause-refused : goal.returns-in-Err-fold-clause-refused
 returns-in-Err-fold-clause-refused g c =
