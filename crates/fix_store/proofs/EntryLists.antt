@@ -1,5 +1,5 @@
 -- The payloads of entries one after another.
-use Rattle.std.proofs.Common.{◌≡◌, ◌↔◌, ℕ, ◌-◌, ◌<◌, ◌≤◌, zero, suc, Bool, true, false, List, [], ◌∷◌, ◌++◌, length, take, drop, Some, refl, sym, ◌∙◌, ap, subst, arith, append_assoc, true≢false, get_or}
+use Rattle.std.proofs.Common.{◌≡◌, ◌↔◌, ℕ, ◌+◌, ◌-◌, ◌<◌, ◌≤◌, zero, suc, Bool, true, false, List, [], ◌∷◌, ◌++◌, length, take, drop, Some, refl, sym, ◌∙◌, ap, subst, arith, append_assoc, append-nil, true≢false, get_or}
 use Rattle.std.specs.Prelude.{slice_get, IfSome, IsTrue}
 use Rattle.std.specs.Int.{w32, to_be_bytes}
 use Rattle.std.specs.List.{AllByRecursion}
@@ -154,3 +154,16 @@ many_read rest count expect entries parts short counts are =
       short = omega (arith, short, ap length is, length_many es expect);
     } in
     (subst (λ l. IsManyPayload l expect) (sym read) fits, subst (λ l. 6 ∷ rest ≡ spelled (Many l expect)) (sym read) (ap (λ l. 6 ∷ l) is))
+
+-- ---- writing entries
+
+-- one entry more
+pub entries_more : (es : List Entry) (i : ℕ) (e : Entry) → i < length es → e ≡ get_or es i e → spelled_entries (take (i + 1) es) ≡ spelled_entries (take i es) ++ (to_be_bytes w32 (length (spelled_entry e)) ++ spelled_entry e)
+entries_more [] i e lt is = absurd (omega (arith, lt))
+entries_more (x ∷ es) zero e lt is = append-nil (to_be_bytes w32 (length (spelled_entry x)) ++ spelled_entry x) ∙ ap (λ z. to_be_bytes w32 (length (spelled_entry z)) ++ spelled_entry z) (sym is)
+entries_more (x ∷ es) (suc i) e lt is =
+    let next : suc i + 1 ≡ suc (i + 1) = omega arith in
+    let n = to_be_bytes w32 (length (spelled_entry x)) in
+    ap (λ k. spelled_entries (take k (x ∷ es))) next
+    ∙ ap (λ l. n ++ (spelled_entry x ++ l)) (entries_more es i e (omega (arith, lt)) is)
+    ∙ further n (spelled_entry x) (spelled_entries (take i es)) (to_be_bytes w32 (length (spelled_entry e)) ++ spelled_entry e)

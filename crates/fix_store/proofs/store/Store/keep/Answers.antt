@@ -1,10 +1,11 @@
-use Rattle.std.proofs.Common.{◌≡◌, ◌∙◌, ◌++◌, ◌∷◌, [], ℕ, List, refl, sym, ap, subst, Ok, Err}
+use Rattle.std.proofs.Common.{◌≡◌, ◌∙◌, ◌++◌, ◌∷◌, [], ℕ, List, ◌≤◌, length, refl, sym, ap, subst, Ok, Err, true≢false, arith}
 use Rattle.std.specs.Prelude.{IsSome}
 use Rattle.fix_store.specs.declared.fault.StoreFault.TheVariants.{NumbersSpent, OutOfMemory}
 use Rattle.fix_store.specs.Spelling.{spelled, Item, keeps}
 use Rattle.fix_store.specs.Store.{MayKeep}
 use Rattle.fix_store.specs.Folding.{Fold, fold_of, fold_with, record_of, change_of, MayTake, HasPlaceIn, stored_in, IsKeptOf, IsSound}
 use Rattle.fix_store.proofs.KeepLemmas.{calm, keeps_at, sound_at, sound_failed, refused, when_ok, follows}
+use Rattle.fix_store.proofs.Spellings.{is_payload}
 use Rattle.fix_store.proofs.RoomLemmas.{room_at}
 use Rattle.fix_store.proofs.CallLemmas.{told_of, answers_ok, answers_spent, answers_without, answers_failed}
 use Rattle.fix_store.proofs.store.Store.keep.Goals as goal
@@ -56,7 +57,7 @@ returns-then-not-may_take-clause-answers g c =
     let f = fold_of s.folded in
     let r = record_of c.args.kept.now in
     let place : HasPlaceIn (stored_in f) r = rw (← c.self.view_is) at c.requires.place in
-    rw (← c.self.view_is) (answers_spent s.journal.disk s.journal.disk f f r s.stopped c.if-self.false c.self.invariant.within.few c.self.invariant.marked place (λ may. c.if-not-may_take.ensures.1 (subst (MayTake f) (sym c.change_kept-change.ensures) may)))
+    rw (← c.self.view_is) (answers_spent s.journal.disk s.journal.disk f f r s.stopped c.if-self.false c.self.invariant.within.few c.self.invariant.marked place (λ may. true≢false (sym (c.if-not-may_take.ensures.1 (subst (MayTake f) (sym c.change_kept-change.ensures) may)))))
 
 pub returns-then-not-may_take-clause-moves : goal.returns-then-not-may_take-clause-moves
 returns-then-not-may_take-clause-moves g c =
@@ -84,14 +85,6 @@ returns-then-is_err-clause-moves g c =
     let r = record_of c.args.kept.now in
     let sound = calm disk s.journal f s.stopped c.if-self.false c.self.invariant in
     rw (← c.self.view_is) (λ still. refused disk s.journal f sound r (g.met.D.Disk.lawful _) OutOfMemory refl)
-
-pub invariant_of-self-then-is_err : goal.invariant_of-self-then-is_err
-invariant_of-self-then-is_err g c =
-    let s = c.self.inside in
-    let disk = g.D.Disk.disk in
-    let f = fold_of s.folded in
-    let r = record_of c.args.kept.now in
-    subst (λ h. IsSound disk s.journal h s.stopped) (sym c.stage.ensures.same) c.self.invariant
 
 pub invariant_of-self-in-Ok : goal.invariant_of-self-in-Ok
 invariant_of-self-in-Ok g c =
@@ -182,3 +175,21 @@ returns-in-Err-clause-room g c =
     let may : MayKeep (disk s.journal.disk) r = rw (← c.self.view_is) at c.requires.may in
     let payload : c.deref.result.now ≡ spelled r = c.deref.ensures.value ∙ when_ok c.stage.result c.if-is_err.ensures.value c.stage.ensures.payload in
     rw (← c.self.view_is) (room_at disk s.journal f sound r c.deref.result.now c.append.new.journal payload c.in-Err.ensures.room (follows disk s.journal f sound r c.requires.fits may has) (Err c.in-Err.fault) c.in-Err.ensures.moves c.in-Err.ensures.need)
+
+pub append-requires-clause-fits : goal.append-requires-clause-fits
+append-requires-clause-fits g c =
+    let s = c.self.inside in
+    let disk = g.D.Disk.disk in
+    let f = fold_of s.folded in
+    let r = record_of c.args.kept.now in
+    let payload : c.deref.result.now ≡ spelled r = c.deref.ensures.value ∙ when_ok c.stage.result c.if-is_err.ensures.value c.stage.ensures.payload in
+    omega (arith, ap length payload, (is_payload r c.requires.fits).1)
+
+pub append-requires-clause-some : goal.append-requires-clause-some
+append-requires-clause-some g c =
+    let s = c.self.inside in
+    let disk = g.D.Disk.disk in
+    let f = fold_of s.folded in
+    let r = record_of c.args.kept.now in
+    let payload : c.deref.result.now ≡ spelled r = c.deref.ensures.value ∙ when_ok c.stage.result c.if-is_err.ensures.value c.stage.ensures.payload in
+    omega (arith, ap length payload, (is_payload r c.requires.fits).0)
