@@ -325,8 +325,11 @@ module _ {D : Type 0} (disk : D → DiskSeen) (old : DiskSeen) (mid walked new :
 
       mark_read : IfSome old.bytes (λ file. IfSome (disk new.disk).bytes (HasSameEnd file))
       mark_read = told_both old.bytes (disk new.disk).bytes HasSameEnd (λ file now is is'.
-          inr ((taken_all new_content (walk_found file is).items).end, has_end file is,
-          marked_end file is now (subst (λ o. IfSome o (IsEither (map spelled_item (walk_found file is).items) MARK)) is' (done.as_read (map spelled_item (walk_found file is).items) (walk_found file is).kept.holds))))
+          inr (
+            (taken_all new_content (walk_found file is).items).end,
+            has_end file is,
+            marked_end file is now (subst (λ o. IfSome o (IsEither (map spelled_item (walk_found file is).items) MARK)) is' (done.as_read (map spelled_item (walk_found file is).items) (walk_found file is).kept.holds)),
+          ))
 
       mark_tells : IsSome (disk new.disk).bytes ↔ IsSome old.bytes
       mark_tells =

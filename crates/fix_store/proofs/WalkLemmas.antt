@@ -161,14 +161,20 @@ module _ (payloads : List (List ℕ)) (index : ℕ) (items : List Item) (f g : F
   module _ (i : Item) (fit : IsFit i) (is : payload ≡ spelled_item i) where
     -- or none that may come next
     pub takes_untaken : (MayTake f (change_of i) → ⊥) → Takes (Some (Damaged place)) index payloads items f g
-    takes_untaken not = (λ j may is'.
-        let same = same_item payloads index payload i j there fit is (fits (taken_all new_content items) j may) is' in
-        not (may_take items f up_to.folds i (subst (MayFollow (taken_all new_content items)) same may)), at)
+    takes_untaken not = (
+      λ j may is'.
+          let same = same_item payloads index payload i j there fit is (fits (taken_all new_content items) j may) is' in
+          not (may_take items f up_to.folds i (subst (MayFollow (taken_all new_content items)) same may)),
+      at,
+    )
 
     pub takes_unnamed : (NamesApp (change_of i) (taken_all new_content items).end → ⊥) → Takes (Some (Damaged place)) index payloads items f g
-    takes_unnamed not = (λ j may is'.
-        let same = same_item payloads index payload i j there fit is (fits (taken_all new_content items) j may) is' in
-        not (names items f up_to.folds i (subst (MayFollow (taken_all new_content items)) same may)), at)
+    takes_unnamed not = (
+      λ j may is'.
+          let same = same_item payloads index payload i j there fit is (fits (taken_all new_content items) j may) is' in
+          not (names items f up_to.folds i (subst (MayFollow (taken_all new_content items)) same may)),
+      at,
+    )
 
     pub takes_it : length f.places ≤ 999999999 → MayTake f (change_of i) → NamesApp (change_of i) (taken_all new_content items).end → (g ≡ fold_with index f (change_of i)) → Takes None index payloads items f g
     takes_it few may named is_next = (i, there ∙ ap Some is, may_follow items f up_to.folds i fit few may named, is_next)

@@ -25,9 +25,21 @@ const LAST_NUMBER: u32 = 999_999_999;
 // A record whose bytes are lent, or the mark.
 #[derive(Clone, Copy)]
 pub(crate) enum Spelt<'a> {
-    App { time: u64, by: By, body: &'a [u8] },
-    Admin { time: u64, kind: u8, about: u32 },
-    Many { count: u32, expect: u32, entries: &'a [u8] },
+    App {
+        time: u64,
+        by: By,
+        body: &'a [u8],
+    },
+    Admin {
+        time: u64,
+        kind: u8,
+        about: u32,
+    },
+    Many {
+        count: u32,
+        expect: u32,
+        entries: &'a [u8],
+    },
     Expect(u32),
     Withhold(u32),
     Reset(u64),

@@ -54,10 +54,7 @@ fn with_payloads(alloc: Global, payloads: &[&[u8]]) -> Result<MemoryDisk, OutOfM
 }
 
 // What a file with these payloads tells, or why it isn't opened.
-fn reading(
-    alloc: Global,
-    payloads: &[&[u8]],
-) -> Result<Result<Stored, OpenFault>, OutOfMemory> {
+fn reading(alloc: Global, payloads: &[&[u8]]) -> Result<Result<Stored, OpenFault>, OutOfMemory> {
     let disk = with_payloads(alloc, payloads)?;
     match Store::open(alloc, holding(alloc, disk.bytes())?) {
         Ok(store) => Ok(Ok(store.stored())),
@@ -141,7 +138,10 @@ fn which_messages_may_be_withheld(rt: HostRuntime) -> Result<(), Fail> {
         };
         assert_eq!(rt; reading(alloc, &[&BEAT, &two, &payload])?, wanted);
     }
-    assert_eq!(rt; reading(alloc, &[&[7, 0, 0, 0]])?, Err(OpenFault::Damaged(9)));
+    assert_eq!(rt;
+        reading(alloc, &[&[7, 0, 0, 0]])?,
+        Err(OpenFault::Damaged(9))
+    );
     Ok(())
 }
 
@@ -169,8 +169,14 @@ fn what_stands_before_and_after_the_mark(rt: HostRuntime) -> Result<(), Fail> {
     assert_eq!(rt; reading(alloc, &[mark, mark])?, Err(OpenFault::Damaged(19)));
     assert_eq!(rt; reading(alloc, &[mark, ask])?, asked);
     assert_eq!(rt; reading(alloc, &[mark, ask, confirm])?, confirmed);
-    assert_eq!(rt; reading(alloc, &[&[10, 0, 0, 0, 1]])?, Err(OpenFault::Damaged(9)));
-    assert_eq!(rt; reading(alloc, &[mark, &[9, 0, 0, 0, 1]])?, Err(OpenFault::Damaged(19)));
+    assert_eq!(rt;
+        reading(alloc, &[&[10, 0, 0, 0, 1]])?,
+        Err(OpenFault::Damaged(9))
+    );
+    assert_eq!(rt;
+        reading(alloc, &[mark, &[9, 0, 0, 0, 1]])?,
+        Err(OpenFault::Damaged(19))
+    );
     Ok(())
 }
 
@@ -178,7 +184,10 @@ fn what_stands_before_and_after_the_mark(rt: HostRuntime) -> Result<(), Fail> {
 fn an_opening_adds_the_mark(rt: HostRuntime) -> Result<(), Fail> {
     let alloc = rt.alloc();
     let new = opened(alloc, blank(alloc, None)?)?.into_disk();
-    assert_eq!(rt; new.bytes(), b"\x01FIXJRNL1\x01\0\0\0\x05\x0a\0\0\0\x02\0".as_slice());
+    assert_eq!(rt;
+        new.bytes(),
+        b"\x01FIXJRNL1\x01\0\0\0\x05\x0a\0\0\0\x02\0".as_slice()
+    );
     let again = opened(alloc, holding(alloc, new.bytes())?)?.into_disk();
     assert_eq!(rt; again.bytes(), new.bytes());
     let old = with_payloads(alloc, &[&[4, 0, 0, 0, 2]])?;
