@@ -1,7 +1,7 @@
 -- What the calls of a store do to what its disk tells.
 use Rattle.std.proofs.Common.{◌≡◌, ◌⊎◌, inl, inr, ◌↔◌, ℕ, Bool, true, false, List, [], ◌∷◌, length, Option, Some, None, Ok, Err, refl, sym, ◌∙◌, ap, subst, arith, true≢false}
 use Rattle.std.specs.Prelude.{IsSome, IfSome, is_some, nat_eq, ◌||◌, if◌then◌else◌}
-use Rattle.std.proofs.lemmas.Bool.{eqb-true}
+use Rattle.std.proofs.lemmas.Bool.{eqb-true, eq-eqb}
 use Rattle.fix_base.specs.declared.act.Act.TheVariants as act
 use Rattle.fix_base.specs.declared.entry.Record.{Record}
 use Rattle.fix_base.specs.declared.entry.Record.TheVariants.{Push, Expect, Many, Withhold, Reset, ResetAsk, Confirm}
@@ -286,17 +286,22 @@ not_spent Confirm false stored place none = none
 
 -- ---- what is withheld
 
+any_there : (b c : Bool) → c ≡ true → (b || c) ≡ true
+any_there true c is = refl
+any_there false c is = is
+
 among_any : (n : ℕ) (ks : List ℕ) → Among n ks → list_any (λ y. nat_eq y n) ks ≡ true
-among_any n (k ∷ ks) here = any_here n ks
+among_any n [] x = elim x [ ]
+among_any n (k ∷ ks) here = ap (λ b. b || list_any (λ y. nat_eq y n) ks) (eq-eqb n n refl)
 among_any n (k ∷ ks) (there more) = any_there (nat_eq k n) (list_any (λ y. nat_eq y n) ks) (among_any n ks more)
+
+by_first : (b c : Bool) (n k : ℕ) (ks : List ℕ) → nat_eq k n ≡ b → (b || c) ≡ true → (c ≡ true → Among n ks) → Among n (k ∷ ks)
+by_first true c n k ks same is rest = subst (λ m. Among m (k ∷ ks)) (eqb-true k n same) here
+by_first false c n k ks same is rest = there (rest is)
 
 any_among : (n : ℕ) (ks : List ℕ) → list_any (λ y. nat_eq y n) ks ≡ true → Among n ks
 any_among n [] is = absurd (true≢false (sym is))
-any_among n (k ∷ ks) is = by_first (nat_eq k n) refl is
-  where
-    by_first : (b : Bool) → nat_eq k n ≡ b → (b || list_any (λ y. nat_eq y n) ks) ≡ true → Among n (k ∷ ks)
-    by_first true same or = subst (λ m. Among m (k ∷ ks)) (eqb-true k n same) here
-    by_first false same or = there (any_among n ks or)
+any_among n (k ∷ ks) is = by_first (nat_eq k n) (list_any (λ y. nat_eq y n) ks) n k ks refl is (any_among n ks)
 
 -- what the store tells is what the end withholds
 pub held_as : (seen : DiskSeen) (n : ℕ) (b : Bool) → ((e : End) → HoldsEnd seen e → b ≡ set.contains (withheld_of e) n) → (k : Kind) → IsToldHeld k b → (e : End) → HoldsEnd seen e → IsHeldAs k n e
