@@ -267,7 +267,7 @@ fn other_words_are_refused(rt: HostRuntime) -> Result<(), Fail> {
 #[test]
 fn each_fault_has_its_status(rt: HostRuntime) -> Result<(), Fail> {
     let alloc = rt.alloc();
-    // The opening makes eight calls of the disk, and each of three records four.
+    // The opening makes twelve calls of the disk, and each of two records four.
     for disk in 1..=20 {
         let fails = Fails { disk, ..NONE };
         let pieces = at_once(alloc, &[LOGON, ORDER, LOGOUT])?;
@@ -361,10 +361,10 @@ fn one_by_one(alloc: Global) -> Result<Vec<Bytes>, Fail> {
 }
 
 #[test]
-fn a_disk_of_78_bytes_is_enough_for_the_sample(rt: HostRuntime) -> Result<(), Fail> {
+fn a_disk_of_88_bytes_is_enough_for_the_sample(rt: HostRuntime) -> Result<(), Fail> {
     let alloc = rt.alloc();
-    // An empty store takes 10 bytes, each of two entries 19, and each of three expected numbers 10.
-    for (capacity, want) in [(78, 0), (77, 5), (29, 5), (9, 5)] {
+    // An empty store takes 20 bytes, each of two entries 19, and each of three expected numbers 10.
+    for (capacity, want) in [(88, 0), (87, 5), (39, 5), (19, 5)] {
         let disk = MemoryDisk::new(alloc, capacity, 0, Vec::new(alloc), None)?;
         let pieces = one_by_one(alloc)?;
         let (status, _) = served_on(alloc, disk, WORDS.as_slice(), pieces, NONE, u64::MAX)?;
