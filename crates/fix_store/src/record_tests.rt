@@ -71,7 +71,7 @@ fn many(
     times: u32,
 ) -> Result<Vec<u8>, OutOfMemory> {
     let mut payload = Vec::new(alloc);
-    payload.push(6)?;
+    payload.extend_from_slice(&[6])?;
     payload.extend_from_slice(&count.to_be_bytes())?;
     payload.extend_from_slice(&expect.to_be_bytes())?;
     for _ in 0..times {
@@ -112,7 +112,7 @@ fn which_records_of_several_entries_there_are(rt: HostRuntime) -> Result<(), Fai
     }
     // A length that isn't the entry's, and an entry that is none.
     let mut long = many(alloc, 2, 0, &BEAT, 2)?;
-    long.push(0)?;
+    long.extend_from_slice(&[0])?;
     assert_eq!(rt; reading(alloc, &[&long])?, bad);
     let none = many(alloc, 2, 0, &[3; 14], 2)?;
     assert_eq!(rt; reading(alloc, &[&none])?, bad);
@@ -129,7 +129,7 @@ fn which_messages_may_be_withheld(rt: HostRuntime) -> Result<(), Fail> {
     let place = 9 + 5 + BEAT.len() as u64 + 5 + two.len() as u64;
     for (number, fits) in [(0, false), (1, false), (2, true), (3, true), (4, false)] {
         let mut payload = Vec::new(alloc);
-        payload.push(7)?;
+        payload.extend_from_slice(&[7])?;
         payload.extend_from_slice(&u32::to_be_bytes(number))?;
         let wanted = if fits {
             told(3, 1)
