@@ -13,6 +13,8 @@ mod pending;
 mod sender;
 mod staged;
 mod staging;
+#[cfg(test)]
+mod tests;
 mod writing;
 
 pub use context::Context;
