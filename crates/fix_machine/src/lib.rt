@@ -10,31 +10,17 @@
 
 mod answer;
 mod await_logon;
-#[cfg(test)]
-mod check_tests;
 mod checks;
 mod clock;
-#[cfg(test)]
-mod clock_tests;
 mod deadline;
 mod event;
-#[cfg(test)]
-mod first_message_tests;
 mod inbound;
 mod laws;
 mod logged_on;
-#[cfg(test)]
-mod logon_tests;
 mod machine;
-#[cfg(test)]
-mod number_tests;
 mod state;
 #[cfg(test)]
 mod tests;
-#[cfg(test)]
-mod type_tests;
-#[cfg(test)]
-mod worked;
 
 pub use event::{Decision, Event, Refusal, Step, Verdict, Why};
 pub use machine::Machine;

@@ -21,8 +21,6 @@ use crate::inbound::Inbound;
 use crate::logged_on::logged_on;
 use crate::{Decision, Event, MachineState, Options, Phase, Requested, Role, Step, Verdict};
 use fix_admin::{Admin, LogoutText, Say};
-#[cfg(test)]
-use fix_base::LAST_TIME;
 use fix_base::{Fault, Stored, Tag};
 use fix_fields::utc_time;
 use std::marker::Model;
@@ -122,30 +120,6 @@ impl Machine {
         ensures { result ≡ self.now.state }
     {
         self.state
-    }
-}
-
-#[cfg(test)]
-impl Machine {
-    /// A session in a state whose times are all this reading.
-    pub fn in_state(options: Options, state: MachineState, now: u64) -> Machine {
-        let now = now.min(LAST_TIME);
-        let asked_at = match state.test_request_sent_at {
-            Some(_) => Some(now),
-            None => None,
-        };
-        Machine {
-            options,
-            state: MachineState {
-                reading: now,
-                begun: now,
-                sent_at: now,
-                read_at: now,
-                left_at: now,
-                test_request_sent_at: asked_at,
-                ..state
-            },
-        }
     }
 }
 

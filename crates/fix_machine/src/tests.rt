@@ -1,153 +1,182 @@
-//! Sessions that go through several events: a silence, a gap that is asked for in chunks, a Logon of an
-//! initiator, a Logout that isn't answered, and numbers that are spent.
-use crate::worked::{
-    GAP, Kind, NO_FLAG, T, a1, asks, does, i0, logs_out, of, one, rejects, sequence_reset, session,
-    takes, two, u2,
-};
-use crate::{Event, Machine, Phase, Step, Verdict, Why};
+//! Sessions that go through several events: an acceptor that takes a Logon, beats and leaves, with the deadline
+//! after each; a counterparty that falls silent; a gap that is asked for two messages at a time.
+use crate::{Decision, Event, Machine, Options, Phase, Refusal, Role, Step, Verdict, Why};
 use fix_admin::{Admin, LogoutText, Say};
-use fix_base::OutOfMemory;
+use fix_base::{Begin, Bytes, Identity, OutOfMemory, SeqNum, Stored};
+use fix_fields::Envelope;
+use std::alloc::Global;
+
+// 2024-01-02 10:00:00
+const T: u64 = 1_704_189_600_000_000;
+
+fn session(alloc: Global, chunk: u32) -> Result<Machine, OutOfMemory> {
+    let identity = Identity {
+        begin: Begin::Fix42,
+        sender: Bytes::copy(alloc, b"SELL")?,
+        target: Bytes::copy(alloc, b"BUY")?,
+    };
+    let options = Options {
+        identity,
+        heart: 30,
+        chunk,
+        latency: Some(120),
+        logon_timeout: 10,
+        logout_timeout: 2,
+        persist: true,
+        reset_on_logon: false,
+        version: None,
+    };
+    let stored = Stored {
+        last: 0,
+        expected: 1,
+        since: None,
+        asked: false,
+    };
+    Ok(Machine::new(options, stored))
+}
+
+fn header<'a>(kind: &'a [u8], number: u32) -> Envelope<'a> {
+    Envelope {
+        begin: b"FIX.4.2",
+        kind,
+        number: SeqNum::new(number),
+        dup: None,
+        sender: Some(b"BUY"),
+        target: Some(b"SELL"),
+        sent: Some(b"20240102-10:00:00"),
+        first_sent: None,
+    }
+}
+
+#[test]
+fn a_session_logs_on_beats_and_leaves(rt: HostRuntime) -> Result<(), OutOfMemory> {
+    let mut machine = session(rt.alloc(), 0)?;
+    machine.decide(&Event::Begin {
+        role: Role::Acceptor,
+        now: T,
+    });
+    let head = header(b"A", 1);
+    let logon = machine.decide(&Event::Frame {
+        head: &head,
+        verdict: Verdict::Admin(Admin::Logon {
+            heart: 30,
+            reset: false,
+            version: None,
+        }),
+        full: false,
+        gap: false,
+        reset: false,
+    });
+    assert!(rt; logon.second == Step::Expect(2));
+    assert!(rt; machine.deadline() == Some(T + 30_000_000));
+    let beat = machine.decide(&Event::Clock {
+        now: T + 30_000_000,
+        inside: true,
+    });
+    assert!(rt; beat.first == Step::Send(Say::Heartbeat { id: None }));
+    assert!(rt; machine.deadline() == Some(T + 36_000_000));
+    machine.decide(&Event::Leave {
+        now: T + 31_000_000,
+    });
+    assert!(rt; machine.state().phase == Phase::LogoutSent);
+    assert!(rt; machine.deadline() == Some(T + 33_000_000));
+    Ok(())
+}
 
 const SECOND: u64 = 1_000_000;
 
-const HEARTBEAT_DUE: Step<'static> = Step::Send(Say::Heartbeat { id: None });
-
-// Whether the reading brings this step, and then this is the next time to look.
-fn brings(machine: &mut Machine, now: u64, step: Step<'_>, deadline: Option<u64>) -> bool {
-    does(machine, &Event::Clock { now, inside: true }, one(step)) && machine.deadline() == deadline
+// A session whose Logon was answered: it expects 2, and has sent 1.
+fn up(alloc: Global, chunk: u32) -> Result<Machine, OutOfMemory> {
+    let mut machine = session(alloc, chunk)?;
+    machine.decide(&Event::Begin {
+        role: Role::Acceptor,
+        now: T,
+    });
+    let head = header(b"A", 1);
+    machine.decide(&Event::Frame {
+        head: &head,
+        verdict: Verdict::Admin(Admin::Logon {
+            heart: 30,
+            reset: false,
+            version: None,
+        }),
+        full: false,
+        gap: false,
+        reset: false,
+    });
+    Ok(machine)
 }
 
 #[test]
 fn a_silent_counterparty_is_asked_and_left(rt: HostRuntime) -> Result<(), OutOfMemory> {
-    let mut machine = session(rt.alloc(), Kind::Own, u2())?;
-    assert!(rt; machine.deadline() == Some(T + 30 * SECOND));
-    assert!(rt; brings(&mut machine, T - 5, Step::Nothing, Some(T + 30 * SECOND)));
-    assert!(rt;
-        brings(
-            &mut machine,
-            T + 30 * SECOND,
-            HEARTBEAT_DUE,
-            Some(T + 36 * SECOND)
-        )
-    );
-    let asks = Step::Send(Say::TestRequest);
-    assert!(rt; brings(&mut machine, T + 36 * SECOND, asks, Some(T + 66 * SECOND)));
-    assert!(rt;
-        brings(
-            &mut machine,
-            T + 66 * SECOND,
-            HEARTBEAT_DUE,
-            Some(T + 72 * SECOND)
-        )
-    );
+    let mut machine = up(rt.alloc(), 0)?;
+    // A message that is heard at once: the silence begins with it.
+    let head = header(b"D", 2);
+    let order = machine.decide(&Event::Frame {
+        head: &head,
+        verdict: Verdict::App,
+        full: false,
+        gap: false,
+        reset: false,
+    });
+    assert!(rt; order.first == Step::Hand);
+    let asked = machine.decide(&Event::Clock {
+        now: T + 36 * SECOND,
+        inside: true,
+    });
+    assert!(rt; asked.first == Step::Send(Say::TestRequest));
+    assert!(rt; machine.deadline() == Some(T + 66 * SECOND));
+    let beat = machine.decide(&Event::Clock {
+        now: T + 66 * SECOND,
+        inside: true,
+    });
+    assert!(rt; beat.first == Step::Send(Say::Heartbeat { id: None }));
+    assert!(rt; machine.deadline() == Some(T + 72 * SECOND));
+    let end = machine.decide(&Event::Clock {
+        now: T + 72 * SECOND,
+        inside: true,
+    });
     let silent = Why::Silent {
         since: T + 36 * SECOND,
         now: T + 72 * SECOND,
     };
-    assert!(rt; brings(&mut machine, T + 72 * SECOND, Step::Close(silent), None));
-    assert!(rt; machine.state().last == 4);
+    assert!(rt; end.first == Step::Close(silent));
     Ok(())
 }
 
-// Whether the order of this number is handed over and counted, and the change brings this step.
-fn passes(machine: &mut Machine, number: u32, waiting: bool, step: Step<'_>) -> bool {
-    let counts = two(Step::Hand, Step::Expect(number.saturating_add(1)));
-    let counted = takes(machine, NO_FLAG, of(b"D", number), Verdict::App, counts);
-    let moved = does(machine, &Event::Moved { waiting }, one(step));
-    counted && moved
-}
-
-#[test]
-fn a_gap_is_filled_in_chunks(rt: HostRuntime) -> Result<(), OutOfMemory> {
-    let mut machine = session(rt.alloc(), Kind::Chunked, u2())?;
-    let asked = two(Step::Stash, asks(2, 3));
-    assert!(rt; takes(&mut machine, NO_FLAG, of(b"D", 7), Verdict::App, asked));
-    assert!(rt; passes(&mut machine, 2, false, Step::Nothing));
-    assert!(rt; passes(&mut machine, 3, false, asks(4, 5)));
-    assert!(rt; passes(&mut machine, 4, false, Step::Nothing));
-    assert!(rt; passes(&mut machine, 5, false, asks(6, 7)));
-    assert!(rt; passes(&mut machine, 6, true, Step::Nothing));
-    assert!(rt; passes(&mut machine, 7, false, Step::Nothing));
-    assert!(rt; machine.state().resend_requested.is_none());
-    assert!(rt; machine.state().last == 4);
-    Ok(())
-}
-
-#[test]
-fn an_initiator_logs_on_and_leaves(rt: HostRuntime) -> Result<(), OutOfMemory> {
-    let mut machine = session(rt.alloc(), Kind::Own, i0())?;
-    assert!(rt; machine.deadline() == Some(T + 10 * SECOND));
-    let logon = Say::Logon {
-        heart: 30,
+// Whether the order of this number is handed over and counted.
+fn is_handed(machine: &mut Machine, number: u32) -> bool {
+    let head = header(b"D", number);
+    let found = machine.decide(&Event::Frame {
+        head: &head,
+        verdict: Verdict::App,
+        full: false,
+        gap: false,
         reset: false,
-        version: None,
-    };
-    assert!(rt; does(&mut machine, &Event::First, one(Step::Send(logon))));
-    let answer = Verdict::Admin(Admin::Logon {
-        heart: 30,
-        reset: false,
-        version: None,
     });
-    assert!(rt;
-        takes(
-            &mut machine,
-            NO_FLAG,
-            of(b"A", 1),
-            answer,
-            one(Step::Expect(2))
-        )
-    );
-    assert!(rt; machine.state().phase == Phase::Up);
-    let out = one(logs_out(LogoutText::Empty));
-    assert!(rt; does(&mut machine, &Event::Leave { now: T }, out));
-    assert!(rt; machine.state().last == 2);
-    let late = Why::LogoutLate {
-        since: T,
-        now: T + 2 * SECOND,
-    };
-    assert!(rt; brings(&mut machine, T + 2 * SECOND, Step::Close(late), None));
-    Ok(())
+    found.first == Step::Hand
 }
 
 #[test]
-fn a_logon_that_does_not_come_closes(rt: HostRuntime) -> Result<(), OutOfMemory> {
-    let mut machine = session(rt.alloc(), Kind::Own, a1())?;
-    assert!(rt; brings(&mut machine, T, Step::Nothing, Some(T + 10 * SECOND)));
-    let late = Why::LogonLate {
-        since: T,
-        now: T + 10 * SECOND,
-    };
-    assert!(rt; brings(&mut machine, T + 10 * SECOND, Step::Close(late), None));
-    assert!(rt; machine.state().last == 0);
-    Ok(())
-}
-
-#[test]
-fn a_gap_fill_and_sequence_resets_move_the_number(rt: HostRuntime) -> Result<(), OutOfMemory> {
-    let mut machine = session(rt.alloc(), Kind::Own, u2())?;
-    let fill = sequence_reset(6, true);
-    assert!(rt; takes(&mut machine, GAP, of(b"4", 2), fill, one(Step::Expect(6))));
-    let back = one(rejects(1, b"4", 5, 36));
-    assert!(rt;
-        takes(
-            &mut machine,
-            NO_FLAG,
-            of(b"4", 1),
-            sequence_reset(3, false),
-            back
-        )
-    );
-    assert!(rt; machine.state().expected == 6);
-    let on = one(Step::Expect(9));
-    assert!(rt;
-        takes(
-            &mut machine,
-            NO_FLAG,
-            of(b"4", 1),
-            sequence_reset(9, false),
-            on
-        )
-    );
-    assert!(rt; machine.state().expected == 9);
+fn a_gap_is_asked_for_two_at_a_time(rt: HostRuntime) -> Result<(), OutOfMemory> {
+    let mut machine = up(rt.alloc(), 2)?;
+    let head = header(b"D", 7);
+    let gap = machine.decide(&Event::Frame {
+        head: &head,
+        verdict: Verdict::App,
+        full: false,
+        gap: false,
+        reset: false,
+    });
+    assert!(rt; gap.first == Step::Stash);
+    assert!(rt; gap.second == Step::Send(Say::ResendRequest { from: 2, to: 3 }));
+    assert!(rt; is_handed(&mut machine, 2));
+    assert!(rt; is_handed(&mut machine, 3));
+    let next = machine.decide(&Event::Moved { waiting: false });
+    assert!(rt; next.first == Step::Send(Say::ResendRequest { from: 4, to: 5 }));
+    assert!(rt; is_handed(&mut machine, 4));
+    assert!(rt; is_handed(&mut machine, 5));
+    let last = machine.decide(&Event::Moved { waiting: false });
+    assert!(rt; last.first == Step::Send(Say::ResendRequest { from: 6, to: 7 }));
     Ok(())
 }
