@@ -21,7 +21,7 @@ pub bare_is : (program : Text) (a b c : Command) → app_of a ≡ new_app progra
 bare_is program a b c first second third =
     ap app_of_fields third
     ∙ (ap (on_top (λ s. record s { disable_help_flag = true }))
-        (ap app_of_fields second ∙ ap (on_top (λ s. record s { no_binary_name = true })) first))
+    (ap app_of_fields second ∙ ap (on_top (λ s. record s { no_binary_name = true })) first))
 
 pub flag_some : (b : Bool) (text : Text) (o : Option Text) → Some text ≡ o → b ≡ bytes_eq text (codes "true")
     → b ≡ flag_of o

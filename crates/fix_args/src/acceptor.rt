@@ -22,9 +22,14 @@ pub enum AcceptorArgs<'a> {
         target: &'a str,
     },
     /// `--check SETTINGS`: the settings are printed as read.
-    Check { settings: &'a str },
+    Check {
+        settings: &'a str,
+    },
     /// `[--echo] SETTINGS`: all sessions are served, with `--echo` each message is sent back.
-    Serve { echo: bool, settings: &'a str },
+    Serve {
+        echo: bool,
+        settings: &'a str,
+    },
 }
 
 /// What these arguments ask for. None is that they are no line of the table.

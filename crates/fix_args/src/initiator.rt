@@ -14,14 +14,18 @@ use std::alloc::{AllocError, Global};
 #[derive(Drop, Debug)]
 pub enum InitiatorArgs<'a> {
     /// `SETTINGS`: each session is dialled.
-    Serve { settings: &'a str },
+    Serve {
+        settings: &'a str,
+    },
     /// `--send SETTINGS FILES`: the drafts of the files are sent by the first session. There is at least one file.
     Send {
         settings: &'a str,
         files: Vec<&'a str>,
     },
     /// `--check SETTINGS`: the settings are printed as read.
-    Check { settings: &'a str },
+    Check {
+        settings: &'a str,
+    },
 }
 
 /// What these arguments ask for. None is that they are no line of the table.

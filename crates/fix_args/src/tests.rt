@@ -5,7 +5,15 @@ use crate::{AcceptorArgs, InitiatorArgs, ScriptArgs, acceptor_args, initiator_ar
 
 #[test]
 fn values_are_written_in_two_ways(rt: HostRuntime) {
-    let words = ["--stdio", "--settings=-f", "FIX.4.2", "--store", "S", "SELL", "BUY"];
+    let words = [
+        "--stdio",
+        "--settings=-f",
+        "FIX.4.2",
+        "--store",
+        "S",
+        "SELL",
+        "BUY",
+    ];
     let asked = AcceptorArgs::Stdio {
         settings: Some("-f"),
         store: Some("S"),
@@ -25,7 +33,10 @@ fn flags_are_anywhere(rt: HostRuntime) {
     };
     assert_eq!(rt; acceptor_args(alloc, &["s.cfg", "--echo"]), Ok(Some(echo)));
     let check = AcceptorArgs::Check { settings: "s.cfg" };
-    assert_eq!(rt; acceptor_args(alloc, &["--check", "s.cfg"]), Ok(Some(check)));
+    assert_eq!(rt;
+        acceptor_args(alloc, &["--check", "s.cfg"]),
+        Ok(Some(check))
+    );
     let dashed = AcceptorArgs::Serve {
         echo: false,
         settings: "-x",
@@ -37,7 +48,16 @@ fn flags_are_anywhere(rt: HostRuntime) {
 fn nothing_is_there_twice(rt: HostRuntime) {
     let alloc = rt.alloc();
     assert_eq!(rt; acceptor_args(alloc, &["--echo", "--echo", "s"]), Ok(None));
-    let twice = ["--stdio", "--settings", "a", "--settings", "b", "F", "S", "B"];
+    let twice = [
+        "--stdio",
+        "--settings",
+        "a",
+        "--settings",
+        "b",
+        "F",
+        "S",
+        "B",
+    ];
     assert_eq!(rt; acceptor_args(alloc, &twice), Ok(None));
 }
 
@@ -45,7 +65,10 @@ fn nothing_is_there_twice(rt: HostRuntime) {
 fn other_words_are_refused(rt: HostRuntime) {
     let alloc = rt.alloc();
     assert_eq!(rt; acceptor_args(alloc, &[]), Ok(None));
-    assert_eq!(rt; acceptor_args(alloc, &["--stdio", "--settings", "-a", "F", "S", "B"]), Ok(None));
+    assert_eq!(rt;
+        acceptor_args(alloc, &["--stdio", "--settings", "-a", "F", "S", "B"]),
+        Ok(None)
+    );
     assert_eq!(rt; acceptor_args(alloc, &["--help"]), Ok(None));
     assert_eq!(rt; acceptor_args(alloc, &["--version"]), Ok(None));
     assert_eq!(rt; acceptor_args(alloc, &["--stdi", "F", "S", "B"]), Ok(None));
@@ -55,7 +78,10 @@ fn other_words_are_refused(rt: HostRuntime) {
 #[test]
 fn a_line_is_met_as_a_whole(rt: HostRuntime) {
     let alloc = rt.alloc();
-    assert_eq!(rt; acceptor_args(alloc, &["--stdio", "--check", "F", "S", "B"]), Ok(None));
+    assert_eq!(rt;
+        acceptor_args(alloc, &["--stdio", "--check", "F", "S", "B"]),
+        Ok(None)
+    );
     assert_eq!(rt; acceptor_args(alloc, &["--store", "s", "f"]), Ok(None));
     assert_eq!(rt; acceptor_args(alloc, &["--stdio", "F", "S"]), Ok(None));
     assert_eq!(rt; acceptor_args(alloc, &["a", "b"]), Ok(None));

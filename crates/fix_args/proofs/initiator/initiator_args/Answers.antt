@@ -15,6 +15,6 @@ is_free = refl
 pub returns-in-Ok-try_get_matches_from : goal.returns-in-Ok-try_get_matches_from
 returns-in-Ok-try_get_matches_from c = IfOk-weaker c.line_met.result _ _
     (λ found is. asks initiator_command initiator_line text_of _ found
-        (read_by _ _ _ c.in-Ok.ensures is_free c.in-Ok-try_get_matches_from.ensures.kinds)
-        (is ∙ ap initiator_line (rows_by _ _ _ _ c.in-Ok.ensures is_one c.in-Ok-try_get_matches_from.ensures.matches)))
+    (read_by _ _ _ c.in-Ok.ensures is_free c.in-Ok-try_get_matches_from.ensures.kinds)
+    (is ∙ ap initiator_line (rows_by _ _ _ _ c.in-Ok.ensures is_one c.in-Ok-try_get_matches_from.ensures.matches)))
     c.line_met.ensures
