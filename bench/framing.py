@@ -16,21 +16,13 @@ import subprocess
 import tempfile
 import time
 
+from measuring import bar, frame, least, sealed, written
+
 PROGRAM = os.path.join(os.path.dirname(os.path.abspath(__file__)), "..", "crates", "fixacceptor", "out", "fixacceptor")
 PIECE = 8192
 GREATEST = 1_048_576
 JUNK = 4_000_000
 HEAD = b"8=FIX.4.2\x019=1048576\x0135=D\x01"
-
-
-def frame(fields):
-    body = fields.replace("|", "\x01").encode()
-    return sealed(body)
-
-
-def sealed(body):
-    text = b"8=FIX.4.2\x019=%d\x01" % len(body) + body
-    return text + b"10=%03d\x01" % (sum(text) % 256)
 
 
 def session(orders):
@@ -40,12 +32,6 @@ def session(orders):
     for n in range(orders):
         yield frame("35=D|" + head % (n + 2) + "11=ORDER%d|21=1|55=MSFT|54=1|60=%s|38=100|40=2|44=101.25|59=0|" % (n, now))
     yield frame("35=5|" + head % (orders + 2))
-
-
-def written(path, pieces):
-    with open(path, "wb") as out:
-        out.writelines(pieces)
-    return path
 
 
 def small_frames(size):
@@ -125,10 +111,6 @@ def orders(work, count, runs, peer=None):
     return path, best.cpu / count, memory
 
 
-def least(one, other):
-    return other if one is None else min(one, other)
-
-
 def reading(program, mode, path, piece, times, runs):
     """The least CPU time of one reading of the file, in seconds, and how many frames it has."""
     best, frames = None, 0
@@ -144,11 +126,6 @@ def peer_reading(program, path):
     text = subprocess.run([program, path, "1", str(PIECE)], check=True, capture_output=True, text=True).stdout
     found = re.search(r"^both +frames=(\d+) cpu=([0-9.]+)s", text, re.M)
     return float(found.group(2)) / int(found.group(1))
-
-
-def bar(what, ratio, bound, least=False):
-    met = ratio >= bound if least else ratio <= bound
-    print("  %s: %.2f, wanted %s %s: %s" % (what, ratio, "at least" if least else "at most", bound, "met" if met else "MISSED"))
 
 
 def alone(work, program, path, peer, runs):

@@ -13,31 +13,16 @@ import re
 import subprocess
 import tempfile
 
+from measuring import bar, frame, least, written
+
 HERE = os.path.dirname(os.path.abspath(__file__))
 SAMPLES = os.path.join(HERE, "..", "examples")
 HEAD = "34=%d|49=BUY|52=20240102-10:00:00.000|56=SELL|"
 ORDER = "11=A%d|21=1|55=XYZ|54=1|60=20240102-10:00:00|40=1|"
 
 
-def frame(fields, begin="FIX.4.2"):
-    body = fields.replace("|", "\x01").encode()
-    text = b"8=%s\x019=%d\x01" % (begin.encode(), len(body)) + body
-    return text + b"10=%03d\x01" % (sum(text) % 256)
-
-
 def order(number, more="", begin="FIX.4.2"):
     return frame("35=D|" + HEAD % number + ORDER % number + more, begin)
-
-
-def written(work, name, pieces):
-    path = os.path.join(work, name)
-    with open(path, "wb") as out:
-        out.writelines(pieces)
-    return path
-
-
-def least(one, other):
-    return other if one is None else min(one, other)
 
 
 def ours(program, mode, dictionary, path, times):
@@ -51,11 +36,6 @@ def theirs(program, dictionary, path, times):
     text = subprocess.run([program, path, str(times), "8192", dictionary], check=True, capture_output=True, text=True).stdout
     found = re.search(r"^valid +frames=(\d+) cpu=([0-9.]+)s", text, re.M)
     return float(found.group(2)) / int(found.group(1)) * 1e6
-
-
-def bar(what, ratio, bound, at_least=False):
-    met = ratio >= bound if at_least else ratio <= bound
-    print("  %s: %.2f, wanted %s %s: %s" % (what, ratio, "at least" if at_least else "at most", bound, "met" if met else "MISSED"))
 
 
 def beside(given, what, dictionary, peer_dictionary, path, wanted):
@@ -79,7 +59,7 @@ def growth(given, work, what, dictionary, sizes, make):
     """The time for each item of one frame, as the frame grows by tens."""
     times = {}
     for size in sizes:
-        path = written(work, "one", [make(size)])
+        path = written(os.path.join(work, "one"), [make(size)])
         for _ in range(given.runs):
             alone, _ = ours(given.program, "frames", dictionary, path, 3)
             now, faults = ours(given.program, "check", dictionary, path, 3)
@@ -103,7 +83,7 @@ def main():
         for form in ("json", "xml"):
             made[form] = os.path.join(work, "made." + form)
             subprocess.run([os.path.join(HERE, "dictionary.py"), form, made[form]], check=True)
-        orders = written(work, "orders", (order(n) for n in range(1, 10_001)))
+        orders = written(os.path.join(work, "orders"), (order(n) for n in range(1, 10_001)))
         beside(given, "orders by the sample", os.path.join(SAMPLES, "FIX42.json"), given.peer_dictionary, orders, 3)
         beside(given, "orders by 900 fields and 90 types", made["json"], made["xml"], orders, 3)
         sample = os.path.join(SAMPLES, "FIX44.json")

@@ -1,2 +1,3 @@
 mod IntLemmas
 mod PushLemmas
+mod FollowLemmas

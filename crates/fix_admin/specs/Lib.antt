@@ -2,3 +2,4 @@ pub mod Values
 pub mod Lent
 pub mod Admin
 pub mod Say
+pub mod Follows

@@ -1,12 +1,14 @@
 //! Writes the fields of a session message that `fix_machine` decided to send, and those of a
 //! BusinessMessageReject (j). The header isn't written here.
-ghost use Rattle.std.specs.Prelude.{◌≡◌, ◌++◌, ◌∷◌, take, codes, IfOk, OnOk, option_map};
+ghost use Rattle.std.specs.Prelude.{◌≡◌, ◌++◌, ◌+◌, ◌∷◌, take, length, codes, IfOk, OnOk, option_map};
 ghost use Rattle.std.specs.Fmt.{decimal};
-ghost use Rattle.fix_base.specs.Payload.{field};
+ghost use Rattle.fix_base.specs.Frame.{HasNoSoh};
+ghost use Rattle.fix_base.specs.Payload.{field, LONGEST_BODY};
 ghost use Rattle.fix_base.specs.Says.{field_text, fields_text};
 ghost use Rattle.fix_admin.specs.Say.{say_seen, fields_of, business_fields, logon_fields, id_fields, tag_fields};
 ghost use Rattle.fix_admin.specs.Say.{reason_fields, text_fields, reset_fields, version_fields, ref_type};
 ghost use Rattle.fix_admin.specs.Say as says;
+ghost use Rattle.fix_admin.specs.Follows.{MayFollow, GivesBackValues};
 
 use crate::tags::DEFAULT_APPL_VER_ID;
 use crate::texts::{logout_text, reason_text};
@@ -33,6 +35,31 @@ const LAST_REASON_42: u16 = 11;
 /// The fields after the header of what is said, in a session of this version, in the order of
 /// `specs/Say.antt`.
 pub fn build(alloc: Global, begin: Begin, say: &Say<'_>) -> Result<Bytes, OutOfMemory>
+    ensures text { IfOk result (λ out. out ≡ fields_text (fields_of begin (say_seen say.now))) }
+    // They may stand after the header of a frame that is sealed.
+    ensures follows { GivesBackValues (say_seen say.now) → IfOk result (MayFollow LONGEST_BODY) }
+{
+    said(alloc, begin, say)
+}
+
+/// The fields after the header of a BusinessMessageReject (j) of the message with this number and
+/// this MsgType (35). An empty text writes no Text (58).
+pub fn business(
+    alloc: Global,
+    about: u32,
+    kind: &[u8],
+    reason: u16,
+    text: &[u8],
+) -> Result<Bytes, OutOfMemory>
+    ensures text { IfOk result (λ out. out ≡ fields_text (business_fields about kind.now reason text.now)) }
+    // They may stand after the header of a frame that is sealed.
+    ensures follows { HasNoSoh kind.now → HasNoSoh text.now → IfOk result (MayFollow (length text.now + 200)) }
+{
+    refused(alloc, about, kind, reason, text)
+}
+
+// What is said.
+fn said(alloc: Global, begin: Begin, say: &Say<'_>) -> Result<Bytes, OutOfMemory>
     ensures { IfOk result (λ out. out ≡ fields_text (fields_of begin (say_seen say.now))) }
 {
     let mut out = Vec::new(alloc);
@@ -58,9 +85,8 @@ pub fn build(alloc: Global, begin: Begin, say: &Say<'_>) -> Result<Bytes, OutOfM
     Ok(Bytes::from_vec(out))
 }
 
-/// The fields after the header of a BusinessMessageReject (j) of the message with this number and
-/// this MsgType (35). An empty text writes no Text (58).
-pub fn business(
+// A BusinessMessageReject (j).
+fn refused(
     alloc: Global,
     about: u32,
     kind: &[u8],

@@ -4,6 +4,7 @@
 
 mod admin;
 mod building;
+mod laws;
 mod reading;
 mod say;
 mod tags;
@@ -13,4 +14,5 @@ mod texts;
 
 pub use admin::{Admin, read_admin};
 pub use building::{build, business};
+pub use laws::what_may_follow_makes_a_message;
 pub use say::{LogoutText, Say};

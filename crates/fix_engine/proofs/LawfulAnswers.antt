@@ -59,7 +59,7 @@ module _ (id : Identity) (frame : List ℕ) (b : UnreadBytes) where
 
   app_leads : (n : ℕ) (fs : List Field) → HasFields frame fs → Triple id itself (AppDue id b n (body_of fs)) (λ s. Carried id frame s (app_answer n)) (In id b)
   app_leads n fs has =
-      first_of id frame b (AppDue id b n (body_of fs)) (AppGiven id b n (body_of fs)) (In id b) (certain_given id b n (body_of fs)) (do_step.PendingDraft n false) (do_step.Count n ∷ do_step.Nothing ∷ do_step.Nothing ∷ []) (hand_leads id frame b n fs has)
+      first_of id frame b (AppDue id b n (body_of fs)) (AppGiven id b n (body_of fs)) (In id b) (certain_given id b n (body_of fs)) (do_step.Hand n false) (do_step.Count n ∷ do_step.Nothing ∷ do_step.Nothing ∷ []) (hand_leads id frame b n fs has)
       (first_of id frame b (AppGiven id b n (body_of fs)) (In id b) (In id b) (certain_in id b) (do_step.Count n) (do_step.Nothing ∷ do_step.Nothing ∷ []) (count_app_leads id frame b n (body_of fs)) two_idle)
 
 -- ---- the tests of a message

@@ -176,7 +176,7 @@ module _ (id : Identity) (frame : List ℕ) (b : UnreadBytes) where
     unseen = λ m. (let low = f.counted n m in omega (arith, low, f.due));
   }
 
-  pub hand_leads : (n : ℕ) (fs : List Field) → HasFields frame fs → Triple id itself (AppDue id b n (body_of fs)) (λ s. Performed id frame s (do_step.PendingDraft n false)) (AppGiven id b n (body_of fs))
+  pub hand_leads : (n : ℕ) (fs : List Field) → HasFields frame fs → Triple id itself (AppDue id b n (body_of fs)) (λ s. Performed id frame s (do_step.Hand n false)) (AppGiven id b n (body_of fs))
   hand_leads n fs has s notes r s' (answer.taken k marked fields had) e f =
       let same : fields ≡ fs = has_same frame fields fs had has in
       let c = f.connection in

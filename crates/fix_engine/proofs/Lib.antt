@@ -1,9 +1,11 @@
 pub mod FoldLemmas
+pub mod FoldLaws
 pub mod FrameLemmas
 pub mod InboundLemmas
 pub mod SaidLemmas
 pub mod Carrying
 pub mod Begun
+pub mod EndedLemmas
 pub mod TakenLemmas
 pub mod BeginLemmas
 pub mod Causes
@@ -18,9 +20,13 @@ pub mod DraftLeads
 pub mod LawfulRuns
 pub mod EachTime
 pub mod EachFrame
+pub mod Complete
 pub mod Settled
 pub mod Turns
+pub mod CompleteAnswers
+pub mod CompleteDrafts
 pub mod Prefix
+pub mod OneRun
 pub mod RunActs
 pub mod WritingLemmas
 pub mod InStepLemmas

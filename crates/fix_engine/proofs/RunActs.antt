@@ -7,22 +7,22 @@ use Rattle.fix_base.specs.declared.act.Act.{Act}
 use Rattle.fix_base.specs.declared.act.Act.TheVariants as act
 use Rattle.fix_base.specs.Reader.{AreOfOneConnection}
 use Rattle.fix_base.specs.Payload.{LAST_TIME, IsPersistentEntry}
-use Rattle.fix_base.specs.Trace.{Note, Did, acts_of}
+use Rattle.fix_base.specs.Trace.{Note, acts_of}
 use Rattle.fix_base.proofs.SeenLemmas.{acts_of-append}
 use Rattle.fix_fields.specs.Drafted.{DraftText}
 use Rattle.fix_engine.specs.State.{State, Ending, Step, Say, Logon, Logout, with_last, counted}
-use Rattle.fix_engine.specs.Fold.{Each, none, ends, goes, AndThen, first_ends, both}
 use Rattle.fix_engine.specs.Answer.{Performed, entry_of, nothing, count, go_up, close, give_up, taken, hand_lost}
 use Rattle.fix_engine.specs.Answer.{hand_memory, spent, keep_memory, keep_lost, sent, write_lost, write_memory}
 use Rattle.fix_engine.specs.declared.stop.SendFault.{SendFault}
 use Rattle.fix_engine.specs.Drafted as drafted
 use Rattle.fix_engine.specs.Drafted.{KeepsDraft, Drafting}
 use Rattle.fix_engine.specs.InStep.{IsOfRun, AreOfRun}
-use Rattle.fix_engine.specs.Reading.{ConnectionSeen, AnswerFrames, no_more, ends as ends_at, goes as goes_on, fed_frames, fed_memory, ReadFrames}
+use Rattle.fix_engine.specs.Reading.{ConnectionSeen, AnswerFrames, fed_frames, fed_memory, ReadFrames}
 use Rattle.fix_engine.specs.Reading.{bytes, idle, over, read_lost, read_memory, ReadClock, now, now_memory, StoreExpected}
 use Rattle.fix_engine.specs.Reading.{same, kept, expect_lost, expect_memory}
 use Rattle.fix_engine.specs.Turn as turns
-use Rattle.fix_engine.specs.Turn.{TurnSeen, SendDraft, SendPending, OfferDraft, Beside, SendReadClock, Turn, RunAndCut}
+use Rattle.fix_engine.specs.Turn.{TurnSeen, SendDraft, SendPending, OfferDraft, Beside, SendReadClock, RunAndCut}
+use Rattle.fix_engine.proofs.FoldLaws.{Composes, Has, each_has, then_has, frames_have, ComposesRuns, run_has}
 use Rattle.fix_engine.proofs.DraftFrames.{draft_persistent}
 
 pub of_run-append : (xs ys : List Act) → AreOfRun xs → AreOfRun ys → AreOfRun (xs ++ ys)
@@ -54,14 +54,15 @@ plainly_then t u v xs ys first more h =
     let b = more a.1 in
     (IsRun-append xs ys a.0 b.0, b.1)
 
-Each-plainly : {S X : Type 0} (time : S → ℕ) {R : S → X → List Note → Result ⊤ Ending → S → Type 0} {s s' : S}
-    {xs : List X} {notes : List Note} {r : Result ⊤ Ending} →
-    ((s : S) (x : X) (notes : List Note) (r : Result ⊤ Ending) (s' : S) → R s x notes r s' →
-    Plainly (time s) notes (time s')) → Each R s xs notes r s' → Plainly (time s) notes (time s')
-Each-plainly time each none = λ h. (tt, h)
-Each-plainly time each (ends d) = each _ _ _ _ _ d
-Each-plainly time {s = s} {s' = s'} each (goes {mid = mid} {first = first} {more = more} d others) =
-    plainly_then (time s) (time mid) (time s') first more (each _ _ _ _ _ d) (Each-plainly time each others)
+-- of what has a reading
+abbrev OfRun : {S : Type 0} → (S → ℕ) → S → List Note → Result ⊤ Ending → S → Type 0
+OfRun time s notes r to = Plainly (time s) notes (time to)
+
+parts_plainly : {S : Type 0} (time : S → ℕ) → Composes (OfRun time)
+parts_plainly time = record {
+  nothing = λ s h. (tt, h);
+  then = λ s mid to first more r h k. plainly_then (time s) (time mid) (time to) first more h k;
+}
 
 -- an entry that a session keeps may be sent again
 said_persistent : (s : State) (say : Say) → s.reading ≤ LAST_TIME → IsPersistentEntry (entry_of s say)
@@ -78,72 +79,59 @@ counted_reading : (s : State) (n : Option ℕ) → (counted s n).reading ≡ s.r
 counted_reading s None = refl
 counted_reading s (Some n) = refl
 
-Performed-plainly : (id : Identity) (frame : List ℕ) (s : State) (x : Step) (notes : List Note) (r : Result ⊤ Ending)
-    (s' : State) → Performed id frame s x notes r s' → Plainly s.reading notes s'.reading
-Performed-plainly id frame s x notes r s' nothing = λ h. (tt, h)
-Performed-plainly id frame s x notes r s' (count n) = λ h. (tt, h)
-Performed-plainly id frame s x notes r s' go_up = λ h. (tt, h)
-Performed-plainly id frame s x notes r s' (close why) = λ h. (tt, h)
-Performed-plainly id frame s x notes r s' (give_up n) = λ h. (tt, h)
-Performed-plainly id frame s x notes r s' (taken n marked fields has) = λ h. ((tt, tt), h)
-Performed-plainly id frame s x notes r s' (hand_lost n marked fields has) = λ h. ((tt, tt), h)
-Performed-plainly id frame s x notes r s' (hand_memory n marked) = λ h. (tt, h)
-Performed-plainly id frame s x notes r s' (spent say n k) = λ h. (tt, h)
-Performed-plainly id frame s x notes r s' (keep_memory say n k) = λ h. (tt, h)
-Performed-plainly id frame s x notes r s' (keep_lost say n k) = λ h. ((said_persistent s say h, tt), h)
-Performed-plainly id frame s x notes r s' (sent say n text k said) = λ h. ((said_persistent s say h, (tt, tt)), h)
-Performed-plainly id frame s x notes r s' (write_lost say n text many k said) =
-    λ h. (
-      (said_persistent s say h, (tt, tt)),
-      subst (λ t. t ≤ LAST_TIME) (sym (counted_reading (with_last s (s.last + 1)) n)) h,
-    )
-Performed-plainly id frame s x notes r s' (write_memory say n k) = λ h. ((said_persistent s say h, tt), h)
-
 abbrev reading_of : State → ℕ
 reading_of s = s.reading
 
 abbrev time_of : ConnectionSeen → ℕ
 time_of l = l.state.reading
 
-AnswerFrames-plainly : (id : Identity) (l : ConnectionSeen) (notes : List Note) (r : Result ⊤ Ending) (to : ConnectionSeen) →
-    AnswerFrames id l notes r to → Plainly l.state.reading notes to.state.reading
-AnswerFrames-plainly id l notes r to (no_more gives) = λ h. (tt, h)
-AnswerFrames-plainly id l notes r to (ends_at frame gives h) = Each-plainly reading_of (Performed-plainly id frame) h.carried
-AnswerFrames-plainly id l notes r to (goes_on {s = s} {mid = mid} {first = first} {more = more} frame gives h others) =
-    plainly_then s.reading mid.reading to.state.reading first more
-    (Each-plainly reading_of (Performed-plainly id frame) h.carried) (AnswerFrames-plainly id _ _ _ _ others)
+abbrev time_at : TurnSeen → ℕ
+time_at d = d.connection.state.reading
 
-ReadFrames-plainly : (id : Identity) (l : ConnectionSeen) (notes : List Note) (r : Result ⊤ Ending) (to : ConnectionSeen) →
-    ReadFrames id l notes r to → Plainly l.state.reading notes to.state.reading
-ReadFrames-plainly id l notes r to (bytes b some fits (fed_frames d)) =
-    λ h. (let t = AnswerFrames-plainly id _ _ _ _ d h in ((tt, t.0), t.1))
+Performed-plainly : (id : Identity) (frame : List ℕ) (x : Step) → Has (OfRun reading_of) (λ s. Performed id frame s x)
+Performed-plainly id frame x s notes r to nothing = λ h. (tt, h)
+Performed-plainly id frame x s notes r to (count n) = λ h. (tt, h)
+Performed-plainly id frame x s notes r to go_up = λ h. (tt, h)
+Performed-plainly id frame x s notes r to (close why) = λ h. (tt, h)
+Performed-plainly id frame x s notes r to (give_up n) = λ h. (tt, h)
+Performed-plainly id frame x s notes r to (taken n marked fields has) = λ h. ((tt, tt), h)
+Performed-plainly id frame x s notes r to (hand_lost n marked fields has) = λ h. ((tt, tt), h)
+Performed-plainly id frame x s notes r to (hand_memory n marked) = λ h. (tt, h)
+Performed-plainly id frame x s notes r to (spent say n k) = λ h. (tt, h)
+Performed-plainly id frame x s notes r to (keep_memory say n k) = λ h. (tt, h)
+Performed-plainly id frame x s notes r to (keep_lost say n k) = λ h. ((said_persistent s say h, tt), h)
+Performed-plainly id frame x s notes r to (sent say n text k said) = λ h. ((said_persistent s say h, (tt, tt)), h)
+Performed-plainly id frame x s notes r to (write_lost say n text many k said) =
+    λ h. (
+      (said_persistent s say h, (tt, tt)),
+      subst (λ t. t ≤ LAST_TIME) (sym (counted_reading (with_last s (s.last + 1)) n)) h,
+    )
+Performed-plainly id frame x s notes r to (write_memory say n k) = λ h. ((said_persistent s say h, tt), h)
+
+AnswerFrames-plainly : (id : Identity) → Has (OfRun time_of) (AnswerFrames id)
+AnswerFrames-plainly id = frames_have id (OfRun time_of) (parts_plainly time_of) (λ s a b gives h. (tt, h))
+    (λ s to a b frame notes r gives h.
+    each_has (OfRun reading_of) (Performed id frame) (parts_plainly reading_of) (Performed-plainly id frame) _ s notes r to
+    h.carried)
+
+ReadFrames-plainly : (id : Identity) → Has (OfRun time_of) (ReadFrames id)
+ReadFrames-plainly id l notes r to (bytes {more = more} b some fits (fed_frames d)) =
+    λ h. (let t = AnswerFrames-plainly id _ more r to d h in ((tt, t.0), t.1))
 ReadFrames-plainly id l notes r to (bytes b some fits fed_memory) = λ h. ((tt, tt), h)
 ReadFrames-plainly id l notes r to idle = λ h. ((tt, tt), h)
 ReadFrames-plainly id l notes r to over = λ h. ((tt, tt), h)
 ReadFrames-plainly id l notes r to read_lost = λ h. (tt, h)
 ReadFrames-plainly id l notes r to read_memory = λ h. (tt, h)
 
-ReadClock-plainly : (l : ConnectionSeen) (notes : List Note) (r : Result ⊤ Ending) (to : ConnectionSeen) → ReadClock l notes r to →
-    Plainly l.state.reading notes to.state.reading
+ReadClock-plainly : Has (OfRun time_of) ReadClock
 ReadClock-plainly l notes r to (now t) = λ h. ((tt, tt), omega arith)
 ReadClock-plainly l notes r to now_memory = λ h. (tt, h)
 
-StoreExpected-plainly : (l : ConnectionSeen) (notes : List Note) (r : Result ⊤ Ending) (to : ConnectionSeen) → StoreExpected l notes r to →
-    Plainly l.state.reading notes to.state.reading
+StoreExpected-plainly : Has (OfRun time_of) StoreExpected
 StoreExpected-plainly l notes r to (same k) = λ h. (tt, h)
 StoreExpected-plainly l notes r to (kept k) = λ h. ((tt, tt), h)
 StoreExpected-plainly l notes r to (expect_lost k) = λ h. ((tt, tt), h)
 StoreExpected-plainly l notes r to (expect_memory k) = λ h. (tt, h)
-
--- one part, and then the other
-AndThen-plainly : {S : Type 0} (time : S → ℕ) {A B : S → List Note → Result ⊤ Ending → S → Type 0} {s s' : S}
-    {notes : List Note} {r : Result ⊤ Ending} →
-    ((s : S) (notes : List Note) (r : Result ⊤ Ending) (s' : S) → A s notes r s' → Plainly (time s) notes (time s')) →
-    ((s : S) (notes : List Note) (r : Result ⊤ Ending) (s' : S) → B s notes r s' → Plainly (time s) notes (time s')) →
-    AndThen A B s notes r s' → Plainly (time s) notes (time s')
-AndThen-plainly time one other (first_ends d) = one _ _ _ _ d
-AndThen-plainly time {s = s} {s' = s'} one other (both {mid = mid} {first = first} {more = more} d others) =
-    plainly_then (time s) (time mid) (time s') first more (one _ _ _ _ d) (other _ _ _ _ others)
 
 -- ---- a draft
 
@@ -184,39 +172,28 @@ OfferDraft-plainly id d notes r to (turns.was_in_hand draft up is k) = SendDraft
 
 -- ---- a turn, and a run
 
-abbrev time_at : TurnSeen → ℕ
-time_at d = d.connection.state.reading
+Beside-plainly : {R : ConnectionSeen → List Note → Result ⊤ Ending → ConnectionSeen → Type 0} → Has (OfRun time_of) R →
+    Has (OfRun time_at) (Beside R)
+Beside-plainly one d notes r to (turns.beside {to = mid} k) = one d.connection notes r mid k
 
-Beside-plainly : {R : ConnectionSeen → List Note → Result ⊤ Ending → ConnectionSeen → Type 0} →
-    ((l : ConnectionSeen) (notes : List Note) (r : Result ⊤ Ending) (to : ConnectionSeen) → R l notes r to →
-    Plainly l.state.reading notes to.state.reading) →
-    (d : TurnSeen) (notes : List Note) (r : Result ⊤ Ending) (to : TurnSeen) → Beside R d notes r to →
-    Plainly d.connection.state.reading notes to.connection.state.reading
-Beside-plainly part d notes r to (turns.beside {to = mid} k) = part d.connection notes r mid k
+SendReadClock-plainly : (id : Identity) → Has (OfRun time_at) (SendReadClock id)
+SendReadClock-plainly id = then_has (OfRun time_at) (OfferDraft id) _ (parts_plainly time_at) (OfferDraft-plainly id)
+    (Beside-plainly (then_has (OfRun time_of) (ReadFrames id) ReadClock (parts_plainly time_of) (ReadFrames-plainly id)
+    ReadClock-plainly))
 
-HeardClocked-plainly : (id : Identity) (l : ConnectionSeen) (notes : List Note) (r : Result ⊤ Ending) (to : ConnectionSeen) →
-    AndThen (ReadFrames id) ReadClock l notes r to → Plainly l.state.reading notes to.state.reading
-HeardClocked-plainly id l notes r to = AndThen-plainly time_of (ReadFrames-plainly id) ReadClock-plainly
-
-SendReadClock-plainly : (id : Identity) {d to : TurnSeen} {notes : List Note} {r : Result ⊤ Ending} → SendReadClock id d notes r to →
-    Plainly d.connection.state.reading notes to.connection.state.reading
-SendReadClock-plainly id = AndThen-plainly time_at (OfferDraft-plainly id) (Beside-plainly (HeardClocked-plainly id))
-
-Turn-plainly : (id : Identity) (d : TurnSeen) (u : ⊤) (notes : List Note) (r : Result ⊤ Ending) (to : TurnSeen) →
-    Turn id d notes r to → Plainly d.connection.state.reading notes to.connection.state.reading
-Turn-plainly id d u notes r to (turns.stops h k) = SendReadClock-plainly id k
-Turn-plainly id d u notes r to (turns.keeps {mid = mid} {first = first} {more = more} h k last) =
-    plainly_then d.connection.state.reading mid.connection.state.reading to.connection.state.reading first more (SendReadClock-plainly id k)
-    (Beside-plainly StoreExpected-plainly _ _ _ _ last)
-Turn-plainly id d u notes r to (turns.keeps_not {mid = mid} {first = first} {more = more} h k last) =
-    plainly_then d.connection.state.reading mid.connection.state.reading to.connection.state.reading first more (SendReadClock-plainly id k)
-    (Beside-plainly StoreExpected-plainly _ _ _ _ last)
+runs_plainly : ComposesRuns (OfRun time_at)
+runs_plainly = record {
+  parts = parts_plainly time_at;
+  stored = λ d mid to first more met h k. plainly_then (time_at d) (time_at mid) (time_at to) first more h k;
+  not_stored = λ d mid to first more met e h k. plainly_then (time_at d) (time_at mid) (time_at to) first more h k;
+  cut = λ d to notes e h. plainly_then (time_at d) (time_at to) (time_at to) notes _ h (λ t. ((tt, tt), t));
+  cut_memory = λ d to notes e h. h;
+  no_cut = λ d to notes e h. h;
+}
 
 -- the acts of a run, from a reading on that is before the end of 2099
 pub RunAndCut-plainly : (id : Identity) (n : ℕ) (d : TurnSeen) (notes : List Note) (r : Result ⊤ Ending) (to : TurnSeen) →
     RunAndCut id n d notes r to → d.connection.state.reading ≤ LAST_TIME → IsRun notes
-RunAndCut-plainly id n d notes r to (turns.all_turns k) h = (Each-plainly time_at (Turn-plainly id) k h).0
-RunAndCut-plainly id n d notes r to (turns.cut {notes = first} c k) h =
-    IsRun-append first (Did act.Cut ∷ []) (Each-plainly time_at (Turn-plainly id) k h).0 (tt, tt)
-RunAndCut-plainly id n d notes r to (turns.cut_memory c k) h = (Each-plainly time_at (Turn-plainly id) k h).0
-RunAndCut-plainly id n d notes r to (turns.no_cut c k) h = (Each-plainly time_at (Turn-plainly id) k h).0
+RunAndCut-plainly id n d notes r to k h =
+    (run_has id (OfRun time_at) runs_plainly (SendReadClock-plainly id) (Beside-plainly StoreExpected-plainly) n d notes r to k
+    h).0

@@ -82,7 +82,7 @@ logout_answer n = step.Count n ∷ step.Send Logout None ∷ step.Close (LoggedO
 
 -- an application message is handed over, and counted
 abbrev pub app_answer : ℕ → List Step
-app_answer n = step.PendingDraft n false ∷ step.Count n ∷ step.Nothing ∷ step.Nothing ∷ []
+app_answer n = step.Hand n false ∷ step.Count n ∷ step.Nothing ∷ step.Nothing ∷ []
 
 abbrev pub first_answer : Identity → State → InboundSeen → List Step
 first_answer id s i =
@@ -139,12 +139,12 @@ pub data Performed (id : Identity) (frame : List ℕ) (s : State) : Step → Lis
   close : (why : Why) → Performed id frame s (step.Close why) [] (Err (ending.Closed why)) (with_phase s Down)
   give_up : (n : ℕ) → Performed id frame s (step.GiveUp n) [] (Err (ending.NotBuilt n)) (with_phase s Down)
   taken : (n : ℕ) (marked : Bool) (fields : List Field) → HasFields frame fields
-      → Performed id frame s (step.PendingDraft n marked) (Did (act.Handed n marked (body_of fields)) ∷ []) (Ok tt) s
+      → Performed id frame s (step.Hand n marked) (Did (act.Handed n marked (body_of fields)) ∷ []) (Ok tt) s
   hand_lost : (n : ℕ) (marked : Bool) (fields : List Field) → HasFields frame fields
-      → Performed id frame s (step.PendingDraft n marked)
+      → Performed id frame s (step.Hand n marked)
       (Did (act.HandLost n marked (body_of fields)) ∷ Failed AppPart ∷ []) (Err ending.AppFault) s
   hand_memory : (n : ℕ) (marked : Bool)
-      → Performed id frame s (step.PendingDraft n marked) [] (Err ending.OutOfMemory) s
+      → Performed id frame s (step.Hand n marked) [] (Err ending.OutOfMemory) s
   spent : (say : Say) (n : Option ℕ) → 999999999 ≤ s.last
       → Performed id frame s (step.Send say n) [] (Err ending.NumbersSpent) s
   -- out of memory before the entry was kept

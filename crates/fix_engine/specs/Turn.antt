@@ -1,14 +1,17 @@
 -- The turns of a session: a draft of the application is sent, what comes over the connection is answered, the clock
 -- is read, and the expected number is kept.
 use Rattle.std.specs.Prelude.{◌≡◌, ◌≢◌, ◌<◌, ◌≤◌, ◌==◌, ◌&&◌, ◌∷◌, ◌++◌, if◌then◌else◌, nat_lt, ℕ, List, [], true}
-use Rattle.std.specs.Prelude.{false, Option, Some, None, option_map, Result, Ok, Err, ⊤, replicate}
+use Rattle.std.specs.Prelude.{false, Bool, Option, Some, None, option_map, Result, Ok, Err, ⊤, replicate, length}
 use Rattle.fix_base.specs.declared.identity.Identity.{Identity}
 use Rattle.fix_base.specs.declared.act.Act.TheVariants as act
-use Rattle.fix_base.specs.Trace.{Note, Did, Asked}
+use Rattle.fix_base.specs.Session.{IsValidIdentity}
+use Rattle.fix_base.specs.declared.bytes.OutOfMemory.{OutOfMemory}
+use Rattle.fix_base.specs.Trace.{Note, Did, Asked, OutsideSeen}
 use Rattle.fix_fields.specs.Drafted.{DraftText, IsDraft, draft_body}
 use Rattle.fix_engine.specs.declared.pending.PendingDraft.{PendingDraft}
 use Rattle.fix_engine.specs.declared.stop.SendFault.{SendFault}
-use Rattle.fix_engine.specs.State.{State, Up, Ending}
+use Rattle.fix_engine.specs.declared.work.Work.{Work}
+use Rattle.fix_engine.specs.State.{State, Up, Ending, IsInRange}
 use Rattle.fix_engine.specs.declared.state.Ending.TheVariants as ending
 use Rattle.fix_engine.specs.Fold.{Each, AndThen}
 use Rattle.fix_engine.specs.Reading.{ConnectionSeen, connection_seen, ReadFrames, ReadClock, StoreExpected, down}
@@ -43,6 +46,18 @@ pub record TurnSeen : Type 0 where
 
 abbrev pub turn_seen : ConnectionSeen → PendingDraft → TurnSeen
 turn_seen l h = record { connection = l; pending = h }
+
+-- what contracts see of what a turn works on
+abbrev pub work_seen : Work → TurnSeen
+work_seen w = turn_seen (connection_seen w.state w.reader.unread) w.pending
+
+-- What each part of a turn is called with, and what it leaves: the identity is valid, the numbers are in range, the
+-- store is open with so many entries, if it is open, and there is room for one read.
+pub record IsReadyToTurn (id : Identity) (w : OutsideSeen) (open_at : Option ℕ) (work : Work) : Type 0 where
+  pub valid : IsValidIdentity id
+  pub range : IsInRange work.state
+  pub opens : w.open_at ≡ open_at
+  pub room : length work.room.items ≡ 65536
 
 -- the draft is sent under the next number, if there is one
 pub data SendDraft (id : Identity) (draft : DraftText) (d : TurnSeen) : List Note → Result ⊤ Ending → TurnSeen
@@ -105,6 +120,12 @@ TakeTurns id n d = Each (OneTurn id) d (replicate n tt)
 
 abbrev pub put_down : TurnSeen → TurnSeen
 put_down d = turn_seen (down d.connection) d.pending
+
+-- a connection ends: Cut is noted, or it isn't to be
+pub data EndsConnection : Bool → Result ⊤ OutOfMemory → List Note → Type 0 where
+  not_cut : EndsConnection false (Ok tt) []
+  was_cut : EndsConnection true (Ok tt) (Did act.Cut ∷ [])
+  no_memory_to_cut : (why : OutOfMemory) → EndsConnection true (Err why) []
 
 -- the turns, and what is noted after their end
 pub data RunAndCut (id : Identity) (n : ℕ) (d : TurnSeen) : List Note → Result ⊤ Ending → TurnSeen → Type 0 where

@@ -11,6 +11,7 @@ ghost use Rattle.fix_engine.specs.Faults.{open_sent};
 
 use crate::context::Context;
 use crate::faults::is_cut_sent;
+use crate::leaving::end_connection;
 use crate::state::take_reading;
 use crate::writing::header;
 use crate::{KeepFault, Outside, Phase, SendFault, State};
@@ -33,19 +34,12 @@ pub fn send_and_cut<O: Outside>(
     ensures notes { HasTrace (O.seen o.old) (O.seen o.new)
         (λ notes. SentTo context.now.identity draft.now state.old notes result state.new) }
 {
-    let sent = send_at_time(o, context, state, draft);
-    match sent {
+    match send_at_time(o, context, state, draft) {
         Ok(number) => Ok(number),
-        Err(fault) => {
-            state.phase = Phase::Down;
-            if !is_cut_sent(&fault) {
-                return Err(fault);
-            }
-            match o.mark(true) {
-                Ok(()) => Err(fault),
-                Err(_) => Err(SendFault::OutOfMemory),
-            }
-        }
+        Err(fault) => match end_connection(o, state, is_cut_sent(&fault)) {
+            Ok(()) => Err(fault),
+            Err(_) => Err(SendFault::OutOfMemory),
+        },
     }
 }
 

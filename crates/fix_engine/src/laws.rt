@@ -1,5 +1,5 @@
 //! What holds of a session whatever it is called with, each law on a function that does nothing.
-ghost use Rattle.std.specs.Prelude.{◌≡◌, List, Some, None};
+ghost use Rattle.std.specs.Prelude.{◌≡◌, ◌+◌, ◌++◌, ℕ, List, [], Some, None};
 ghost use Rattle.fix_base.specs.Lists.{IsPrefixOf};
 ghost use Rattle.fix_base.specs.Session.{mirrored};
 ghost use Rattle.fix_base.specs.Payload.{IsPersistent};
@@ -13,8 +13,9 @@ ghost use Rattle.fix_base.specs.Agrees.{Agrees};
 ghost use Rattle.fix_base.specs.Reader.{bytes_read, ReaderKeepsUp};
 ghost use Rattle.fix_engine.specs.State.{first_state};
 ghost use Rattle.fix_engine.specs.Reading.{ConnectionSeen, connection_seen};
-ghost use Rattle.fix_engine.specs.Run.{no_bytes};
-ghost use Rattle.fix_engine.specs.Turn.{no_draft};
+ghost use Rattle.fix_engine.specs.Run.{no_bytes, RunsTo};
+ghost use Rattle.fix_base.specs.Trace.{Note};
+ghost use Rattle.fix_engine.specs.Turn.{TurnSeen, no_draft};
 ghost use Rattle.fix_engine.specs.InStep.{IsTape, IsStored, IsInStep, HasServed, bytes_written};
 
 use crate::{Outside, RunEnd};
@@ -49,6 +50,15 @@ pub fn two_sessions_agree()
         (x : HasServed id first a mine opened acts) (y : HasServed (mirrored id) second b theirs facing others) →
         IsPersistent mine.end → IsPrefixOf (bytes_read others) (bytes_written acts) →
         Agrees theirs.end.stored theirs.handled mine.end → Agrees theirs.expected theirs.handled mine.end → ReaderKeepsUp mine.end x.to.end others y.to }
+{}
+
+/// Runs of `run_turns` one after another are one run: what holds of a run holds of several calls, where each
+/// but the last made all its turns.
+pub fn runs_are_one_run()
+    ensures of_two { (id : Identity) (m n : ℕ) (from mid to : TurnSeen) (answer : RunEnd) (first more : List Note) →
+        RunsTo id m from RunEnd.TurnsSpent mid first → RunsTo id n mid answer to more
+        → RunsTo id (m + n) from answer to (first ++ more) }
+    ensures of_none { (id : Identity) (from : TurnSeen) → RunsTo id 0 from RunEnd.TurnsSpent from [] }
 {}
 
 /// A process that stopped, at whatever moment, and starts again with the numbers that its store

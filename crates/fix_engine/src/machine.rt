@@ -126,7 +126,7 @@ fn application(number: SeqNum) -> Decision
 {
     Decision {
         steps: [
-            Step::PendingDraft {
+            Step::Hand {
                 number,
                 marked: false,
             },

@@ -4,18 +4,16 @@
 ghost use Rattle.std.specs.Prelude.{◌≡◌, ◌==◌, ◌∷◌, [], if◌then◌else◌, Some, None, IfSome, option_map};
 ghost use Rattle.fix_base.specs.Trace.{HasTrace, Trace, Asked};
 ghost use Rattle.fix_fields.specs.Drafted.{draft_body, IsDraft};
-ghost use Rattle.fix_engine.specs.Ready.{IsReady};
 ghost use Rattle.fix_engine.specs.Faults.{open_behind};
-ghost use Rattle.fix_engine.specs.Reading.{connection_seen};
-ghost use Rattle.fix_engine.specs.Turn.{turn_seen, no_draft, pending_reopened, SendPending, OfferDraft};
+ghost use Rattle.fix_engine.specs.Turn.{work_seen, IsReadyToTurn, no_draft, pending_reopened, SendPending, OfferDraft};
 
 use crate::context::Context;
 use crate::drafting::send_draft;
 use crate::faults::{ending_of, is_lost};
-use crate::{Ending, Outside, Phase, State};
+use crate::work::Work;
+use crate::{Ending, Outside, Phase};
 use fix_base::LAST_SEQ_NUM;
 use fix_fields::Draft;
-use fix_frame::Reader;
 
 /// The draft that a session has in hand: the application gave it, and its entry isn't kept yet.
 #[derive(Drop)]
@@ -27,26 +25,19 @@ pub struct PendingDraft {
 
 /// In phase Up, asks the application for a draft, unless one is in hand, and sends what is in hand
 /// then.
-pub fn offer_draft<O: Outside>(
-    o: &mut O,
-    context: &Context,
-    state: &mut State,
-    reader: &Reader,
-    pending: &mut PendingDraft,
-) -> Result<(), Ending>
-    requires ready { IsReady context.now.identity (O.seen o.old) (Some state.old.last) state.old }
-    ensures ready { IsReady context.now.identity (O.seen o.new) (open_behind result state.new) state.new }
+pub fn offer_draft<O: Outside>(o: &mut O, context: &Context, work: &mut Work) -> Result<(), Ending>
+    requires ready { IsReadyToTurn context.now.identity (O.seen o.old) (Some work.old.state.last) work.old }
+    ensures ready { IsReadyToTurn context.now.identity (O.seen o.new) (open_behind result work.new.state) work.new }
     ensures notes { HasTrace (O.seen o.old) (O.seen o.new)
-        (λ notes. OfferDraft context.now.identity (turn_seen (connection_seen state.old reader.now.unread) pending.old) notes result
-        (turn_seen (connection_seen state.new reader.now.unread) pending.new)) }
+        (λ notes. OfferDraft context.now.identity (work_seen work.old) notes result (work_seen work.new)) }
 {
-    match state.phase {
+    match work.state.phase {
         Phase::Up => {
-            if pending.draft.is_some() {
-                return send_pending(o, context, state, reader, pending);
+            if work.pending.draft.is_some() {
+                return send_pending(o, context, work);
             }
-            ask_for(o, pending);
-            send_pending(o, context, state, reader, pending)
+            ask_for(o, &mut work.pending);
+            send_pending(o, context, work)
         }
         Phase::AwaitLogon => Ok(()),
         Phase::Down => Ok(()),
@@ -76,30 +67,23 @@ pub fn pending_is_draft(pending: &PendingDraft)
 
 // Sends the draft in hand, if there is one, under the next number. It stays in hand until its entry
 // is kept.
-fn send_pending<O: Outside>(
-    o: &mut O,
-    context: &Context,
-    state: &mut State,
-    reader: &Reader,
-    pending: &mut PendingDraft,
-) -> Result<(), Ending>
-    requires ready { IsReady context.now.identity (O.seen o.old) (Some state.old.last) state.old }
-    ensures ready { IsReady context.now.identity (O.seen o.new) (open_behind result state.new) state.new }
+fn send_pending<O: Outside>(o: &mut O, context: &Context, work: &mut Work) -> Result<(), Ending>
+    requires ready { IsReadyToTurn context.now.identity (O.seen o.old) (Some work.old.state.last) work.old }
+    ensures ready { IsReadyToTurn context.now.identity (O.seen o.new) (open_behind result work.new.state) work.new }
     ensures notes { HasTrace (O.seen o.old) (O.seen o.new)
-        (λ notes. SendPending context.now.identity (turn_seen (connection_seen state.old reader.now.unread) pending.old) notes result
-        (turn_seen (connection_seen state.new reader.now.unread) pending.new)) }
+        (λ notes. SendPending context.now.identity (work_seen work.old) notes result (work_seen work.new)) }
 {
-    pending_is_draft(pending);
-    let Some(draft) = &pending.draft else {
+    pending_is_draft(&work.pending);
+    let Some(draft) = &work.pending.draft else {
         return Ok(());
     };
-    if state.last >= LAST_SEQ_NUM {
-        pending.store_failed = false;
+    if work.state.last >= LAST_SEQ_NUM {
+        work.pending.store_failed = false;
         return Err(Ending::NumbersSpent);
     }
-    let before = state.last;
-    let sent = send_draft(o, context, state, draft);
-    keep_pending(pending, before, state.last, is_lost(&sent));
+    let before = work.state.last;
+    let sent = send_draft(o, context, &mut work.state, draft);
+    keep_pending(&mut work.pending, before, work.state.last, is_lost(&sent));
     ending_of(&sent)
 }
 

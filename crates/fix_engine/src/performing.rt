@@ -71,7 +71,7 @@ fn perform<O: Outside>(
             state.phase = Phase::Down;
             Err(Ending::NotBuilt { number })
         }
-        Step::PendingDraft { number, marked } => hand(o, context, inbound, state, number, marked),
+        Step::Hand { number, marked } => hand(o, context, inbound, state, number, marked),
         Step::Send { say, counts } => send(o, context, state, say, counts),
     }
 }
@@ -89,7 +89,7 @@ fn hand<O: Outside>(
     ensures opens { (O.seen o.new).open_at ≡ (O.seen o.old).open_at }
     ensures fault { result ≢ Err Ending.StoreFault }
     ensures notes { HasTrace (O.seen o.old) (O.seen o.new)
-        (λ notes. Performed context.now.identity inbound.entry.now.frame.now state.now (step.PendingDraft number marked) notes
+        (λ notes. Performed context.now.identity inbound.entry.now.frame.now state.now (step.Hand number marked) notes
         result state.now) }
 {
     let body = match body_of(context.alloc, inbound.frame) {

@@ -28,6 +28,7 @@ use crate::faults::{answer_of, stop_by, stop_of, stop_of_sent};
 use crate::pending::{PendingDraft, pending_is_draft, settle_pending};
 use crate::state::take_reading;
 use crate::turn::{ROOM, run_and_cut};
+use crate::work::Work;
 use crate::{BeginFault, LoadFault, Outside, Phase, RunEnd, SendFault, State, StopCause};
 use fix_base::{Act, Identity, LAST_SEQ_NUM, SeqNum, Stored};
 use fix_fields::Draft;
@@ -41,17 +42,14 @@ use std::marker::Model;
 #[derive(Drop)]
 pub struct Session {
     context: Context,
-    state: State,
-    reader: Reader,
-    room: Vec<u8>,
-    pending: PendingDraft,
+    work: Work,
     stopped: Option<StopCause>,
 }
 
 impl Model for Session {
-    ghost use Rattle.std.specs.Prelude.{◌≡◌, length, false, None};
+    ghost use Rattle.std.specs.Prelude.{◌≡◌, length, false, None, IfSome};
     ghost use Rattle.fix_base.specs.Session.{IsValidIdentity};
-    ghost use Rattle.fix_engine.specs.State.{IsInRange};
+    ghost use Rattle.fix_engine.specs.State.{IsInRange, Down};
     ghost use Rattle.fix_engine.specs.Reading.{connection_seen};
     ghost use Rattle.fix_engine.specs.Run.{SessionSeen};
 
@@ -59,14 +57,15 @@ impl Model for Session {
 
     ghost view = { λ s. record {
       identity = s.context.identity;
-      connection = connection_seen s.state s.reader.unread;
-      pending = s.pending;
+      connection = connection_seen s.work.state s.work.reader.unread;
+      pending = s.work.pending;
       stopped =
           s.stopped;
     } };
 
-    ghost invariant = { λ s. IsValidIdentity s.context.identity × IsInRange s.state × (length s.room.items ≡ 65536) ×
-        (s.stopped ≡ None → s.pending.store_failed ≡ false) };
+    ghost invariant = { λ s. IsValidIdentity s.context.identity × IsInRange s.work.state ×
+        (length s.work.room.items ≡ 65536) × (s.stopped ≡ None → s.work.pending.store_failed ≡ false) ×
+        IfSome s.stopped (λ cause. s.work.state.phase ≡ Down) };
 }
 
 impl Session {
@@ -95,12 +94,14 @@ impl Session {
         match o.load() {
             Ok(stored) => Ok(Session {
                 context: Context { alloc, identity },
-                state: state_from(stored),
-                reader,
-                room,
-                pending: PendingDraft {
-                    draft: None,
-                    store_failed: false,
+                work: Work {
+                    state: state_from(stored),
+                    reader,
+                    room,
+                    pending: PendingDraft {
+                        draft: None,
+                        store_failed: false,
+                    },
                 },
                 stopped: None,
             }),
@@ -130,8 +131,8 @@ impl Session {
     {
         match o.load() {
             Ok(stored) => {
-                settle_pending(&mut self.pending, self.state.last, stored.last);
-                self.state = state_from(stored);
+                settle_pending(&mut self.work.pending, self.work.state.last, stored.last);
+                self.work.state = state_from(stored);
                 self.stopped = None;
                 Ok(())
             }
@@ -186,9 +187,9 @@ impl Session {
         };
         match open_connection(o) {
             Ok(reading) => {
-                take_reading(&mut self.state, reading);
-                self.state.phase = Phase::AwaitLogon;
-                self.reader = reader;
+                take_reading(&mut self.work.state, reading);
+                self.work.state.phase = Phase::AwaitLogon;
+                self.work.reader = reader;
                 Ok(())
             }
             Err(fault) => {
@@ -270,16 +271,8 @@ impl Session {
         if let Some(cause) = self.stopped {
             return RunEnd::Stopped(cause);
         }
-        pending_is_draft(&self.pending);
-        let ran = run_and_cut(
-            o,
-            &self.context,
-            &mut self.state,
-            &mut self.reader,
-            &mut self.room,
-            &mut self.pending,
-            turns,
-        );
+        pending_is_draft(&self.work.pending);
+        let ran = run_and_cut(o, &self.context, &mut self.work, turns);
         let answer = answer_of(&ran);
         self.stopped = stop_of(answer);
         answer
@@ -331,10 +324,10 @@ impl Session {
         if let Some(cause) = self.stopped {
             return Err(SendFault::Stopped(cause));
         }
-        if self.state.last >= LAST_SEQ_NUM {
+        if self.work.state.last >= LAST_SEQ_NUM {
             return Err(SendFault::NumbersSpent);
         }
-        let sent = send_and_cut(o, &self.context, &mut self.state, draft);
+        let sent = send_and_cut(o, &self.context, &mut self.work.state, draft);
         self.stopped = stop_of_sent(&sent);
         sent
     }
@@ -342,33 +335,34 @@ impl Session {
     pub fn phase(&self) -> Phase
         ensures { result ≡ self.now.connection.state.phase }
     {
-        self.state.phase
+        self.work.state.phase
     }
 
     /// Whether a draft is in hand.
     pub fn pending_draft(&self) -> bool
         ensures { result ≡ is_some self.now.pending.draft }
     {
-        self.pending.draft.is_some()
+        self.work.pending.draft.is_some()
     }
 
     /// The inbound MsgSeqNum (34) that is expected next, 1 to 1,000,000,000.
     pub fn expected(&self) -> u32
         ensures { result ≡ self.now.connection.state.expected }
     {
-        self.state.expected
+        self.work.state.expected
     }
 
     /// The last outbound MsgSeqNum (34), 0 where nothing was sent.
     pub fn last(&self) -> u32
         ensures { result ≡ self.now.connection.state.last }
     {
-        self.state.last
+        self.work.state.last
     }
 
-    /// Why the session is stopped, if it is.
+    /// Why the session is stopped, if it is. A session that is stopped is Down.
     pub fn stopped(&self) -> Option<StopCause>
-        ensures { result ≡ self.now.stopped }
+        ensures is { result ≡ self.now.stopped }
+        ensures down { IfSome self.now.stopped (λ cause. self.now.connection.state.phase ≡ Phase.Down) }
     {
         self.stopped
     }

@@ -84,7 +84,7 @@ pub enum Step {
     /// out again as a repeat.
     Send { say: Say, counts: Option<SeqNum> },
     /// Hands the message over.
-    PendingDraft { number: SeqNum, marked: bool },
+    Hand { number: SeqNum, marked: bool },
     /// Expects the number after this one.
     Count(SeqNum),
     GoUp,

@@ -4,6 +4,7 @@ pub mod Looked
 pub mod Distinct
 pub mod Runs
 pub mod Misfits
+pub mod Touched
 pub mod Open
 pub mod Nodes
 pub mod NodesOf

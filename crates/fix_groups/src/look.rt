@@ -1,12 +1,15 @@
 //! Looks tags up in a layout and in the groups inside it. `build`, `distinct`, `runs`, `whole` and fix_validate
 //! call this.
-ghost use Rattle.std.specs.Prelude.{◌≡◌, ◌∷◌, []};
+ghost use Rattle.std.specs.Prelude.{◌≡◌, ◌∷◌, [], ◌||◌, ◌==◌};
 ghost use Rattle.std.specs.Option.{option_copied};
 ghost use Rattle.fix_fields.specs.Members.{shapes_of};
 ghost use Rattle.fix_fields.specs.NoTwice.{has_tag};
 ghost use Rattle.fix_groups.specs.Runs.{lead};
+ghost use Rattle.fix_groups.specs.Tagged.{all_tagged};
+ghost use Rattle.fix_groups.specs.Touched.{touches, touched};
 ghost use Rattle.fix_groups.specs.Looked.{group_at, at_level, owner, is_in};
 
+use crate::lent::Lent;
 use fix_base::Tag;
 use fix_fields::{Layout, Member};
 
@@ -29,6 +32,42 @@ pub fn has_tag(layout: &Layout, tag: Tag) -> bool
         }
     }
     false
+}
+
+/// Whether a field counts the instances of a group among the members, or has a tag of a member
+/// inside one.
+pub fn is_touched(layout: &Layout, fields: &[Lent<'_>]) -> bool
+    ensures { result ≡ touched layout.now (all_tagged fields.now) }
+{
+    for member in &layout.members {
+        if let Member::Group { count, inner, .. } = member {
+            if touches(*count, inner, fields) {
+                return true;
+            }
+        }
+    }
+    false
+}
+
+/// The same of one group.
+fn touches(count: Tag, inner: &Layout, fields: &[Lent<'_>]) -> bool
+    ensures { result ≡ touches count inner.now (all_tagged fields.now) }
+{
+    for field in fields {
+        if is_of(count, inner, field.tag()) {
+            return true;
+        }
+    }
+    false
+}
+
+fn is_of(count: Tag, inner: &Layout, tag: Tag) -> bool
+    ensures { result ≡ (tag == count || has_tag tag inner.now) }
+{
+    if tag == count {
+        return true;
+    }
+    has_tag(inner, tag)
 }
 
 /// The members of the group whose count has the tag, however deep it stands.

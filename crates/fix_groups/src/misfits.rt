@@ -25,6 +25,10 @@ pub fn first_misfit_of(
 ) -> Result<Option<Misfit>, OutOfMemory>
     ensures { IfOk result (λ fault. fault ≡ first_misfit root.now (all_tagged fields.now)) }
 {
+    // Most messages have no group, and then no look-up is made for each field.
+    if !root.is_touched(fields) {
+        return Ok(None);
+    }
     if let Some(fault) = count_misfit(fields, root) {
         return Ok(Some(fault));
     }

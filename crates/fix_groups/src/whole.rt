@@ -4,8 +4,11 @@ ghost use Rattle.std.specs.Option.{option_copied};
 ghost use Rattle.fix_fields.specs.NoTwice.{has_tag};
 ghost use Rattle.fix_groups.specs.Joined.{joined};
 ghost use Rattle.fix_groups.specs.Looked.{group_at, owner, is_in};
+ghost use Rattle.fix_groups.specs.Tagged.{all_tagged};
+ghost use Rattle.fix_groups.specs.Touched.{touched};
 
-use crate::look::{group_at, has_tag, owner};
+use crate::lent::Lent;
+use crate::look::{group_at, has_tag, is_touched, owner};
 use fix_base::Tag;
 use fix_fields::Layout;
 use std::marker::Model;
@@ -52,6 +55,19 @@ impl<'a> Whole<'a> {
             return true;
         }
         has_tag(self.trailer, tag)
+    }
+
+    /// Whether a field counts the instances of a group, or has a tag of a member inside one.
+    pub fn is_touched(&self, fields: &[Lent<'_>]) -> bool
+        ensures { result ≡ touched self.now (all_tagged fields.now) }
+    {
+        if is_touched(self.header, fields) {
+            return true;
+        }
+        if is_touched(self.message, fields) {
+            return true;
+        }
+        is_touched(self.trailer, fields)
     }
 
     /// The members of the group whose count has the tag, however deep it stands.

@@ -5,3 +5,5 @@ mod NumberLemmas
 mod RowLemmas
 mod OrderLemmas
 mod RisesLemmas
+mod CauseLemmas
+mod MoveLemmas

@@ -9,6 +9,7 @@ pub mod Clock
 pub mod Decide
 pub mod Deadline
 pub mod Numbers
+pub mod Causes
 pub mod Worked
 pub mod RowsOfLogon
 pub mod Rows

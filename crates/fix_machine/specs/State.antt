@@ -45,12 +45,6 @@ pub record AreReadings (t : Times) : Type 0 where
 abbrev pub IsTimed : MachineState → Type 0
 IsTimed s = AreReadings (times_of s)
 
--- the numbers are those of a session
-pub record IsNumbered (s : MachineState) : Type 0 where
-  pub first : 1 ≤ s.expected
-  pub bound : s.expected ≤ 1000000000
-  pub last : s.last ≤ 999999999
-
 -- a session with no connection, over what is stored
 abbrev pub stopped_at : Options → Stored → MachineState
 stopped_at o stored = record {

@@ -7,6 +7,7 @@ ghost use Rattle.fix_machine.specs.Checks.{Fine, checked};
 ghost use Rattle.fix_machine.specs.LoggedOn.{is_reset};
 ghost use Rattle.fix_machine.specs.Decide.{answer_to, started};
 ghost use Rattle.fix_machine.specs.Numbers.{Adds, IsLoggedOn, IsPassive, IsNoMessage, Rises};
+ghost use Rattle.fix_machine.specs.Causes.{IsCause, HaveCauses, MayMove};
 ghost use Rattle.fix_machine.specs.Rows.{RowsHold};
 
 /// The steps of an answer say all that it does to the numbers: who carries them out one by one has
@@ -59,4 +60,16 @@ pub fn the_expected_number_never_falls()
 /// the FIX session layer works out by hand, and leads to the state that they say.
 pub fn the_worked_rows_hold()
     ensures { RowsHold }
+{}
+
+/// Every close has one of the stated causes: at a first message, at a later one, or at a reading of
+/// the clock.
+pub fn every_close_has_a_stated_cause()
+    ensures { (o : Options) (s : MachineState) (e : EventSeen) → HaveCauses (IsCause o s e) (answer_to o s e) }
+{}
+
+/// Whatever the event and the phase, the expected number moves only by a message of that number, by
+/// a SequenceReset (4) without GapFillFlag (123), or where a reset by Logon is answered.
+pub fn these_alone_move_the_expected_number()
+    ensures { (o : Options) (s : MachineState) (e : EventSeen) → MayMove s (answer_to o s e) e }
 {}

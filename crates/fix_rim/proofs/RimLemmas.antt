@@ -18,8 +18,10 @@ use Rattle.fix_outside.specs.declared.outside.FetchFault.{FetchFault}
 use Rattle.fix_outside.specs.declared.outside.FetchFault.TheVariants as fetch
 use Rattle.fix_outside.specs.declared.outside.Kind.{Kind}
 use Rattle.fix_outside.specs.declared.outside.Kind.TheVariants as kind
-use Rattle.fix_outside.specs.Outside.{hands, FetchAnswers}
-use Rattle.fix_rim.specs.StoreSlot.{FetchRoom, IsKindOf}
+use Rattle.fix_outside.specs.Outside.{hands, NamesApp, FetchAnswers}
+use Rattle.fix_base.specs.declared.entry.Record.{Record}
+use Rattle.fix_base.specs.declared.entry.Record.TheVariants.{Push, Expect, Many, Withhold, Reset, ResetAsk, Confirm}
+use Rattle.fix_rim.specs.StoreSlot.{FetchRoom, IsKindOf, IsHeldAs, NamesAppOn}
 use Rattle.fix_rim.specs.Rim.{parts_of, seen_of}
 
 pub hand_failed : (told told' : Option (List Act)) (disk : DiskSeen) (open_at : Option ℕ) (link : LinkSeen) (readings : Option (List ℕ)) (old new : AppSeen) (h : Handed) → told' ≡ grown told (act.HandLost h.number h.marked h.body.now ∷ []) → AppTakes said.Failed h old new → Trace (seen_of told disk open_at link old readings) (seen_of told' disk open_at link new readings) (hands said.Failed h)
@@ -33,18 +35,36 @@ hand_failed told told' disk open_at link readings old new h tape t = record {
 
 -- what is fetched is the entry of the end that is held
 pub fetched : (answer : Result Kind FetchFault) (n : ℕ) (body : List ℕ) (told : Option (List Act)) (old new : DiskSeen) (open_at : Option ℕ) (link : LinkSeen) (app : AppSeen) (readings : Option (List ℕ))
-    → IfOk answer (λ k. (entry : Entry) × IsKindOf k entry body × HasPayload entry × ((e : End) → HoldsEnd old e → IsEntry e.out n entry)) → FetchRoom answer old new → FetchAnswers answer n body (seen_of told old open_at link app readings)
-fetched (Ok (kind.App time)) n body told old new open_at link app readings gives room =
+    → IfOk answer (λ k. (entry : Entry) × IsKindOf k entry body × HasPayload entry × ((e : End) → HoldsEnd old e → IsEntry e.out n entry)) → IfOk answer (λ k. (e : End) → HoldsEnd old e → IsHeldAs k n e) → FetchRoom answer old new → FetchAnswers answer n body (seen_of told old open_at link app readings)
+fetched (Ok (kind.App time)) n body told old new open_at link app readings gives held room =
     let by = gives.1.0 in
     record {
       payload = subst HasPayload gives.1.1 gives.2;
       told = λ e contents. (by, subst (IsEntry e.out n) gives.1.1 (gives.3 e contents));
+      free = held;
     }
-fetched (Ok kind.Admin) n body told old new open_at link app readings gives room =
+fetched (Ok kind.Admin) n body told old new open_at link app readings gives held room =
     let is = gives.1 in
     record {
       none = is.0;
       told = λ e contents. record { time = is.1; kind = is.2; about = is.3; entry = subst (IsEntry e.out n) is.4 (gives.3 e contents) };
     }
-fetched (Err fetch.Failed) n body told old new open_at link app readings gives room = room
-fetched (Err fetch.OutOfMemory) n body told old new open_at link app readings gives room = tt
+fetched (Ok kind.Withheld) n body told old new open_at link app readings gives held room =
+    let is = gives.1 in
+    record {
+      none = is.0;
+      app = λ e contents. (is.3, record { time = is.1; by = is.2; entry = subst (IsEntry e.out n) is.4 (gives.3 e contents) });
+      withheld = held;
+    }
+fetched (Err fetch.Failed) n body told old new open_at link app readings gives held room = room
+fetched (Err fetch.OutOfMemory) n body told old new open_at link app readings gives held room = tt
+
+-- a number that is withheld is one of an application message on the disk
+pub names_on : (told : Option (List Act)) (disk : DiskSeen) (open_at : Option ℕ) (link : LinkSeen) (app : AppSeen) (readings : Option (List ℕ)) (r : Record) → NamesApp r (seen_of told disk open_at link app readings) → NamesAppOn r disk
+names_on told disk open_at link app readings (Push entry) names = tt
+names_on told disk open_at link app readings (Expect number) names = tt
+names_on told disk open_at link app readings (Many pushes number) names = tt
+names_on told disk open_at link app readings (Withhold number) names = names
+names_on told disk open_at link app readings (Reset time) names = tt
+names_on told disk open_at link app readings (ResetAsk time) names = tt
+names_on told disk open_at link app readings Confirm names = tt

@@ -1,32 +1,34 @@
 -- What the calls of a store do to what its disk tells.
 use Rattle.std.proofs.Common.{◌≡◌, ◌⊎◌, inl, inr, ◌↔◌, ℕ, Bool, true, false, List, [], ◌∷◌, length, Option, Some, None, Ok, Err, refl, sym, ◌∙◌, ap, subst, arith, true≢false}
-use Rattle.std.specs.Prelude.{IsSome, IfSome, is_some, slice_index}
-use Rattle.std.proofs.lemmas.Bool.{cases_lt, cases_eq}
+use Rattle.std.specs.Prelude.{IsSome, IfSome, is_some, nat_eq, ◌||◌, if◌then◌else◌}
+use Rattle.std.proofs.lemmas.Bool.{eqb-true, eq-eqb}
 use Rattle.fix_base.specs.declared.act.Act.TheVariants as act
 use Rattle.fix_base.specs.declared.entry.Record.{Record}
 use Rattle.fix_base.specs.declared.entry.Record.TheVariants.{Push, Expect, Many, Withhold, Reset, ResetAsk, Confirm}
 use Rattle.fix_base.specs.declared.entry.Stored.{Stored}
-use Rattle.fix_base.specs.End.{End, new_end, folded}
-use Rattle.fix_base.specs.Payload.{IsKeepable}
+use Rattle.fix_base.specs.End.{End, folded}
 use Rattle.fix_base.specs.Trace.{Stores, Rises, acts_of, store_failures}
 use Rattle.fix_disk.specs.Disk.{DiskSeen, IsLawfulDisk}
 use Rattle.fix_journal.proofs.Moments.{started, weaker}
 use Rattle.fix_journal.specs.declared.fault.OpenFault.{OpenFault}
 use Rattle.fix_journal.specs.declared.fault.OpenFault.TheVariants as open_fault
-use Rattle.fix_journal.specs.Format.{OPEN, IsMade, HasRecords}
-use Rattle.fix_journal.specs.Opening.{Opens, IsLeftByOpening, open_failures}
+use Rattle.fix_journal.specs.Opening.{open_failures}
 use Rattle.fix_journal.proofs.SoundLemmas.{some_same}
 use Rattle.fix_store.specs.declared.fault.StoreFault.{StoreFault}
 use Rattle.fix_store.specs.declared.fault.StoreFault.TheVariants as fault
-use Rattle.fix_store.specs.Spelling.{IsStorable}
 use Rattle.fix_store.specs.Reading.{HasEnd, IsBrokenAt}
-use Rattle.fix_store.specs.Store.{StoreSeen, IsTold, IsInRange, stored_of, HoldsEnd, LastsEnd, IsEitherEnd, KeepAnswers, StoreKeeps}
-use Rattle.fix_store.specs.Opening.{IsOpened}
+use Rattle.fix_store.specs.Store.{StoreSeen, IsTold, IsInRange, stored_of, withheld_of, HoldsEnd, LastsEnd, IsEitherEnd, HasNoNumber, KeepAnswers, StoreKeeps}
+use Rattle.fix_store.specs.Opening.{IsOpened, IsLeftByOpening, HasSameEnd, StoreOpens}
 use Rattle.fix_store.proofs.Ends.{one_end, not_broken}
 use Rattle.fix_outside.specs.declared.outside.KeepFault.{KeepFault}
 use Rattle.fix_outside.specs.declared.outside.LoadFault.{LoadFault}
 use Rattle.fix_outside.specs.Outside.{IsStoredOf, HasPlace, loads}
-use Rattle.fix_rim.specs.StoreSlot.{HasOne, HoldsOne, LastsOne, BreaksAt, DiskMoves, KeepLeaves, LoadLeaves, IsLoadedFrom, load_fault_of}
+use Rattle.fix_rim.specs.StoreSlot.{HasOne, HoldsOne, LastsOne, BreaksAt, DiskMoves, KeepLeaves, LoadLeaves, IsLoadedFrom, IsNumbered, IsToldHeld, IsHeldAs, load_fault_of}
+use Rattle.fix_outside.specs.declared.outside.Kind.{Kind}
+use Rattle.fix_outside.specs.declared.outside.Kind.TheVariants as kind
+use Rattle.std.specs.FinSet as set
+use Rattle.std.specs.List.{list_any}
+use Rattle.fix_base.specs.Lists.{Among, here, there}
 
 at_told : (o : Option (List ℕ)) → IsSome o → (file : List ℕ) × (o ≡ Some file)
 at_told None some = absurd (true≢false (sym some))
@@ -168,34 +170,21 @@ module _ {D : Type 0} (disk : D → DiskSeen) (old : DiskSeen) (store : StoreSee
 
 -- ---- a store that isn't opened
 
-made_or_not : (file : List ℕ) → IsMade file ⊎ (IsMade file → ⊥)
-made_or_not file = elim (cases_lt (length file) 10) [
-  | inl short ↦ inr (λ made. omega (arith, short, made.0))
-  | inr long ↦ elim (cases_eq (slice_index file 0) OPEN) [
-    | inl open_gate ↦ inl (long, open_gate)
-    | inr shut ↦ inr (λ made. shut made.1)
-  ]
-]
-
--- a file without records has the new end
-new_in : (file : List ℕ) → HasRecords file [] → HasEnd file new_end
-new_in file has = record { records = []; is = record { is = has; each = tt }; folds = refl }
-
-module _ (old new : DiskSeen) (failed : OpenFault) (opens : Opens (Some failed) old new) where
-  -- the bytes are the same, or both files have no records
-  then_file : (file : List ℕ) → old.bytes ≡ Some file → (new.bytes ≡ old.bytes) ⊎ (HoldsEnd old new_end × HoldsEnd new new_end)
-  then_file file is = elim (made_or_not file) [
-    | inl made ↦ inl (subst (λ o. IfSome o (λ f. IsMade f → new.bytes ≡ old.bytes)) is opens.made_same made)
-    | inr unmade ↦ (
-        let now = at_told new.bytes (opens.tells_bytes.1 (ap is_some is)) in
-        let has = subst (λ o. IfSome o (λ c. HasRecords c [])) now.1 (subst (λ o. IfSome o (λ f. (IsMade f → ⊥) → IfSome new.bytes (λ c. HasRecords c []))) is opens.as_read unmade) in
-        inr ((file, is, new_in file (inl (unmade, refl))), (now.0, now.1, new_in now.0 has)))
-  ]
+module _ (old new : DiskSeen) (failed : OpenFault) (opens : StoreOpens (Some failed) old new) where
+  -- the bytes are the same, or both files have one end
+  then_file : (file : List ℕ) → old.bytes ≡ Some file → (new.bytes ≡ old.bytes) ⊎ ((e : End) × HoldsEnd old e × HoldsEnd new e)
+  then_file file is =
+      let now = at_told new.bytes (opens.tells_bytes.1 (ap is_some is)) in
+      let read : HasSameEnd file now.0 = subst (λ o. IfSome o (HasSameEnd file)) now.1 (subst (λ o. IfSome o (λ f. IfSome new.bytes (HasSameEnd f))) is opens.as_read) in
+      elim read [
+        | inl same ↦ inl (now.1 ∙ ap Some same ∙ sym is)
+        | inr both ↦ inr (both.0, (file, is, both.1), (now.0, now.1, both.2))
+      ]
 
   then_end : (e : End) → HoldsEnd old e → HoldsEnd new e
   then_end e h = elim (then_file h.0 h.1) [
     | inl same ↦ (h.0, same ∙ h.1, h.2)
-    | inr both ↦ subst (HoldsEnd new) (one_held old new_end e both.0 h) both.1
+    | inr both ↦ subst (HoldsEnd new) (one_held old both.0 e both.1 h) both.2
   ]
 
   before_end : (e : End) → HoldsEnd new e → HoldsEnd old e
@@ -203,7 +192,7 @@ module _ (old new : DiskSeen) (failed : OpenFault) (opens : Opens (Some failed) 
       let file = at_told old.bytes (opens.tells_bytes.0 (ap is_some h.1)) in
       elim (then_file file.0 file.1) [
         | inl same ↦ (h.0, sym same ∙ h.1, h.2)
-        | inr both ↦ subst (HoldsEnd old) (one_held new new_end e both.1 h) both.0
+        | inr both ↦ subst (HoldsEnd old) (one_held new both.0 e both.2 h) both.1
       ]
 
   then_breaks : (place : ℕ) → BreaksAt new place ↔ BreaksAt old place
@@ -212,11 +201,11 @@ module _ (old new : DiskSeen) (failed : OpenFault) (opens : Opens (Some failed) 
         let file = at_told old.bytes (opens.tells_bytes.0 (ap is_some b.1)) in
         elim (then_file file.0 file.1) [
           | inl same ↦ (b.0, sym same ∙ b.1, b.2)
-          | inr both ↦ absurd (held_whole new new_end both.1 place b)
+          | inr both ↦ absurd (held_whole new both.0 both.2 place b)
         ]),
     λ b. elim (then_file b.0 b.1) [
       | inl same ↦ (b.0, same ∙ b.1, b.2)
-      | inr both ↦ absurd (held_whole old new_end both.0 place b)
+      | inr both ↦ absurd (held_whole old both.0 both.1 place b)
     ],
   )
 
@@ -238,7 +227,7 @@ its_failures T open_fault.DiskFault = refl
 its_failures T (open_fault.Damaged place) = refl
 its_failures T open_fault.OutOfMemory = refl
 
-pub refused_moves : (T : Type 0) (old new : DiskSeen) (failed : OpenFault) (said : LoadFault) → said ≡ load_fault_of failed → Opens (Some failed) old new → DiskMoves (acts_of (loads {T = T} (Err said))) (store_failures (loads {T = T} (Err said))) old new
+pub refused_moves : (T : Type 0) (old new : DiskSeen) (failed : OpenFault) (said : LoadFault) → said ≡ load_fault_of failed → StoreOpens (Some failed) old new → DiskMoves (acts_of (loads {T = T} (Err said))) (store_failures (loads {T = T} (Err said))) old new
 refused_moves T old new failed said is opens = subst (λ (f : LoadFault). DiskMoves (acts_of (loads {T = T} (Err f))) (store_failures (loads {T = T} (Err f))) old new) (sym is)
     (subst (λ acts. DiskMoves acts (store_failures (loads {T = T} (Err (load_fault_of failed)))) old new) (sym (no_acts T failed))
     (subst (λ n. DiskMoves [] n old new) (sym (its_failures T failed)) (refused_so old new failed opens)))
@@ -247,22 +236,14 @@ refused_moves T old new failed said is opens = subst (λ (f : LoadFault). DiskMo
 
 left_by_opening : (old : DiskSeen) (e : End) → HoldsEnd old e → LastsEnd old e → old.TellsImages → (c : List ℕ) → IsLeftByOpening old c → HasEnd c e
 left_by_opening old e h lasts told c (inl left) = lasts told c left
-left_by_opening old e h lasts told c (inr unmade) =
-    let file = unmade.0 in
-    let was : HoldsEnd old new_end = (file.0, file.1, new_in file.0 (inl (file.2, refl))) in
-    subst (HasEnd c) (one_held old new_end e was h) (new_in c unmade.1)
+left_by_opening old e h lasts told c (inr other) = subst (HasEnd c) (one_held old other.0 e other.1 h) other.2
 
 one_by_opening : (old : DiskSeen) (e f : End) → HoldsOne old e f → LastsOne old e f → old.TellsImages → (c : List ℕ) → IsLeftByOpening old c → HasOne e f c
 one_by_opening old e f h lasts told c (inl left) = lasts told c left
-one_by_opening old e f h lasts told c (inr unmade) =
-    let file = unmade.0 in
-    let was : HoldsEnd old new_end = (file.0, file.1, new_in file.0 (inl (file.2, refl))) in
-    elim h as (λ _. HasOne e f c) [
-      | inl one ↦ inl (subst (HasEnd c) (one_held old new_end e was one) (new_in c unmade.1))
-      | inr other ↦ inr (subst (HasEnd c) (one_held old new_end f was other) (new_in c unmade.1))
-    ]
+one_by_opening old e f (inl one) lasts told c (inr other) = inl (subst (HasEnd c) (one_held old other.0 e other.1 one) other.2)
+one_by_opening old e f (inr one) lasts told c (inr other) = inr (subst (HasEnd c) (one_held old other.0 f other.1 one) other.2)
 
-pub load_leaves : (old new : DiskSeen) (failed : Option OpenFault) → IsLawfulDisk old → Opens failed old new → LoadLeaves old new
+pub load_leaves : (old new : DiskSeen) (failed : Option OpenFault) → IsLawfulDisk old → StoreOpens failed old new → LoadLeaves old new
 load_leaves old new failed laws opens = record {
   any_moment = λ e h lasts. weaker old new (IsLeftByOpening old) (λ c. HasEnd c e) opens.any_moment (λ p c left. left_by_opening old e h lasts (laws.tells_now (opens.any_moment.told p)) c left);
   now = λ e h lasts told c left. left_by_opening old e h lasts (opens.tells_images.0 told) c (opens.now told c left);
@@ -279,13 +260,51 @@ leaves_same seen laws = record {
   either_now = λ e f h lasts. lasts;
 }
 
--- a record that has a place in a store is one that may be stored
-pub has_form : (r : Record) (at : Option ℕ) → IsKeepable r → HasPlace r at → IsStorable r
-has_form r None fits place = absurd place
-has_form (Push entry) (Some last) fits place = fits
-has_form (Expect number) (Some last) fits place = fits
-has_form (Reset time) (Some last) fits place = fits
-has_form (Many pushes number) (Some last) fits place = absurd place
-has_form (Withhold number) (Some last) fits place = absurd place
-has_form (ResetAsk time) (Some last) fits place = absurd place
-has_form Confirm (Some last) fits place = absurd place
+-- ---- what may be kept
+
+-- a record that has a place in a store is numbered in it
+pub numbered : (r : Record) (stopped : Bool) (stored : Stored) → HasPlace r (if stopped then None else Some stored.last) → IsNumbered r stored
+numbered r true stored place = absurd place
+numbered (Push entry) false stored place = tt
+numbered (Expect number) false stored place = tt
+numbered (Many pushes number) false stored place = tt
+numbered (Withhold number) false stored place = place
+numbered (Reset time) false stored place = tt
+numbered (ResetAsk time) false stored place = tt
+numbered Confirm false stored place = tt
+
+-- and has a number for each of its entries
+pub not_spent : (r : Record) (stopped : Bool) (stored : Stored) → HasPlace r (if stopped then None else Some stored.last) → HasNoNumber r stored → ⊥
+not_spent r true stored place none = absurd place
+not_spent (Push entry) false stored place none = omega (arith, place, none)
+not_spent (Expect number) false stored place none = none
+not_spent (Many pushes number) false stored place none = omega (arith, place, none)
+not_spent (Withhold number) false stored place none = none
+not_spent (Reset time) false stored place none = none
+not_spent (ResetAsk time) false stored place none = none
+not_spent Confirm false stored place none = none
+
+-- ---- what is withheld
+
+any_there : (b c : Bool) → c ≡ true → (b || c) ≡ true
+any_there true c is = refl
+any_there false c is = is
+
+among_any : (n : ℕ) (ks : List ℕ) → Among n ks → list_any (λ y. nat_eq y n) ks ≡ true
+among_any n [] x = elim x [ ]
+among_any n (k ∷ ks) here = ap (λ b. b || list_any (λ y. nat_eq y n) ks) (eq-eqb n n refl)
+among_any n (k ∷ ks) (there more) = any_there (nat_eq k n) (list_any (λ y. nat_eq y n) ks) (among_any n ks more)
+
+by_first : (b c : Bool) (n k : ℕ) (ks : List ℕ) → nat_eq k n ≡ b → (b || c) ≡ true → (c ≡ true → Among n ks) → Among n (k ∷ ks)
+by_first true c n k ks same is rest = subst (λ m. Among m (k ∷ ks)) (eqb-true k n same) here
+by_first false c n k ks same is rest = there (rest is)
+
+any_among : (n : ℕ) (ks : List ℕ) → list_any (λ y. nat_eq y n) ks ≡ true → Among n ks
+any_among n [] is = absurd (true≢false (sym is))
+any_among n (k ∷ ks) is = by_first (nat_eq k n) (list_any (λ y. nat_eq y n) ks) n k ks refl is (any_among n ks)
+
+-- what the store tells is what the end withholds
+pub held_as : (seen : DiskSeen) (n : ℕ) (b : Bool) → ((e : End) → HoldsEnd seen e → b ≡ set.contains (withheld_of e) n) → (k : Kind) → IsToldHeld k b → (e : End) → HoldsEnd seen e → IsHeldAs k n e
+held_as seen n b tells (kind.App time) free e h = λ among. true≢false (sym (among_any n e.withheld among) ∙ sym (set.contains-from_list_nat e.withheld n) ∙ sym (tells e h) ∙ free)
+held_as seen n b tells kind.Admin free e h = tt
+held_as seen n b tells kind.Withheld held e h = any_among n e.withheld (sym (set.contains-from_list_nat e.withheld n) ∙ sym (tells e h) ∙ held)

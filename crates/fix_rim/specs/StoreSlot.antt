@@ -6,8 +6,10 @@ use Rattle.fix_base.specs.declared.entry.By.{By}
 use Rattle.fix_base.specs.declared.entry.Entry.{Entry}
 use Rattle.fix_base.specs.declared.entry.Entry.TheVariants.{App, Admin}
 use Rattle.fix_base.specs.declared.entry.Record.{Record}
+use Rattle.fix_base.specs.declared.entry.Record.TheVariants.{Push, Expect, Many, Withhold, Reset, ResetAsk, Confirm}
 use Rattle.fix_base.specs.declared.entry.Stored.{Stored}
-use Rattle.fix_base.specs.End.{End, folded}
+use Rattle.fix_base.specs.End.{End, folded, IsAppAt}
+use Rattle.fix_base.specs.Lists.{Among}
 use Rattle.fix_base.specs.Parts.{HasNoRoom, TakesRoom, KeepsRoom}
 use Rattle.fix_base.specs.Payload.{LAST_TIME, record_size}
 use Rattle.fix_base.specs.Trace.{HoldsOn, Rises}
@@ -162,7 +164,40 @@ FetchRoom (Ok x) old new = room_left new ≡ room_left old
 FetchRoom (Err fetch.Failed) old new = HasNoRoom 0 (room_left old)
 FetchRoom (Err fetch.OutOfMemory) old new = room_left new ≡ room_left old
 
+-- a number that is withheld is one of an application message, in the end that the disk tells
+abbrev pub NamesAppOn : Record → DiskSeen → Type 0
+NamesAppOn (Push entry) seen = ⊤
+NamesAppOn (Expect number) seen = ⊤
+NamesAppOn (Many pushes number) seen = ⊤
+NamesAppOn (Withhold number) seen = (e : End) → HoldsEnd seen e → (body : List ℕ) × IsAppAt e.out number body
+NamesAppOn (Reset time) seen = ⊤
+NamesAppOn (ResetAsk time) seen = ⊤
+NamesAppOn Confirm seen = ⊤
+
+-- a number that is withheld is one of a store that tells this
+abbrev pub IsNumbered : Record → Stored → Type 0
+IsNumbered (Push entry) stored = ⊤
+IsNumbered (Expect number) stored = ⊤
+IsNumbered (Many pushes number) stored = ⊤
+IsNumbered (Withhold number) stored = number ≤ stored.last
+IsNumbered (Reset time) stored = ⊤
+IsNumbered (ResetAsk time) stored = ⊤
+IsNumbered Confirm stored = ⊤
+
+-- whether the store tells that it is withheld
+abbrev pub IsToldHeld : Kind → Bool → Type 0
+IsToldHeld (kind.App time) withheld = withheld ≡ false
+IsToldHeld kind.Admin withheld = ⊤
+IsToldHeld kind.Withheld withheld = withheld ≡ true
+
+-- whether the end withholds the message that is fetched
+abbrev pub IsHeldAs : Kind → ℕ → End → Type 0
+IsHeldAs (kind.App time) number e = Among number e.withheld → ⊥
+IsHeldAs kind.Admin number e = ⊤
+IsHeldAs kind.Withheld number e = Among number e.withheld
+
 -- the kind and the body of an entry
 abbrev pub IsKindOf : Kind → Entry → List ℕ → Type 0
 IsKindOf (kind.App time) entry body = (by : By) × (entry ≡ App time by body)
+IsKindOf kind.Withheld entry body = (body ≡ []) × (time : ℕ) × (by : By) × (text : List ℕ) × (entry ≡ App time by text)
 IsKindOf kind.Admin entry body = (body ≡ []) × (time : ℕ) × (kind : ℕ) × (about : ℕ) × (entry ≡ Admin time kind about)

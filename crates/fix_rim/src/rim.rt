@@ -103,7 +103,7 @@ impl<D: Disk, L: Link, A: App, C: Clock, T: Tape> Outside for Rim<D, L, A, C, T>
     ghost use Rattle.fix_outside.specs.Handing.{HasKind};
     ghost use Rattle.fix_outside.specs.declared.outside.KeepFault.TheVariants as TheKeepFault;
     ghost use Rattle.fix_outside.specs.Outside.{marks, tells_time, reads, writes, keeps, hands, loads, fetches};
-    ghost use Rattle.fix_outside.specs.Outside.{HasPlace, HasEntry, open_kept, open_loaded, open_fetched};
+    ghost use Rattle.fix_outside.specs.Outside.{HasPlace, NamesApp, HasEntry, open_kept, open_loaded, open_fetched};
     ghost use Rattle.fix_outside.specs.Outside.{LoadAnswers, FetchAnswers};
     ghost use Rattle.fix_rim.specs.StoreSlot.{seen_on, KeepLeft, LoadLeaves, LoadLasts};
     ghost use Rattle.fix_rim.specs.OptionalLink.{plug_of};
@@ -245,6 +245,9 @@ impl<D: Disk, L: Link, A: App, C: Clock, T: Tape> Outside for Rim<D, L, A, C, T>
     fn keep(&mut self, kept: &Record) -> Result<(), KeepFault>
         requires payload { IsKeepable kept.now }
         requires place { HasPlace kept.now self.old.slot.open_at }
+        requires named { NamesApp kept.now
+            (seen_of (T.told self.old.tape) (seen_on D.disk self.old.slot.device) self.old.slot.open_at
+            (plug_of L.link self.old.optional_link) (A.app self.old.app) (C.readings self.old.clock)) }
         ensures noted { Trace (seen_of (T.told self.old.tape) (seen_on D.disk self.old.slot.device) self.old.slot.open_at
             (plug_of L.link self.old.optional_link) (A.app self.old.app) (C.readings self.old.clock))
             (seen_of (T.told self.new.tape) (seen_on D.disk self.new.slot.device) self.new.slot.open_at

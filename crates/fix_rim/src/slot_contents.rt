@@ -6,14 +6,14 @@ ghost use Rattle.fix_base.specs.End.{End, IsEntry};
 ghost use Rattle.fix_base.specs.Payload.{IsKeepable, HasPayload};
 ghost use Rattle.fix_base.specs.Trace.{acts_of, store_failures};
 ghost use Rattle.fix_store.specs.Store.{IsTold, KeepAnswers, StoreKeeps, HoldsEnd, fault_of};
-ghost use Rattle.fix_store.specs.Spelling.{IsStorable};
 ghost use Rattle.fix_store.specs.Rooms.{KeepRoom, room_left};
 ghost use Rattle.fix_outside.specs.declared.outside.KeepFault.TheVariants.{OutOfMemory};
 ghost use Rattle.fix_outside.specs.Outside.{keeps, loads, fetches, HasPlace, HasEntry, open_kept, open_loaded};
 ghost use Rattle.fix_outside.specs.Outside.{open_fetched};
 ghost use Rattle.fix_rim.specs.StoreSlot.{IsTaken, IsHeld, device_in, disk_in, open_in, DiskMoves, KeepLeft};
 ghost use Rattle.fix_rim.specs.StoreSlot.{LoadGives, LoadRoom, LoadLeaves, LoadLasts, KeptRoom, FetchRoom};
-ghost use Rattle.fix_rim.specs.StoreSlot.{IsKindOf, load_fault_of};
+ghost use Rattle.fix_rim.specs.StoreSlot.{IsKindOf, IsHeldAs, NamesAppOn, IsNumbered, IsToldHeld};
+ghost use Rattle.fix_rim.specs.StoreSlot.{load_fault_of};
 
 use crate::{FetchFault, KeepFault, Kind, LoadFault};
 use fix_base::{Entry, Record, SeqNum, Stored};
@@ -86,6 +86,7 @@ pub(crate) fn keep_in<D: Disk>(
 ) -> Result<(), KeepFault>
     requires payload { IsKeepable kept.now }
     requires place { HasPlace kept.now (open_in contents.old) }
+    requires named { NamesAppOn kept.now (disk_in D.disk contents.old) }
     ensures there { IsHeld contents.new }
     ensures opens { open_in contents.new ≡ open_kept result kept.now (open_in contents.old) }
     ensures moves { DiskMoves (acts_of (keeps result kept.now)) (store_failures (keeps result kept.now))
@@ -118,6 +119,7 @@ pub(crate) fn fetch_from<D: Disk>(
     ensures gives { IfOk result
         (λ kind. (entry : TheEntry) × IsKindOf kind entry into.new.items × HasPayload entry
         × ((e : End) → HoldsEnd (disk_in D.disk contents.old) e → IsEntry e.out n entry)) }
+    ensures held { IfOk result (λ kind. (e : End) → HoldsEnd (disk_in D.disk contents.old) e → IsHeldAs kind n e) }
     ensures moves { DiskMoves (acts_of (fetches result)) (store_failures (fetches result)) (disk_in D.disk contents.old)
         (disk_in D.disk contents.new) }
     ensures room { FetchRoom result (disk_in D.disk contents.old) (disk_in D.disk contents.new) }
@@ -125,8 +127,9 @@ pub(crate) fn fetch_from<D: Disk>(
     let SlotContents::Open(store) = contents else {
         unreachable!();
     };
+    let withheld = store.withheld(n);
     match store.entry(n) {
-        Ok(entry) => Ok(give(entry, into)),
+        Ok(entry) => Ok(give(entry, withheld, into)),
         Err(StoreFault::DiskFault) => Err(FetchFault::Failed),
         Err(StoreFault::OutOfMemory) => Err(FetchFault::OutOfMemory),
         Err(StoreFault::Stopped) => unreachable!(),
@@ -169,7 +172,9 @@ fn load_fault(fault: OpenFault) -> LoadFault
 
 // Keeps the record in a store.
 fn keep_on<D: Disk>(store: &mut Store<D>, kept: &Record) -> Result<(), StoreFault>
-    requires { IsStorable kept.now }
+    requires payload { IsKeepable kept.now }
+    requires numbered { IsNumbered kept.now store.old.stored }
+    requires named { NamesAppOn kept.now (D.disk store.old.disk) }
     ensures answers { KeepAnswers (fault_of result) kept.now store.old store.new }
     ensures moves { store.old.stopped ≡ false
         → StoreKeeps (fault_of result) kept.now (D.disk store.old.disk) (D.disk store.new.disk) }
@@ -182,20 +187,28 @@ fn keep_on<D: Disk>(store: &mut Store<D>, kept: &Record) -> Result<(), StoreFaul
             Err(fault) => Err(fault),
         },
         Record::Expect(number) => store.expect(*number),
+        Record::Many { pushes, expect } => store.push_all(pushes, *expect),
+        Record::Withhold(number) => match SeqNum::new(*number) {
+            Some(n) => store.withhold(n),
+            None => unreachable!(),
+        },
         Record::Reset(time) => store.reset(*time),
-        Record::Many { .. } => unreachable!(),
-        Record::Withhold(_) => unreachable!(),
-        Record::ResetAsk(_) => unreachable!(),
-        Record::Confirm => unreachable!(),
+        Record::ResetAsk(time) => store.ask_reset(*time),
+        Record::Confirm => store.confirm(),
     }
 }
 
 // What the entry is, and its body.
-fn give(entry: Entry, into: &mut Vec<u8>) -> Kind
-    ensures { IsKindOf result entry into.new.items }
+fn give(entry: Entry, withheld: bool, into: &mut Vec<u8>) -> Kind
+    ensures kind { IsKindOf result entry into.new.items }
+    ensures held { IsToldHeld result withheld }
 {
     match entry {
         Entry::App { time, body, .. } => {
+            if withheld {
+                into.clear();
+                return Kind::Withheld;
+            }
             *into = body.into_vec();
             Kind::App { time }
         }

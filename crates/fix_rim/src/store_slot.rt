@@ -9,7 +9,7 @@ ghost use Rattle.fix_outside.specs.declared.outside.KeepFault.TheVariants.{OutOf
 ghost use Rattle.fix_outside.specs.Outside.{keeps, loads, fetches, HasPlace, HasEntry, open_kept, open_loaded};
 ghost use Rattle.fix_outside.specs.Outside.{open_fetched};
 ghost use Rattle.fix_rim.specs.StoreSlot.{seen_on, DiskMoves, KeepLeft, LoadGives, LoadRoom, LoadLeaves};
-ghost use Rattle.fix_rim.specs.StoreSlot.{LoadLasts, KeptRoom, FetchRoom, IsKindOf};
+ghost use Rattle.fix_rim.specs.StoreSlot.{LoadLasts, KeptRoom, FetchRoom, IsKindOf, IsHeldAs, NamesAppOn};
 
 use crate::slot_contents::{SlotContents, fetch_from, keep_in, opened, put_back, shut};
 use crate::{FetchFault, KeepFault, Kind, LoadFault};
@@ -88,6 +88,7 @@ impl<D: Disk> StoreSlot<D> {
     pub(crate) fn keep(&mut self, kept: &Record) -> Result<(), KeepFault>
         requires payload { IsKeepable kept.now }
         requires place { HasPlace kept.now self.old.open_at }
+        requires named { NamesAppOn kept.now (seen_on D.disk self.old.device) }
         ensures opens { self.new.open_at ≡ open_kept result kept.now self.old.open_at }
         ensures moves { DiskMoves (acts_of (keeps result kept.now)) (store_failures (keeps result kept.now))
             (seen_on D.disk self.old.device) (seen_on D.disk self.new.device) }
@@ -105,6 +106,7 @@ impl<D: Disk> StoreSlot<D> {
         ensures gives { IfOk result
             (λ kind. (entry : TheEntry) × IsKindOf kind entry into.new.items × HasPayload entry
             × ((e : End) → HoldsEnd (seen_on D.disk self.old.device) e → IsEntry e.out n entry)) }
+        ensures held { IfOk result (λ kind. (e : End) → HoldsEnd (seen_on D.disk self.old.device) e → IsHeldAs kind n e) }
         ensures moves { DiskMoves (acts_of (fetches result)) (store_failures (fetches result))
             (seen_on D.disk self.old.device) (seen_on D.disk self.new.device) }
         ensures room { FetchRoom result (seen_on D.disk self.old.device) (seen_on D.disk self.new.device) }

@@ -1,8 +1,11 @@
 pub mod Spellings
+mod NumberSets
+mod EntryLists
 pub mod RecordLists
 pub mod Ends
 mod Places
 mod KeepLemmas
-mod RoomLemmas
 mod WalkLemmas
 mod OpenLemmas
+mod RoomLemmas
+mod CallLemmas

@@ -1,12 +1,16 @@
--- Lists of records, each of which may be kept behind those before it.
-use Rattle.std.proofs.Common.{◌≡◌, ℕ, zero, suc, List, [], ◌∷◌, ◌++◌, length, drop, get_or, Some, refl, sym, ◌∙◌, ap, subst, arith}
+-- Lists of items, each of which may stand after those before it.
+use Rattle.std.proofs.Common.{◌≡◌, ℕ, ◌+◌, ◌≤◌, zero, suc, List, [], ◌∷◌, ◌++◌, length, drop, get_or, Some, refl, sym, ◌∙◌, ap, subst, arith, length-append}
 use Rattle.std.specs.Prelude.{map, slice_get, IfSome}
 use Rattle.fix_base.specs.declared.entry.Record.{Record}
-use Rattle.fix_base.specs.End.{End, folded, folded_all}
-use Rattle.fix_store.specs.Spelling.{spelled, IsStorable}
-use Rattle.fix_store.specs.Reading.{MayFollow, MayAllFollow}
-use Rattle.fix_store.specs.Ends.{record_in}
-use Rattle.fix_store.proofs.Spellings.{back, one_record}
+use Rattle.fix_base.specs.declared.entry.Record.TheVariants.{Push, Expect, Many, Withhold, Reset, ResetAsk, Confirm}
+use Rattle.fix_base.specs.Payload.{IsKeepable}
+use Rattle.fix_base.specs.End.{End}
+use Rattle.fix_base.proofs.WroteLemmas.{IsEntry-inside}
+use Rattle.fix_store.specs.Spelling.{Item, keeps, marks, spelled_item}
+use Rattle.fix_store.specs.Reading.{Content, taken, taken_all, MayFollow, MayBeKept, MayAllFollow}
+use Rattle.fix_store.specs.Ends.{item_in}
+use Rattle.fix_store.specs.Folding.{IsFit}
+use Rattle.fix_store.proofs.Spellings.{back, one_item}
 
 pub head : {A : Type 0} (x y : A) (xs ys : List A) → x ∷ xs ≡ y ∷ ys → x ≡ y
 head x y xs ys same = ap (λ l. get_or l 0 x) same
@@ -25,50 +29,67 @@ pub length-map : {A B : Type 0} (f : A → B) (xs : List A) → length (map f xs
 length-map f [] = refl
 length-map f (x ∷ xs) = omega (arith, length-map f xs)
 
-pub fold-push : (e : End) (rs : List Record) (r : Record) → folded_all e (rs ++ r ∷ []) ≡ folded (folded_all e rs) r
-fold-push e [] r = refl
-fold-push e (q ∷ rs) r = fold-push (folded e q) rs r
+pub fold-push : (s : Content) (items : List Item) (i : Item) → taken_all s (items ++ i ∷ []) ≡ taken (taken_all s items) i
+fold-push s [] i = refl
+fold-push s (j ∷ items) i = fold-push (taken s j) items i
 
-pub follow-push : (e : End) (rs : List Record) (r : Record) → MayAllFollow e rs → MayFollow (folded_all e rs) r → MayAllFollow e (rs ++ r ∷ [])
-follow-push e [] r all next = (next, tt)
-follow-push e (q ∷ rs) r all next = (all.0, follow-push (folded e q) rs r all.1 next)
+pub follow-push : (s : Content) (items : List Item) (i : Item) → MayAllFollow s items → MayFollow (taken_all s items) i → MayAllFollow s (items ++ i ∷ [])
+follow-push s [] i all next = (next, tt)
+follow-push s (j ∷ items) i all next = (all.0, follow-push (taken s j) items i all.1 next)
 
--- each is one that may be kept
-pub keepable_at : (e : End) (rs : List Record) (i : ℕ) (r : Record) → MayAllFollow e rs → slice_get rs i ≡ Some r → IsStorable r
-keepable_at e [] i r all is = absurd (subst (λ o. IfSome o (λ x. ⊥)) is tt)
-keepable_at e (q ∷ rs) zero r all is = subst (λ o. IfSome o IsStorable) is all.0.keepable
-keepable_at e (q ∷ rs) (suc i) r all is = keepable_at (folded e q) rs i r all.1 is
+-- what may stand somewhere fits
+kept_fits : (s : Content) (r : Record) → MayBeKept s r → IsKeepable r
+kept_fits s (Push entry) may = may.keepable
+kept_fits s (Expect number) may = may.keepable
+kept_fits s (Many pushes number) may = may.keepable
+kept_fits s (Withhold number) may =
+    let there = may.keepable.1.entry in
+    let inside = IsEntry-inside there in
+    (omega (arith, there.place), omega (arith, inside, may.numbered))
+kept_fits s (Reset time) may = may.keepable
+kept_fits s (ResetAsk time) may = may.keepable
+kept_fits s Confirm may = tt
 
-pub backs : (e : End) (rs : List Record) → MayAllFollow e rs → map record_in (map spelled rs) ≡ rs
-backs e [] all = refl
-backs e (r ∷ rs) all =
-    let first = back r all.0.keepable in
-    let others = backs (folded e r) rs all.1 in
-    λ i. first i ∷ others i
+pub fits : (s : Content) (i : Item) → MayFollow s i → IsFit i
+fits s (keeps r) may = kept_fits s r may
+fits s marks may = tt
 
--- payloads are one list of records
-pub one_list : (e f : End) (rs qs : List Record) → MayAllFollow e rs → MayAllFollow f qs → map spelled rs ≡ map spelled qs → rs ≡ qs
-one_list e f rs qs all all' same = sym (backs e rs all) ∙ ap (map record_in) same ∙ backs f qs all'
+-- each is one that fits
+pub fits_at : (s : Content) (items : List Item) (n : ℕ) (i : Item) → MayAllFollow s items → slice_get items n ≡ Some i → IsFit i
+fits_at s [] n i all is = absurd (subst (λ o. IfSome o (λ x. ⊥)) is tt)
+fits_at s (j ∷ items) zero i all is = subst (λ o. IfSome o IsFit) is (fits s j all.0)
+fits_at s (j ∷ items) (suc n) i all is = fits_at (taken s j) items n i all.1 is
 
--- the payload is no record behind these
-abbrev pub IsBad : End → List Record → List ℕ → Type 0
-IsBad e rs payload = (r : Record) → MayFollow (folded_all e rs) r → payload ≡ spelled r → ⊥
+pub backs : (s : Content) (items : List Item) → MayAllFollow s items → map item_in (map spelled_item items) ≡ items
+backs s [] all = refl
+backs s (i ∷ items) all =
+    let first = back i (fits s i all.0) in
+    let others = backs (taken s i) items all.1 in
+    λ k. first k ∷ others k
 
--- records have no payload that is none
-pub never_bad : (e : End) (rs qs : List Record) (payload : List ℕ) (later : List (List ℕ)) → MayAllFollow e rs → MayAllFollow e qs → IsBad e qs payload → map spelled rs ≡ map spelled qs ++ payload ∷ later → ⊥
-never_bad e [] [] payload later all all' bad same = never_some payload later same
-never_bad e [] (q ∷ qs) payload later all all' bad same = never_some (spelled q) (map spelled qs ++ payload ∷ later) same
-never_bad e (r ∷ rs) [] payload later all all' bad same = bad r all.0 (sym (head (spelled r) payload (map spelled rs) later same))
-never_bad e (r ∷ rs) (q ∷ qs) payload later all all' bad same =
-    let first : r ≡ q = one_record r q all.0.keepable all'.0.keepable (head (spelled r) (spelled q) (map spelled rs) (map spelled qs ++ payload ∷ later) same) in
-    never_bad (folded e q) rs qs payload later (subst (λ x. MayAllFollow (folded e x) rs) first all.1) all'.1 bad (tail (spelled r) (spelled q) (map spelled rs) (map spelled qs ++ payload ∷ later) same)
+-- payloads are one list of items
+pub one_list : (s t : Content) (xs ys : List Item) → MayAllFollow s xs → MayAllFollow t ys → map spelled_item xs ≡ map spelled_item ys → xs ≡ ys
+one_list s t xs ys all all' same = sym (backs s xs all) ∙ ap (map item_in) same ∙ backs t ys all'
 
--- the first payload that is none stands behind the same records
-pub one_bad : (e : End) (rs qs : List Record) (p p' : List ℕ) (l l' : List (List ℕ)) → MayAllFollow e rs → MayAllFollow e qs → IsBad e rs p → IsBad e qs p' → map spelled rs ++ p ∷ l ≡ map spelled qs ++ p' ∷ l' → rs ≡ qs
-one_bad e [] [] p p' l l' all all' bad bad' same = refl
-one_bad e [] (q ∷ qs) p p' l l' all all' bad bad' same = absurd (bad q all'.0 (head p (spelled q) l (map spelled qs ++ p' ∷ l') same))
-one_bad e (r ∷ rs) [] p p' l l' all all' bad bad' same = absurd (bad' r all.0 (sym (head (spelled r) p' (map spelled rs ++ p ∷ l) l' same)))
-one_bad e (r ∷ rs) (q ∷ qs) p p' l l' all all' bad bad' same =
-    let first : r ≡ q = one_record r q all.0.keepable all'.0.keepable (head (spelled r) (spelled q) (map spelled rs ++ p ∷ l) (map spelled qs ++ p' ∷ l') same) in
-    let later = one_bad (folded e q) rs qs p p' l l' (subst (λ x. MayAllFollow (folded e x) rs) first all.1) all'.1 (subst (λ x. IsBad (folded e x) rs p) first bad) bad' (tail (spelled r) (spelled q) (map spelled rs ++ p ∷ l) (map spelled qs ++ p' ∷ l') same) in
-    λ i. first i ∷ later i
+-- the payload is no item after these
+abbrev pub IsBad : Content → List Item → List ℕ → Type 0
+IsBad s items payload = (i : Item) → MayFollow (taken_all s items) i → payload ≡ spelled_item i → ⊥
+
+-- items have no payload that is none
+pub never_bad : (s : Content) (xs ys : List Item) (payload : List ℕ) (later : List (List ℕ)) → MayAllFollow s xs → MayAllFollow s ys → IsBad s ys payload → map spelled_item xs ≡ map spelled_item ys ++ payload ∷ later → ⊥
+never_bad s [] [] payload later all all' bad same = never_some payload later same
+never_bad s [] (y ∷ ys) payload later all all' bad same = never_some (spelled_item y) (map spelled_item ys ++ payload ∷ later) same
+never_bad s (x ∷ xs) [] payload later all all' bad same = bad x all.0 (sym (head (spelled_item x) payload (map spelled_item xs) later same))
+never_bad s (x ∷ xs) (y ∷ ys) payload later all all' bad same =
+    let first : x ≡ y = one_item x y (fits s x all.0) (fits s y all'.0) (head (spelled_item x) (spelled_item y) (map spelled_item xs) (map spelled_item ys ++ payload ∷ later) same) in
+    never_bad (taken s y) xs ys payload later (subst (λ z. MayAllFollow (taken s z) xs) first all.1) all'.1 bad (tail (spelled_item x) (spelled_item y) (map spelled_item xs) (map spelled_item ys ++ payload ∷ later) same)
+
+-- the first payload that is none stands after the same items
+pub one_bad : (s : Content) (xs ys : List Item) (p p' : List ℕ) (l l' : List (List ℕ)) → MayAllFollow s xs → MayAllFollow s ys → IsBad s xs p → IsBad s ys p' → map spelled_item xs ++ p ∷ l ≡ map spelled_item ys ++ p' ∷ l' → xs ≡ ys
+one_bad s [] [] p p' l l' all all' bad bad' same = refl
+one_bad s [] (y ∷ ys) p p' l l' all all' bad bad' same = absurd (bad y all'.0 (head p (spelled_item y) l (map spelled_item ys ++ p' ∷ l') same))
+one_bad s (x ∷ xs) [] p p' l l' all all' bad bad' same = absurd (bad' x all.0 (sym (head (spelled_item x) p' (map spelled_item xs ++ p ∷ l) l' same)))
+one_bad s (x ∷ xs) (y ∷ ys) p p' l l' all all' bad bad' same =
+    let first : x ≡ y = one_item x y (fits s x all.0) (fits s y all'.0) (head (spelled_item x) (spelled_item y) (map spelled_item xs ++ p ∷ l) (map spelled_item ys ++ p' ∷ l') same) in
+    let later = one_bad (taken s x) xs ys p p' l l' all.1 (subst (λ z. MayAllFollow (taken s z) ys) (sym first) all'.1) bad (subst (λ z. IsBad (taken s z) ys p') (sym first) bad') (tail (spelled_item x) (spelled_item y) (map spelled_item xs ++ p ∷ l) (map spelled_item ys ++ p' ∷ l') same) in
+    λ k. first k ∷ later k

@@ -1,10 +1,12 @@
 -- The walk over a journal's records.
-use Rattle.std.proofs.Common.{◌≡◌, ℕ, ◌+◌, ◌<◌, ◌≤◌, zero, suc, false, List, [], ◌∷◌, ◌++◌, length, take, drop, Some, None, Ok, Err, refl, sym, ◌∙◌, ap, subst, arith}
-use Rattle.std.specs.Prelude.{map, slice_get, IfSome}
+use Rattle.std.proofs.Common.{◌≡◌, ℕ, ◌+◌, ◌-◌, ◌<◌, ◌≤◌, zero, suc, Bool, true, false, Result, true≢false, ◌↔◌, List, [], ◌∷◌, ◌++◌, length, take, drop, Some, None, Ok, Err, refl, sym, ◌∙◌, ap, subst, arith, take-append-drop}
+use Rattle.std.specs.Prelude.{map, slice_get, IfSome, IfOk, IsTrue}
 use Rattle.std.proofs.lemmas.List.{length-take-le, take_all}
 use Rattle.std.proofs.lemmas.List.Elements.{All-nil}
-use Rattle.fix_base.specs.declared.entry.Record.{Record}
-use Rattle.fix_base.specs.End.{new_end, folded_all}
+use Rattle.fix_base.specs.End.{End, IsAppAt, IsEntry}
+use Rattle.fix_base.specs.declared.entry.Entry.{Entry}
+use Rattle.fix_base.specs.declared.entry.Entry.TheVariants.{App, Admin}
+use Rattle.fix_base.proofs.WroteLemmas.{IsEntry-one}
 use Rattle.fix_disk.specs.Disk.{DiskSeen, IsLawfulDisk}
 use Rattle.fix_journal.specs.declared.fault.OpenFault.{OpenFault}
 use Rattle.fix_journal.specs.declared.fault.OpenFault.TheVariants.{DiskFault, Damaged, OutOfMemory}
@@ -13,11 +15,14 @@ use Rattle.fix_journal.specs.Journal.{JournalSeen, Holds}
 use Rattle.fix_journal.proofs.Moments.{started, weaker, then_on}
 use Rattle.fix_journal.proofs.RoomLemmas.{needs_then}
 use Rattle.fix_store.specs.declared.folding.Folded.{Folded}
-use Rattle.fix_store.specs.Spelling.{spelled}
-use Rattle.fix_store.specs.Store.{HasNumber}
-use Rattle.fix_store.specs.Folding.{Fold, new_fold, fold_of, IsFoldOf, IsWithin, GoesOn, Reads, Steps, Takes, Folds}
-use Rattle.fix_store.proofs.RecordLists.{map-push, length-map}
-use Rattle.fix_store.proofs.Places.{nothing_yet, may_follow, has_number, fold_step, within_step}
+use Rattle.fix_store.specs.declared.folding.Place.{Place}
+use Rattle.fix_store.specs.declared.changing.Change.{Change}
+use Rattle.fix_store.specs.Spelling.{Item, spelled_item, spelled_entry}
+use Rattle.fix_store.specs.Reading.{new_content, taken_all, MayFollow}
+use Rattle.fix_store.specs.Folding.{Fold, new_fold, fold_of, fold_with, change_of, pushes_of, IsFit, IsApp, NamesApp, MayTake, IsReadFault, IsFoldOf, IsWithin, GoesOn, Reads, IsUpTo, Steps, Takes, Folds}
+use Rattle.fix_store.proofs.RecordLists.{map-push, length-map, fits, fits_at}
+use Rattle.fix_store.proofs.Spellings.{one_item}
+use Rattle.fix_store.proofs.Places.{nothing_yet, may_follow, may_take, names, fold_step, within_step, is_there, get_front, get_map}
 
 -- ---- lists up to an item
 
@@ -70,14 +75,14 @@ reads_then n old mid new laws first second = record {
 pub record IsWalking {D : Type 0} (disk : D → DiskSeen) (old now : JournalSeen D) (index : ℕ) (f : Fold) : Type 0 where
   pub goes_on : GoesOn old now
   pub within : IsWithin f index
-  pub found : (payloads : List (List ℕ)) → Holds (disk old.disk) payloads → index ≤ length payloads → (records : List Record) × (take index payloads ≡ map spelled records) × IsFoldOf records f
+  pub found : (payloads : List (List ℕ)) → Holds (disk old.disk) payloads → index ≤ length payloads → (items : List Item) × IsUpTo payloads index items f
   pub reads : Reads 0 (disk old.disk) (disk now.disk)
 
 pub walk_begins : {D : Type 0} (disk : D → DiskSeen) (old : JournalSeen D) (f : Fold) → IsLawfulDisk (disk old.disk) → old.stopped ≡ false → f ≡ new_fold → IsWalking disk old old 0 f
 walk_begins disk old f laws still new = record {
   goes_on = record { count = refl; stopped = still };
-  within = subst (λ g. IsWithin g 0) (sym new) (record { few = omega arith; expected = (omega arith, omega arith); since = tt; each = All-nil (λ i. i < 0) });
-  found = λ payloads holds le. ([], refl, subst (IsFoldOf []) (sym new) nothing_yet);
+  within = subst (λ g. IsWithin g 0) (sym new) (record { few = omega arith; expected = (omega arith, omega arith); since = tt; each = All-nil (λ (p : Place). p.index < 0) });
+  found = λ payloads holds le. ([], record { is = refl; folds = subst (IsFoldOf []) (sym new) nothing_yet });
   reads = reads_none (disk old.disk) laws;
 }
 
@@ -86,52 +91,140 @@ module _ {D : Type 0} (disk : D → DiskSeen) (old now : JournalSeen D) (index :
   still_holds : (payloads : List (List ℕ)) → Holds (disk old.disk) payloads → Holds (disk now.disk) payloads
   still_holds payloads holds = (holds.0, walk.reads.same.bytes ∙ holds.1, holds.2)
 
-  module _ (new : JournalSeen D) (g : Fold) (steps : Steps index f g) (takes : (payloads : List (List ℕ)) → Holds (disk now.disk) payloads → Takes None index payloads f g) (goes : GoesOn now new) (reads : Reads 0 (disk now.disk) (disk new.disk)) where
-    found_next : (payloads : List (List ℕ)) → Holds (disk old.disk) payloads → index + 1 ≤ length payloads → (records : List Record) × (take (index + 1) payloads ≡ map spelled records) × IsFoldOf records g
+  module _ (new : JournalSeen D) (g : Fold) (steps : Steps index f g) (takes : (payloads : List (List ℕ)) (items : List Item) → Holds (disk now.disk) payloads → IsUpTo payloads index items f → Takes None index payloads items f g) (goes : GoesOn now new) (reads : Reads 0 (disk now.disk) (disk new.disk)) where
+    found_next : (payloads : List (List ℕ)) → Holds (disk old.disk) payloads → index + 1 ≤ length payloads → (items : List Item) × IsUpTo payloads (index + 1) items g
     found_next payloads holds le =
         let so_far = walk.found payloads holds (omega (arith, le)) in
-        let step = takes payloads (still_holds payloads holds) in
-        let r = step.0 in
-        let next = step.1 in
+        let items = so_far.0 in
+        let up_to = so_far.1 in
+        let step = takes payloads items (still_holds payloads holds) up_to in
+        let i = step.0 in
         let next_index : index + 1 ≡ suc index = omega arith in
-        let long : index ≡ length so_far.0 = omega (arith, le, length-take-le index payloads (omega (arith, le)), ap length so_far.1, length-map spelled so_far.0) in (
-          so_far.0 ++ r ∷ [],
-          ap (λ n. take n payloads) next_index ∙ take_more payloads index (spelled r) next.there ∙ ap (λ l. l ++ spelled r ∷ []) so_far.1 ∙ sym (map-push spelled so_far.0 r),
-          subst (IsFoldOf (so_far.0 ++ r ∷ [])) (sym step.2) (fold_step so_far.0 f so_far.2 r index long (may_follow so_far.0 f so_far.2 r next.keepable walk.within.few next.numbered)),
+        let long : index ≡ length items = omega (arith, le, length-take-le index payloads (omega (arith, le)), ap length up_to.is, length-map spelled_item items) in (
+          items ++ i ∷ [],
+          record {
+            is = ap (λ n. take n payloads) next_index ∙ take_more payloads index (spelled_item i) step.1 ∙ ap (λ l. l ++ spelled_item i ∷ []) up_to.is ∙ sym (map-push spelled_item items i);
+            folds = subst (IsFoldOf (items ++ i ∷ [])) (sym step.3) (fold_step items f up_to.folds i index long step.2);
+          },
         )
 
     pub walks_on : IsWalking disk old new (index + 1) g
     walks_on = record {
       goes_on = record { count = goes.count ∙ walk.goes_on.count; stopped = goes.stopped };
-      within = subst (λ h. IsWithin h (index + 1)) (sym steps.3) (within_step f steps.0 index index (index + 1) walk.within steps.1 steps.2 (omega arith) (omega arith));
+      within = subst (λ h. IsWithin h (index + 1)) (sym steps.3) (within_step f index index (index + 1) walk.within (omega arith) (omega arith) steps.0 steps.1 steps.2);
       found = found_next;
       reads = reads_then 0 (disk old.disk) (disk now.disk) (disk new.disk) laws walk.reads reads;
     }
 
   module _ (g : Fold) where
-    pub walk_fails : (fault : OpenFault) → ((payloads : List (List ℕ)) → Holds (disk now.disk) payloads → Takes (Some fault) index payloads f g) → (payloads : List (List ℕ)) → Holds (disk old.disk) payloads → index < length payloads → Folds (Err fault) payloads
+    pub walk_fails : (fault : OpenFault) → ((payloads : List (List ℕ)) (items : List Item) → Holds (disk now.disk) payloads → IsUpTo payloads index items f → Takes (Some fault) index payloads items f g) → (payloads : List (List ℕ)) → Holds (disk old.disk) payloads → index < length payloads → Folds (Err fault) payloads
     walk_fails DiskFault takes payloads holds lt = tt
     walk_fails OutOfMemory takes payloads holds lt = tt
     walk_fails (Damaged place) takes payloads holds lt =
         let so_far = walk.found payloads holds (omega (arith, lt)) in
-        let bad = takes payloads (still_holds payloads holds) in
+        let up_to = so_far.1 in
+        let bad = takes payloads so_far.0 (still_holds payloads holds) up_to in
         let s = splits payloads index lt in
         record {
-          records = so_far.0;
+          items = so_far.0;
           payload = s.item;
           later = drop (suc index) payloads;
-          is = s.is ∙ ap (λ l. l ++ s.item ∷ drop (suc index) payloads) so_far.1;
-          each = so_far.2.each;
-          none = λ r may is. bad.0 r (record {
-            there = s.there ∙ ap Some is;
-            keepable = may.keepable;
-            numbered = subst (HasNumber r) (sym so_far.2.stored) (has_number (folded_all new_end so_far.0) r may);
-          });
-          at = bad.1 ∙ ap (λ l. length (front l)) so_far.1;
+          is = s.is ∙ ap (λ l. l ++ s.item ∷ drop (suc index) payloads) up_to.is;
+          each = up_to.folds.each;
+          none = λ i may is. bad.0 i may (s.there ∙ ap Some is);
+          at = bad.1 ∙ ap (λ l. length (front l)) up_to.is;
         }
 
 -- at the end
 pub walk_ends : {D : Type 0} (disk : D → DiskSeen) (old now : JournalSeen D) (index : ℕ) (folded : Folded) → IsWalking disk old now index (fold_of folded) → index ≡ old.count → (payloads : List (List ℕ)) → Holds (disk old.disk) payloads → old.count ≡ length payloads → Folds (Ok folded) payloads
 walk_ends disk old now index folded walk is payloads holds count =
     let all = walk.found payloads holds (omega (arith, is, count)) in
-    (all.0, sym (take_all index payloads (omega (arith, is, count))) ∙ all.1, all.2)
+    (all.0, sym (take_all index payloads (omega (arith, is, count))) ∙ all.1.is, all.1.folds)
+
+-- ---- one step
+
+-- a fault of a read
+pub takes_fault : (fault : OpenFault) → IsReadFault fault → (index : ℕ) (payloads : List (List ℕ)) (items : List Item) (f g : Fold) → Takes (Some fault) index payloads items f g
+takes_fault DiskFault is index payloads items f g = tt
+takes_fault (Damaged place) is index payloads items f g = absurd is
+takes_fault OutOfMemory is index payloads items f g = tt
+
+-- what was read there is this item
+same_item : (payloads : List (List ℕ)) (index : ℕ) (payload : List ℕ) (i j : Item) → slice_get payloads index ≡ Some payload → IsFit i → payload ≡ spelled_item i → IsFit j → slice_get payloads index ≡ Some (spelled_item j) → j ≡ i
+same_item payloads index payload i j there fit is fit' there' = one_item j i fit' fit (subst (λ o. IfSome o (λ p. spelled_item j ≡ p)) (sym there' ∙ there) refl ∙ is)
+
+module _ (payloads : List (List ℕ)) (index : ℕ) (items : List Item) (f g : Fold) (payload : List ℕ) (place : ℕ) (up_to : IsUpTo payloads index items f) (there : slice_get payloads index ≡ Some payload) (at : place ≡ length (front (take index payloads))) where
+  -- the payload is none
+  pub takes_none : ((i : Item) → IsFit i → payload ≡ spelled_item i → ⊥) → Takes (Some (Damaged place)) index payloads items f g
+  takes_none none = (λ i may is. none i (fits (taken_all new_content items) i may) (subst (λ o. IfSome o (λ p. payload ≡ p)) (sym there ∙ is) refl), at)
+
+  module _ (i : Item) (fit : IsFit i) (is : payload ≡ spelled_item i) where
+    -- or none that may come next
+    pub takes_untaken : (MayTake f (change_of i) → ⊥) → Takes (Some (Damaged place)) index payloads items f g
+    takes_untaken not = (
+      λ j may is'.
+          let same = same_item payloads index payload i j there fit is (fits (taken_all new_content items) j may) is' in
+          not (may_take items f up_to.folds i (subst (MayFollow (taken_all new_content items)) same may)),
+      at,
+    )
+
+    pub takes_unnamed : (NamesApp (change_of i) (taken_all new_content items).end → ⊥) → Takes (Some (Damaged place)) index payloads items f g
+    takes_unnamed not = (
+      λ j may is'.
+          let same = same_item payloads index payload i j there fit is (fits (taken_all new_content items) j may) is' in
+          not (names items f up_to.folds i (subst (MayFollow (taken_all new_content items)) same may)),
+      at,
+    )
+
+    pub takes_it : length f.places ≤ 999999999 → MayTake f (change_of i) → NamesApp (change_of i) (taken_all new_content items).end → (g ≡ fold_with index f (change_of i)) → Takes None index payloads items f g
+    takes_it few may named is_next = (i, there ∙ ap Some is, may_follow items f up_to.folds i fit few may named, is_next)
+
+-- ---- whether a number that is withheld is one of an application message
+
+-- an entry is one of an application message, or not
+pub is_app_at : (out : List Entry) (n : ℕ) (entry : Entry) → IsEntry out n entry → IsApp entry → (body : List ℕ) × IsAppAt out n body
+is_app_at out n (App time by body) is app = (body, record { time = time; by = by; entry = is })
+is_app_at out n (Admin time kind about) is app = absurd app
+
+pub app_is : (out : List Entry) (n : ℕ) (entry : Entry) → IsEntry out n entry → (body : List ℕ) × IsAppAt out n body → IsApp entry
+app_is out n entry is at = subst IsApp (IsEntry-one at.1.entry is) tt
+
+module _ (payloads : List (List ℕ)) (index : ℕ) (items : List Item) (f : Fold) (up_to : IsUpTo payloads index items f) (n : ℕ) (first : 1 ≤ n) (last : n ≤ length f.places) (place : Place) (at : slice_get f.places (n - 1) ≡ Some place) where
+  -- where the entry of a number stands
+  pub record Named : Type 0 where
+    pub entry : Entry
+    pub item : Item
+    pub fit : IsFit item
+    pub there : slice_get payloads place.index ≡ Some (spelled_item item)
+    pub nth : slice_get (pushes_of item) place.nth ≡ Some entry
+    pub is : IsEntry (taken_all new_content items).end.out n entry
+
+  pub named : Named
+  named =
+      let found = is_there items f.places (taken_all new_content items).end.out (n - 1) up_to.folds.places (omega (arith, first, last)) in
+      let stands = found.stands place at in
+      let number : suc (n - 1) ≡ n = omega (arith, first) in
+      let front_of : slice_get (take index payloads) place.index ≡ Some (spelled_item stands.0) = ap (λ l. slice_get l place.index) up_to.is ∙ get_map spelled_item items place.index stands.0 stands.1 in
+      record {
+        entry = found.entry;
+        item = stands.0;
+        fit = fits_at new_content items place.index stands.0 up_to.folds.each stands.1;
+        there = ap (λ l. slice_get l place.index) (sym (take-append-drop index payloads)) ∙ get_front (take index payloads) (drop index payloads) place.index (spelled_item stands.0) front_of;
+        nth = stands.2;
+        is = subst (λ m. IsEntry (taken_all new_content items).end.out m found.entry) number found.is;
+      }
+
+-- what was read of an entry's part is the entry
+pub same_entry : (payloads : List (List ℕ)) (index : ℕ) (payload : List ℕ) → slice_get payloads index ≡ Some payload → (nth : ℕ) (part : List ℕ) → ((i : Item) (entry : Entry) → IsFit i → payload ≡ spelled_item i → slice_get (pushes_of i) nth ≡ Some entry → part ≡ spelled_entry entry)
+    → (i : Item) (entry : Entry) → slice_get payloads index ≡ Some (spelled_item i) → IsFit i → slice_get (pushes_of i) nth ≡ Some entry → part ≡ spelled_entry entry
+same_entry payloads index payload there nth part found i entry there' fit at = found i entry fit (subst (λ o. IfSome o (λ p. payload ≡ p)) (sym there ∙ there') refl) at
+
+pub app_so : (entry e : Entry) → entry ≡ e → IsApp e → IsTrue true ↔ IsApp entry
+app_so entry e same app = (λ t. subst IsApp (sym same) app, λ t. refl)
+
+pub admin_so : (entry e : Entry) → entry ≡ e → (IsApp e → ⊥) → IsTrue false ↔ IsApp entry
+admin_so entry e same not = (λ t. absurd (true≢false (sym t)), λ app. absurd (not (subst IsApp same app)))
+
+pub names_by : (o : Result Bool OpenFault) (P Q : Type 0) → (P ↔ Q) → IfOk o (λ x. IsTrue x ↔ P) → IfOk o (λ x. IsTrue x ↔ Q)
+names_by (Ok x) P Q both is = (λ t. both.0 (is.0 t), λ q. is.1 (both.1 q))
+names_by (Err e) P Q both is = tt

@@ -1,12 +1,15 @@
 -- What a store keeps in memory of its records, and how a walk over the records makes it.
-use Rattle.std.specs.Prelude.{◌≡◌, ◌↔◌, ℕ, ◌<◌, ◌≤◌, Bool, true, false, List, [], ◌∷◌, ◌++◌, length, take, map}
-use Rattle.std.specs.Prelude.{slice_get, All, Option, IfSome, Some, None, IsSome, Result, Ok, Err, ⊤}
+use Rattle.std.specs.Prelude.{◌≡◌, ◌↔◌, ℕ, zero, suc, ◌+◌, ◌<◌, ◌≤◌, ◌==◌, if◌then◌else◌, Bool, true, false}
+use Rattle.std.specs.Prelude.{List, [], ◌∷◌, ◌++◌, length, take, map}
+use Rattle.std.specs.Prelude.{vec_len, vec_capacity, slice_get, All, Option, IfSome, Some, None, IsSome, Result, Ok, Err, ⊤}
+use Rattle.std.specs.FinSet as set
 use Rattle.fix_base.specs.declared.entry.Entry.{Entry}
 use Rattle.fix_base.specs.declared.entry.Record.{Record}
 use Rattle.fix_base.specs.declared.entry.Entry.TheVariants.{App, Admin}
 use Rattle.fix_base.specs.declared.entry.Record.TheVariants.{Push, Expect, Many, Withhold, Reset, ResetAsk, Confirm}
-use Rattle.fix_base.specs.End.{new_end, folded_all}
-use Rattle.fix_base.specs.Payload.{IsKeepable, LAST_TIME}
+use Rattle.fix_base.specs.End.{End, IsAppAt}
+use Rattle.std.specs.List.{AllByRecursion}
+use Rattle.fix_base.specs.Payload.{HasPayload, IsKeepable, LAST_TIME}
 use Rattle.fix_base.specs.Trace.{Rises}
 use Rattle.fix_base.specs.declared.entry.Stored.{Stored}
 use Rattle.fix_disk.specs.Disk.{DiskSeen, LeavesAsIs}
@@ -16,80 +19,300 @@ use Rattle.fix_journal.specs.declared.fault.OpenFault.TheVariants as open_fault
 use Rattle.fix_journal.specs.Format.{front}
 use Rattle.fix_journal.specs.Journal.{JournalSeen, Holds, Lasts}
 use Rattle.fix_store.specs.declared.folding.Folded.{Folded}
+use Rattle.fix_store.specs.declared.folding.Place.{Place}
+use Rattle.fix_store.specs.declared.changing.Change.{Change}
+use Rattle.fix_store.specs.declared.changing.Change.TheVariants as change
+use Rattle.fix_store.specs.declared.entries.LentEntry.{LentEntry}
+use Rattle.fix_store.specs.declared.entries.LentEntry.TheVariants as lent
+use Rattle.fix_store.specs.declared.withheld.Withheld.{Withheld}
 use Rattle.fix_store.specs.declared.reading.Spelt.{Spelt}
 use Rattle.fix_store.specs.declared.reading.Spelt.TheVariants as spelt
-use Rattle.fix_store.specs.Spelling.{spelled, IsStorable}
-use Rattle.fix_store.specs.Reading.{LAST_NUMBER, MayFollow, MayAllFollow}
-use Rattle.fix_store.specs.Store.{stored_of, HasNumber}
+use Rattle.fix_store.specs.declared.spelling.Kept.{Kept}
+use Rattle.fix_store.specs.declared.spelling.Kept.TheVariants as kept
+use Rattle.fix_store.specs.Spelling.{Item, keeps, marks, spelled_item, spelled_entries}
+use Rattle.fix_store.specs.Reading.{LAST_NUMBER, Content, new_content, taken_all, MayFollow, MayAllFollow}
+use Rattle.fix_store.specs.Ends.{entries_in}
+use Rattle.fix_store.specs.Store.{NumberSet, stored_of, withheld_of}
 
--- a record whose body is lent
-abbrev pub record_of : Spelt → Record
-record_of (spelt.App time by body) = Push (App time by body.now)
-record_of (spelt.Admin time kind about) = Push (Admin time kind about)
-record_of (spelt.Expect number) = Expect number
-record_of (spelt.Reset time) = Reset time
+-- an entry whose body is lent
+abbrev pub lent_entry : LentEntry → Entry
+lent_entry (lent.App time by body) = App time by body.now
+lent_entry (lent.Admin time kind about) = Admin time kind about
 
--- the indexes of the entries' records, the expected number, the last reset, and whether one is asked for
+-- the payloads of so many entries, each after its length
+pub record AreEntries (count : ℕ) (bytes : List ℕ) : Type 0 where
+  pub entries : List Entry
+  pub many : length entries ≡ count
+  pub each : AllByRecursion HasPayload entries
+  pub is : bytes ≡ spelled_entries entries
+
+-- how many entries a record of several may have, with this expected number or 0
+pub record HasManyCounts (count number : ℕ) : Type 0 where
+  pub some : 1 ≤ count
+  pub few : count ≤ 64
+  pub two : number ≡ 0 → 2 ≤ count
+  pub fits : number ≤ 1000000000
+
+-- an item whose bytes are lent
+abbrev pub item_of : Spelt → Item
+item_of (spelt.App time by body) = keeps (Push (App time by body.now))
+item_of (spelt.Admin time kind about) = keeps (Push (Admin time kind about))
+item_of (spelt.Many count number entries) = keeps (Many (entries_in count entries.now) number)
+item_of (spelt.Expect number) = keeps (Expect number)
+item_of (spelt.Withhold number) = keeps (Withhold number)
+item_of (spelt.Reset time) = keeps (Reset time)
+item_of (spelt.ResetAsk time) = keeps (ResetAsk time)
+item_of spelt.Confirm = keeps Confirm
+item_of spelt.Mark = marks
+
+-- a record that is lent
+abbrev pub record_of : Kept → Record
+record_of (kept.Push entry) = Push entry.now
+record_of (kept.Many pushes number) = Many pushes.now number
+record_of (kept.Expect number) = Expect number
+record_of (kept.Withhold number) = Withhold number
+record_of (kept.Reset time) = Reset time
+record_of (kept.ResetAsk time) = ResetAsk time
+record_of kept.Confirm = Confirm
+
+-- an item that may stand somewhere in a file
+abbrev pub IsFit : Item → Type 0
+IsFit (keeps r) = IsKeepable r
+IsFit marks = ⊤
+
+-- the entries of an item
+abbrev pub pushes_of : Item → List Entry
+pushes_of (keeps (Push entry)) = entry ∷ []
+pushes_of (keeps (Many pushes number)) = pushes
+pushes_of (keeps (Expect number)) = []
+pushes_of (keeps (Withhold number)) = []
+pushes_of (keeps (Reset time)) = []
+pushes_of (keeps (ResetAsk time)) = []
+pushes_of (keeps Confirm) = []
+pushes_of marks = []
+
+-- what it changes in memory
+abbrev pub change_of : Item → Change
+change_of (keeps (Push entry)) = change.Entries 1 0
+change_of (keeps (Many pushes number)) = change.Entries (length pushes) number
+change_of (keeps (Expect number)) = change.Expect number
+change_of (keeps (Withhold number)) = change.Withhold number
+change_of (keeps (Reset time)) = change.Reset time
+change_of (keeps (ResetAsk time)) = change.ResetAsk time
+change_of (keeps Confirm) = change.Confirm
+change_of marks = change.Mark
+
+-- where the entries are, the expected number, the last reset, whether one is asked for, which messages are
+-- withheld, and whether the file is marked
 pub record Fold : Type 0 where
-  pub places : List ℕ
+  pub places : List Place
   pub expected : ℕ
   pub since : Option ℕ
   pub asked : Bool
+  pub withheld : NumberSet
+  pub marked : Bool
+
+-- the number that was withheld last is kept apart
+abbrev pub with_last : Option ℕ → NumberSet → NumberSet
+with_last None s = s
+with_last (Some n) s = set.insert s n
+
+abbrev pub withheld_in : Withheld → NumberSet
+withheld_in w = with_last w.last (set.from_list w.numbers.keys)
 
 abbrev pub fold_of : Folded → Fold
-fold_of f = record { places = f.places.items; expected = f.expected; since = f.since; asked = f.asked }
+fold_of f = record {
+  places = f.places.items;
+  expected = f.expected;
+  since = f.since;
+  asked = f.asked;
+  withheld = withheld_in f.withheld;
+  marked = f.marked;
+}
 
 abbrev pub new_fold : Fold
-new_fold = record { places = []; expected = 1; since = None; asked = false }
+new_fold = record {
+  places = [];
+  expected = 1;
+  since = None;
+  asked = false;
+  withheld = set.empty;
+  marked = false;
+}
 
--- after the record of this index; one of several entries, or that withholds one, has no form yet
-abbrev pub fold_with : ℕ → Fold → Record → Fold
-fold_with index f (Push entry) = record f { places = f.places ++ index ∷ [] }
-fold_with index f (Expect number) = record f { expected = number }
-fold_with index f (Many pushes number) = f
-fold_with index f (Withhold number) = f
-fold_with index f (Reset time) = record { places = []; expected = 1; since = Some time; asked = f.asked }
-fold_with index f (ResetAsk time) = record { places = []; expected = 1; since = Some time; asked = true }
-fold_with index f Confirm = record f { asked = false }
+-- the places of so many entries of the record of this index
+abbrev pub places_from : ℕ → ℕ → ℕ → List Place
+places_from index nth zero = []
+places_from index nth (suc n) = record { index = index; nth = nth } ∷ places_from index (suc nth) n
+
+-- the number that is expected then, where it isn't 0
+abbrev pub expected_then : ℕ → ℕ → ℕ
+expected_then old number = if number == 0 then old else number
+
+-- after what stands at this index
+abbrev pub fold_with : ℕ → Fold → Change → Fold
+fold_with index f (change.Entries count number) = record {
+  places = f.places ++ places_from index 0 count;
+  expected = expected_then f.expected number;
+  since = f.since;
+  asked = f.asked;
+  withheld = f.withheld;
+  marked = f.marked;
+}
+fold_with index f (change.Expect number) = record {
+  places = f.places;
+  expected = number;
+  since = f.since;
+  asked = f.asked;
+  withheld = f.withheld;
+  marked = f.marked;
+}
+fold_with index f (change.Withhold number) = record {
+  places = f.places;
+  expected = f.expected;
+  since = f.since;
+  asked = f.asked;
+  withheld = set.insert f.withheld number;
+  marked = f.marked;
+}
+fold_with index f (change.Reset time) = record {
+  places = [];
+  expected = 1;
+  since = Some time;
+  asked = f.asked;
+  withheld = set.empty;
+  marked = f.marked;
+}
+fold_with index f (change.ResetAsk time) = record {
+  places = [];
+  expected = 1;
+  since = Some time;
+  asked = true;
+  withheld = set.empty;
+  marked = f.marked;
+}
+fold_with index f change.Confirm = record {
+  places = f.places;
+  expected = f.expected;
+  since = f.since;
+  asked = false;
+  withheld = f.withheld;
+  marked = f.marked;
+}
+fold_with index f change.Mark = record {
+  places = f.places;
+  expected = f.expected;
+  since = f.since;
+  asked = f.asked;
+  withheld = f.withheld;
+  marked = true;
+}
 
 abbrev pub stored_in : Fold → Stored
 stored_in f = record { last = length f.places; expected = f.expected; since = f.since; asked = f.asked }
 
--- the records at these indexes are those of these entries
-abbrev pub ArePlaces : List Record → List ℕ → List Entry → Type 0
-ArePlaces records [] [] = ⊤
-ArePlaces records [] (entry ∷ out) = ⊥
-ArePlaces records (index ∷ places) [] = ⊥
-ArePlaces records (index ∷ places) (entry ∷ out) = (slice_get records index ≡ Some (Push entry))
-    × ArePlaces records places out
+-- it may come next, as far as what is in memory tells
+abbrev pub MayTake : Fold → Change → Type 0
+MayTake f (change.Entries count number) = length f.places + count ≤ LAST_NUMBER
+MayTake f (change.Expect number) = ⊤
+MayTake f (change.Withhold number) = number ≤ length f.places
+MayTake f (change.Reset time) = ⊤
+MayTake f (change.ResetAsk time) = f.marked ≡ true
+MayTake f change.Confirm = f.marked ≡ true
+MayTake f change.Mark = f.marked ≡ false
 
--- it is that of these records
-pub record IsFoldOf (records : List Record) (f : Fold) : Type 0 where
-  pub each : MayAllFollow new_end records
-  pub stored : stored_in f ≡ stored_of (folded_all new_end records)
-  pub places : ArePlaces records f.places (folded_all new_end records).out
+-- a number that is withheld is one of a store that tells this
+abbrev pub HasPlaceIn : Stored → Record → Type 0
+HasPlaceIn s (Push entry) = ⊤
+HasPlaceIn s (Expect number) = ⊤
+HasPlaceIn s (Many pushes number) = ⊤
+HasPlaceIn s (Withhold number) = number ≤ s.last
+HasPlaceIn s (Reset time) = ⊤
+HasPlaceIn s (ResetAsk time) = ⊤
+HasPlaceIn s Confirm = ⊤
 
--- its places are indexes of so many records, and its numbers are in their ranges
+-- it can be taken in without memory
+abbrev pub HasRoomFor : Folded → Change → Type 0
+HasRoomFor f (change.Entries count number) = vec_len f.places + count ≤ vec_capacity f.places
+HasRoomFor f (change.Expect number) = ⊤
+HasRoomFor f (change.Withhold number) = f.withheld.last ≡ None
+HasRoomFor f (change.Reset time) = ⊤
+HasRoomFor f (change.ResetAsk time) = ⊤
+HasRoomFor f change.Confirm = ⊤
+HasRoomFor f change.Mark = ⊤
+
+-- a number that is withheld is one of an application message
+abbrev pub NamesApp : Change → End → Type 0
+NamesApp (change.Entries count number) e = ⊤
+NamesApp (change.Expect number) e = ⊤
+NamesApp (change.Withhold number) e = (body : List ℕ) × IsAppAt e.out number body
+NamesApp (change.Reset time) e = ⊤
+NamesApp (change.ResetAsk time) e = ⊤
+NamesApp change.Confirm e = ⊤
+NamesApp change.Mark e = ⊤
+
+abbrev pub IsApp : Entry → Type 0
+IsApp (App time by body) = ⊤
+IsApp (Admin time kind about) = ⊥
+
+-- a number that is withheld is none before the first
+abbrev pub IsFitChange : Change → Type 0
+IsFitChange (change.Entries count number) = ⊤
+IsFitChange (change.Expect number) = ⊤
+IsFitChange (change.Withhold number) = 1 ≤ number
+IsFitChange (change.Reset time) = ⊤
+IsFitChange (change.ResetAsk time) = ⊤
+IsFitChange change.Confirm = ⊤
+IsFitChange change.Mark = ⊤
+
+-- a fault of a read names no damage
+abbrev pub IsReadFault : OpenFault → Type 0
+IsReadFault open_fault.DiskFault = ⊤
+IsReadFault (open_fault.Damaged place) = ⊥
+IsReadFault open_fault.OutOfMemory = ⊤
+
+-- the entry stands at the place
+abbrev pub StandsAt : List Item → Place → Entry → Type 0
+StandsAt items place entry = (i : Item) × (slice_get items place.index ≡ Some i)
+    × (slice_get (pushes_of i) place.nth ≡ Some entry)
+
+-- these entries stand at these places
+abbrev pub ArePlaces : List Item → List Place → List Entry → Type 0
+ArePlaces items [] [] = ⊤
+ArePlaces items [] (entry ∷ out) = ⊥
+ArePlaces items (place ∷ places) [] = ⊥
+ArePlaces items (place ∷ places) (entry ∷ out) = StandsAt items place entry × ArePlaces items places out
+
+-- it is that of these items
+pub record IsFoldOf (items : List Item) (f : Fold) : Type 0 where
+  pub each : MayAllFollow new_content items
+  pub stored : stored_in f ≡ stored_of (taken_all new_content items).end
+  pub places : ArePlaces items f.places (taken_all new_content items).end.out
+  pub withheld : f.withheld ≡ withheld_of (taken_all new_content items).end
+  pub marked : f.marked ≡ (taken_all new_content items).marked
+
+-- its places are in so many records, and its numbers are in their ranges
 pub record IsWithin (f : Fold) (count : ℕ) : Type 0 where
   pub few : length f.places ≤ LAST_NUMBER
   pub expected : IsKeepable (Expect f.expected)
   pub since : IfSome f.since (λ time. time ≤ LAST_TIME)
-  pub each : All (λ index. index < count) f.places
+  pub each : All (λ place. place.index < count) f.places
 
--- the journal's file has these records, so many
-pub record IsKeptOf (seen : DiskSeen) (count : ℕ) (records : List Record) (f : Fold) : Type 0 where
-  pub holds : Holds seen (map spelled records)
-  pub lasts : Lasts seen (map spelled records)
-  pub counts : count ≡ length records
-  pub folds : IsFoldOf records f
+-- the journal's file has these items, so many
+pub record IsKeptOf (seen : DiskSeen) (count : ℕ) (items : List Item) (f : Fold) : Type 0 where
+  pub holds : Holds seen (map spelled_item items)
+  pub lasts : Lasts seen (map spelled_item items)
+  pub counts : count ≡ length items
+  pub folds : IsFoldOf items f
 
--- what always holds of a store
+-- what always holds of a store that was opened
 pub record IsSound {D : Type 0} (disk : D
     → DiskSeen) (journal : JournalSeen D) (f : Fold) (stopped : Bool) : Type 0 where
   pub stops : stopped ≡ journal.stopped
   pub within : IsWithin f journal.count
-  pub kept : stopped ≡ false → IsSome (disk journal.disk).bytes → (records : List Record)
-      × IsKeptOf (disk journal.disk) journal.count records f
+  pub marked : f.marked ≡ true
+  pub kept : stopped ≡ false → IsSome (disk journal.disk).bytes → (items : List Item)
+      × IsKeptOf (disk journal.disk) journal.count items f
 
 -- calls that read
 pub record Reads (failures : ℕ) (old new : DiskSeen) : Type 0 where
@@ -101,17 +324,17 @@ pub record Reads (failures : ℕ) (old new : DiskSeen) : Type 0 where
 
 -- the first payload that is no record after those before it, at its place in the file
 pub record IsFirstBad (payloads : List (List ℕ)) (place : ℕ) : Type 0 where
-  pub records : List Record
+  pub items : List Item
   pub payload : List ℕ
   pub later : List (List ℕ)
-  pub is : payloads ≡ map spelled records ++ payload ∷ later
-  pub each : MayAllFollow new_end records
-  pub none : (r : Record) → MayFollow (folded_all new_end records) r → payload ≡ spelled r → ⊥
-  pub at : place ≡ length (front (map spelled records))
+  pub is : payloads ≡ map spelled_item items ++ payload ∷ later
+  pub each : MayAllFollow new_content items
+  pub none : (i : Item) → MayFollow (taken_all new_content items) i → payload ≡ spelled_item i → ⊥
+  pub at : place ≡ length (front (map spelled_item items))
 
 -- what a walk over a journal's records finds
 abbrev pub Folds : Result Folded OpenFault → List (List ℕ) → Type 0
-Folds (Ok f) payloads = (records : List Record) × (payloads ≡ map spelled records) × IsFoldOf records (fold_of f)
+Folds (Ok f) payloads = (items : List Item) × (payloads ≡ map spelled_item items) × IsFoldOf items (fold_of f)
 Folds (Err open_fault.DiskFault) payloads = ⊤
 Folds (Err (open_fault.Damaged place)) payloads = IsFirstBad payloads place
 Folds (Err open_fault.OutOfMemory) payloads = ⊤
@@ -121,20 +344,21 @@ pub record GoesOn {D : Type 0} (old new : JournalSeen D) : Type 0 where
   pub count : new.count ≡ old.count
   pub stopped : new.stopped ≡ false
 
--- the payload of this index is this record, which may come next
-pub record IsNext (payloads : List (List ℕ)) (index : ℕ) (f : Fold) (r : Record) : Type 0 where
-  pub there : slice_get payloads index ≡ Some (spelled r)
-  pub keepable : IsStorable r
-  pub numbered : HasNumber r (stored_in f)
+-- the payloads before this index are these items, which come to this
+pub record IsUpTo (payloads : List (List ℕ)) (index : ℕ) (items : List Item) (f : Fold) : Type 0 where
+  pub is : take index payloads ≡ map spelled_item items
+  pub folds : IsFoldOf items f
 
 -- one step of the walk, whatever the disk gave back
 abbrev pub Steps : ℕ → Fold → Fold → Type 0
-Steps index old new = (r : Record) × IsStorable r × HasNumber r (stored_in old) × (new ≡ fold_with index old r)
+Steps index old new = (i : Item) × IsFit i × MayTake old (change_of i) × (new ≡ fold_with index old (change_of i))
 
 -- one step of the walk, over a disk that tells its file
-abbrev pub Takes : Option OpenFault → ℕ → List (List ℕ) → Fold → Fold → Type 0
-Takes None index payloads old new = (r : Record) × IsNext payloads index old r × (new ≡ fold_with index old r)
-Takes (Some open_fault.DiskFault) index payloads old new = ⊤
-Takes (Some (open_fault.Damaged place)) index payloads old new = ((r : Record) → IsNext payloads index old r → ⊥)
+abbrev pub Takes : Option OpenFault → ℕ → List (List ℕ) → List Item → Fold → Fold → Type 0
+Takes None index payloads items old new = (i : Item) × (slice_get payloads index ≡ Some (spelled_item i))
+    × MayFollow (taken_all new_content items) i × (new ≡ fold_with index old (change_of i))
+Takes (Some open_fault.DiskFault) index payloads items old new = ⊤
+Takes (Some (open_fault.Damaged place)) index payloads items old new = ((i : Item)
+    → MayFollow (taken_all new_content items) i → slice_get payloads index ≡ Some (spelled_item i) → ⊥)
     × (place ≡ length (front (take index payloads)))
-Takes (Some open_fault.OutOfMemory) index payloads old new = ⊤
+Takes (Some open_fault.OutOfMemory) index payloads items old new = ⊤

@@ -4,5 +4,6 @@ pub mod Ends
 pub mod Store
 pub mod Keeping
 pub mod Folding
+pub mod Marking
 pub mod Opening
 pub mod Rooms

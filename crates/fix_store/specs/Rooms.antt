@@ -1,5 +1,5 @@
 -- How much room a store has on a disk that tells its own.
-use Rattle.std.specs.Prelude.{◌≡◌, ℕ, ◌-◌, nat_le, if◌then◌else◌, List, Option, Some, None, ⊤}
+use Rattle.std.specs.Prelude.{◌≡◌, ℕ, ◌+◌, ◌-◌, nat_le, if◌then◌else◌, List, Option, Some, None, ⊤}
 use Rattle.fix_base.specs.declared.entry.Record.{Record}
 use Rattle.fix_base.specs.Parts.{HasNoRoom, TakesRoom, KeepsRoom}
 use Rattle.fix_base.specs.Payload.{record_size}
@@ -8,19 +8,25 @@ use Rattle.fix_journal.specs.declared.fault.OpenFault.{OpenFault}
 use Rattle.fix_journal.specs.declared.fault.OpenFault.TheVariants as open_fault
 use Rattle.fix_journal.specs.Format.{file_size}
 use Rattle.fix_journal.specs.Payloads.{payloads_in}
+use Rattle.fix_store.specs.Ends.{is_marked}
 use Rattle.fix_store.specs.declared.fault.StoreFault.{StoreFault}
 use Rattle.fix_store.specs.declared.fault.StoreFault.TheVariants.{Stopped, NumbersSpent, OutOfMemory, DiskFault}
 
--- how many bytes of a file its records take, with the closed gate after them
+-- how many bytes of a file its records take, with the mark, which an opening adds where it is missing, and the
+-- closed gate after them
 abbrev pub used : List ℕ → ℕ
-used file = file_size (payloads_in file)
+used file = if is_marked file then file_size (payloads_in file) else file_size (payloads_in file) + 10
 
--- the room for further records, of a disk with this room and this file; none is told of one that can't hold
--- an empty store
+-- how many bytes an opening needs
+abbrev pub needed : List ℕ → ℕ
+needed file = if is_marked file then 10 else used file
+
+-- the room for further records, of a disk with this room and this file; none is told of one on which a store
+-- can't be opened
 abbrev pub room_in : Option ℕ → Option (List ℕ) → Option ℕ
 room_in None bytes = None
 room_in (Some room) None = None
-room_in (Some room) (Some file) = if nat_le 10 room then Some (room - used file) else None
+room_in (Some room) (Some file) = if nat_le (needed file) room then Some (room - used file) else None
 
 abbrev pub room_left : DiskSeen → Option ℕ
 room_left seen = room_in seen.room seen.bytes

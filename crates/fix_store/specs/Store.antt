@@ -1,20 +1,26 @@
 -- What is seen of a store, and what its calls do.
 use Rattle.std.specs.Prelude.{◌≡◌, ◌⊎◌, ◌↔◌, ℕ, ◌+◌, ◌<◌, ◌≤◌, ◌==◌, if◌then◌else◌, Bool, true, false, List, length}
 use Rattle.std.specs.Prelude.{Option, Some, None, IsSome, IfSome, Result, Ok, Err, IfOk, ⊤}
+use Rattle.std.specs.FinSet as set
+use Rattle.std.specs.Ordering.{nat_cmp}
 use Rattle.fix_base.specs.declared.entry.Entry.{Entry}
 use Rattle.fix_base.specs.declared.entry.Record.{Record}
 use Rattle.fix_base.specs.declared.entry.Entry.TheVariants.{Admin}
 use Rattle.fix_base.specs.declared.entry.Record.TheVariants.{Push, Expect, Many, Withhold, Reset, ResetAsk, Confirm}
 use Rattle.fix_base.specs.End.{End, folded, IsEntry}
-use Rattle.fix_base.specs.Payload.{HasPayload, IsKeepable, LAST_TIME}
+use Rattle.fix_base.specs.Payload.{HasPayload, IsKeepable, IsKeepableAt, LAST_TIME}
 use Rattle.fix_base.specs.Trace.{Rises}
 use Rattle.fix_base.specs.declared.entry.Stored.{Stored}
 use Rattle.fix_disk.specs.Disk.{DiskSeen, LeavesAsIs}
 use Rattle.fix_disk.specs.Moments.{LeavesOnly}
 use Rattle.fix_store.specs.declared.fault.StoreFault.{StoreFault}
 use Rattle.fix_store.specs.declared.fault.StoreFault.TheVariants.{Stopped, NumbersSpent, OutOfMemory, DiskFault}
-use Rattle.fix_store.specs.Spelling.{spelled}
+use Rattle.fix_store.specs.Spelling.{spelled_entry}
 use Rattle.fix_store.specs.Reading.{LAST_NUMBER, HasEnd}
+
+-- numbers of messages
+abbrev pub NumberSet : Type 0
+NumberSet = set.FinSet nat_cmp
 
 -- over a disk of type D
 pub record StoreSeen (D : Type 0) : Type 0 where
@@ -25,6 +31,10 @@ pub record StoreSeen (D : Type 0) : Type 0 where
 -- what a store tells of an end
 abbrev pub stored_of : End → Stored
 stored_of e = record { last = length e.out; expected = e.stored; since = e.since; asked = e.asked }
+
+-- the numbers of the messages that aren't to be sent again
+abbrev pub withheld_of : End → NumberSet
+withheld_of e = set.from_list e.withheld
 
 -- its numbers are ones that a store may tell
 pub record IsInRange (s : Stored) : Type 0 where
@@ -45,6 +55,15 @@ stored_with s (Reset time) = record { last = 0; expected = 1; since = Some time;
 stored_with s (ResetAsk time) = record { last = 0; expected = 1; since = Some time; asked = true }
 stored_with s Confirm = record s { asked = false }
 
+abbrev pub withheld_with : NumberSet → Record → NumberSet
+withheld_with w (Push entry) = w
+withheld_with w (Expect number) = w
+withheld_with w (Many pushes number) = w
+withheld_with w (Withhold number) = set.insert w number
+withheld_with w (Reset time) = set.empty
+withheld_with w (ResetAsk time) = set.empty
+withheld_with w Confirm = w
+
 -- the disk tells a file with this end
 abbrev pub HoldsEnd : DiskSeen → End → Type 0
 HoldsEnd seen e = (file : List ℕ) × (seen.bytes ≡ Some file) × HasEnd file e
@@ -61,6 +80,10 @@ IsEitherEnd e r file = HasEnd file e ⊎ HasEnd file (folded e r)
 abbrev pub IsTold : {D : Type 0} → (D → DiskSeen) → StoreSeen D → Type 0
 IsTold disk store = store.stopped ≡ false
     → IfSome (disk store.disk).bytes (λ file. (e : End) × HasEnd file e × (store.stored ≡ stored_of e))
+
+-- the record may be kept at the end that the disk tells
+abbrev pub MayKeep : DiskSeen → Record → Type 0
+MayKeep seen r = (e : End) → HoldsEnd seen e → IsKeepableAt e r
 
 -- each entry has a number left
 abbrev pub HasNumber : Record → Stored → Type 0
@@ -126,16 +149,17 @@ ReadAnswers None old new = (old.stopped ≡ false) × (new.stored ≡ old.stored
 ReadAnswers (Some Stopped) old new = (old.stopped ≡ true) × (new ≡ old)
 ReadAnswers (Some NumbersSpent) old new = ⊥
 ReadAnswers (Some OutOfMemory) old new = (old.stopped ≡ false) × (new ≡ old)
-ReadAnswers (Some DiskFault) old new = (old.stopped ≡ false) × (new.stored ≡ old.stored) × (new.stopped ≡ true)
+ReadAnswers (Some DiskFault) old new = (old.stopped ≡ false) × (new.stored ≡ old.stored)
+    × (new.stopped ≡ true)
 
 -- what stands for an entry where a disk that doesn't tell its bytes gave back none
 abbrev pub NO_ENTRY : Entry
 NO_ENTRY = Admin 0 78 0
 
--- bytes that were read for an entry are its record, or that of no entry
+-- bytes that were read for an entry are its payload, or that of no entry
 abbrev pub ReadsAs : List ℕ → Entry → Type 0
-ReadsAs payload entry = (HasPayload entry × (payload ≡ spelled (Push entry)))
-    ⊎ (((other : Entry) → HasPayload other → payload ≡ spelled (Push other) → ⊥) × (entry ≡ NO_ENTRY))
+ReadsAs payload entry = (HasPayload entry × (payload ≡ spelled_entry entry))
+    ⊎ (((other : Entry) → HasPayload other → payload ≡ spelled_entry other → ⊥) × (entry ≡ NO_ENTRY))
 
 -- what reading the entry of a number gives, and does to the disk
 pub record StoreReads (answer : Result Entry StoreFault) (number : ℕ) (old new : DiskSeen) : Type 0 where

@@ -2,18 +2,24 @@
 //! and its last reset, as the fold of a journal's records.
 #![tactic(auto)]
 
+mod changing;
 mod entries;
 mod fault;
+mod fetching;
 mod folding;
 mod keeping;
 mod laws;
+mod marking;
 mod numbers;
 mod reading;
+#[cfg(test)]
+mod record_tests;
 mod spelling;
 mod store;
 #[cfg(test)]
 mod tests;
 mod walking;
+mod withheld;
 
 pub use fault::StoreFault;
 pub use laws::a_stored_file_has_one_end;

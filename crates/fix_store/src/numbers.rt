@@ -1,9 +1,7 @@
-//! Reads times and numbers out of a payload, for `reading`. It also gives the next MsgSeqNum (34), for `store`.
-ghost use Rattle.std.specs.Prelude.{◌≡◌, ◌++◌, ◌+◌, ◌<◌, ◌≤◌, ◌^◌, ℕ, List, MatchOption};
+//! Reads times and numbers out of a payload, for `entries` and `reading`.
+ghost use Rattle.std.specs.Prelude.{◌≡◌, ◌++◌, ◌<◌, ◌≤◌, ◌^◌, ℕ, List, MatchOption};
 ghost use Rattle.std.specs.Int.{w32, w64, to_be_bytes};
 ghost use Rattle.fix_base.specs.Payload as payload;
-
-use fix_base::SeqNum;
 
 /// The last microsecond of 2099.
 const LAST_TIME: u64 = 4_102_444_799_999_999;
@@ -22,6 +20,16 @@ pub(crate) fn time_at(bytes: &[u8]) -> Option<(u64, &[u8])>
     Some((time, later))
 }
 
+// The number at the front, and the bytes after it.
+pub(crate) fn number_at(bytes: &[u8]) -> Option<(u32, &[u8])>
+    ensures { MatchOption result
+        ((number : ℕ) (later : List ℕ) → number < 2 ^ 32 → bytes.now ≡ to_be_bytes w32 number ++ later → ⊥)
+        (λ x. (x.0 < 2 ^ 32) × (bytes.now ≡ to_be_bytes w32 x.0 ++ x.1.now)) }
+{
+    let (first, later) = bytes.split_first_chunk::<4>()?;
+    Some((u32::from_be_bytes(*first), later))
+}
+
 // The number that the bytes are.
 pub(crate) fn number_in(bytes: &[u8]) -> Option<u32>
     ensures { MatchOption result
@@ -33,12 +41,4 @@ pub(crate) fn number_in(bytes: &[u8]) -> Option<u32>
         return None;
     }
     Some(u32::from_be_bytes(*first))
-}
-
-// The MsgSeqNum (34) after so many entries.
-pub(crate) fn number_after(count: usize) -> Option<SeqNum>
-    requires { count ≤ 999999999 }
-    ensures { MatchOption result (count ≡ 999999999) (λ n. (count < 999999999) × (n ≡ count + 1)) }
-{
-    SeqNum::new(count as u32 + 1)
 }

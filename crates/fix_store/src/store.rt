@@ -1,27 +1,29 @@
 //! The calls of a store, which `fix_rim` makes for a session. A call that keeps something appends its record by
 //! `keeping`, and only then changes what `folding` has in memory.
-ghost use Rattle.std.specs.Prelude.{◌≡◌, ◌+◌, ◌-◌, ◌<◌, ◌≤◌, false, length, vec_len, vec_capacity, IfOk, IfErr};
+ghost use Rattle.std.specs.Prelude.{◌≡◌, ◌↔◌, ◌+◌, ◌-◌, ◌<◌, ◌≤◌, ℕ, List, false, length, IfOk, IfErr, IsTrue};
 ghost use Rattle.std.specs.Prelude.{IfSome, None, Some, OnOk};
-ghost use Rattle.fix_base.specs.declared.entry.Record.TheVariants.{Push, Expect, Reset};
-ghost use Rattle.fix_base.specs.Payload.{HasPayload, LAST_TIME};
-ghost use Rattle.fix_journal.specs.Opening.{Opens};
-ghost use Rattle.fix_journal.specs.Opening as journal;
-ghost use Rattle.fix_store.specs.Spelling.{spelled_entry};
-ghost use Rattle.fix_store.specs.Store.{IsTold, IsInRange, KeepAnswers, StoreKeeps, ReadAnswers, StoreReads};
-ghost use Rattle.fix_store.specs.Store.{ReadsAs, fault_of};
+ghost use Rattle.std.specs.FinSet as set;
+ghost use Rattle.fix_base.specs.declared.entry.Record.TheVariants.{Push, Expect, Many};
+ghost use Rattle.fix_base.specs.declared.entry.Record.TheVariants.{Withhold, Reset, ResetAsk, Confirm};
+ghost use Rattle.fix_base.specs.End.{End, IsAppAt};
+ghost use Rattle.fix_base.specs.Payload.{HasPayload, IsManyPayload, IsKeepable, LAST_TIME};
+ghost use Rattle.fix_store.specs.Store.{IsTold, IsInRange, MayKeep, HoldsEnd, KeepAnswers, StoreKeeps, ReadAnswers};
+ghost use Rattle.fix_store.specs.Store.{StoreReads, withheld_of, fault_of};
 ghost use Rattle.fix_store.specs.Rooms.{OpenRoom, KeepRoom, ReadRoom};
-ghost use Rattle.fix_store.specs.Opening.{IsOpened, IsCause};
-ghost use Rattle.fix_store.specs.Folding.{fold_of};
+ghost use Rattle.fix_store.specs.Opening.{IsOpened, IsCause, StoreOpens};
+ghost use Rattle.fix_store.specs.Spelling.{spelled};
+ghost use Rattle.fix_store.specs.Folding.{fold_of, record_of, HasRoomFor, HasPlaceIn};
 
 use crate::StoreFault;
-use crate::entries::entry_of;
+use crate::changing::{Change, change_kept};
+use crate::fetching::entry_at;
 use crate::folding::Folded;
 use crate::keeping::append;
-use crate::numbers::number_after;
-use crate::spelling::{expect_payload, reset_payload, spell_entry};
+use crate::marking::add_mark;
+use crate::spelling::{Kept, spell};
 use crate::walking::fold;
-use fix_base::{Entry, SeqNum, Stored};
-use fix_disk::{Disk, put};
+use fix_base::{Entries, Entry, SeqNum, Stored};
+use fix_disk::Disk;
 use fix_journal::{Journal, OpenRefused, ReadFault};
 use std::alloc::{AllocError, Global};
 use std::marker::Model;
@@ -50,14 +52,14 @@ impl<D: Disk> Model for Store<D> {
 }
 
 impl<D: Disk> Store<D> {
-    /// Opens the store on a disk. An unmade file becomes a store of which nothing is kept. A file
-    /// is damaged where it breaks the journal's format, and otherwise where a payload is no
-    /// record, at the place of its gate.
+    /// Opens the store on a disk. An unmade file becomes a store of which nothing is kept. A file of
+    /// version 1 gets the mark of version 2. A file is damaged where it breaks the journal's format, and
+    /// otherwise where a payload is no record, at the place of its gate.
     pub fn open(alloc: Global, disk: D) -> Result<Store<D>, OpenRefused<D>>
         ensures opened { IfOk result (IsOpened D.disk (D.disk disk)) }
         ensures refused { IfErr result (λ r. IfSome (D.disk disk).bytes (IsCause r.fault)) }
-        ensures moves { IfOk result (λ s. Opens None (D.disk disk) (D.disk s.disk)) }
-        ensures moves_refused { IfErr result (λ r. Opens (Some r.fault) (D.disk disk) (D.disk r.disk)) }
+        ensures moves { IfOk result (λ s. StoreOpens None (D.disk disk) (D.disk s.disk)) }
+        ensures moves_refused { IfErr result (λ r. StoreOpens (Some r.fault) (D.disk disk) (D.disk r.disk)) }
         ensures room { IfOk result (λ s. OpenRoom None (D.disk disk) (D.disk s.disk)) }
         ensures room_refused { IfErr result (λ r. OpenRoom (Some r.fault) (D.disk disk) (D.disk r.disk)) }
     {
@@ -65,8 +67,17 @@ impl<D: Disk> Store<D> {
             Ok(journal) => journal,
             Err(refused) => return Err(refused),
         };
-        match fold(alloc, &mut journal) {
-            Ok(folded) => Ok(Store {
+        let mut folded = match fold(alloc, &mut journal) {
+            Ok(folded) => folded,
+            Err(fault) => {
+                return Err(OpenRefused {
+                    disk: journal.into_disk(),
+                    fault,
+                });
+            }
+        };
+        match add_mark(&mut journal, &mut folded) {
+            Ok(()) => Ok(Store {
                 alloc,
                 journal,
                 folded,
@@ -90,22 +101,23 @@ impl<D: Disk> Store<D> {
         ensures room { KeepRoom (fault_of result) (Push entry.now) (D.disk self.old.disk) (D.disk self.new.disk) }
         ensures told { IsTold D.disk self.old }
     {
-        if self.stopped {
-            return Err(StoreFault::Stopped);
-        }
-        let Some(number) = number_after(self.folded.places.len()) else {
-            return Err(StoreFault::NumbersSpent);
-        };
-        if stage(&mut self.folded.places, &mut self.payload, entry).is_err() {
-            return Err(StoreFault::OutOfMemory);
-        }
-        match append(&mut self.journal, &mut self.stopped, &self.payload) {
-            Ok(index) => {
-                put(&mut self.folded.places, index);
-                Ok(number)
-            }
+        match self.keep(&Kept::Push(entry)) {
+            Ok(()) => Ok(number_of(self.folded.stored().last)),
             Err(fault) => Err(fault),
         }
+    }
+
+    /// Keeps these entries, and the inbound MsgSeqNum (34) that is expected then; 0 says nothing of it.
+    /// It is one record: a stop keeps all of it, or nothing.
+    pub fn push_all(&mut self, pushes: &Entries, expect: u32) -> Result<(), StoreFault>
+        requires { IsManyPayload pushes.now expect }
+        ensures answers { KeepAnswers (fault_of result) (Many pushes.now expect) self.old self.new }
+        ensures moves { self.old.stopped ≡ false
+            → StoreKeeps (fault_of result) (Many pushes.now expect) (D.disk self.old.disk) (D.disk self.new.disk) }
+        ensures room { KeepRoom (fault_of result) (Many pushes.now expect) (D.disk self.old.disk) (D.disk self.new.disk) }
+        ensures told { IsTold D.disk self.old }
+    {
+        self.keep(&Kept::Many(pushes.as_slice(), expect))
     }
 
     /// Keeps the inbound MsgSeqNum (34) that is expected next.
@@ -118,16 +130,20 @@ impl<D: Disk> Store<D> {
         ensures room { KeepRoom (fault_of result) (Expect next) (D.disk self.old.disk) (D.disk self.new.disk) }
         ensures told { IsTold D.disk self.old }
     {
-        if self.stopped {
-            return Err(StoreFault::Stopped);
-        }
-        match append(&mut self.journal, &mut self.stopped, &expect_payload(next)) {
-            Ok(_) => {
-                self.folded.expected = next;
-                Ok(())
-            }
-            Err(fault) => Err(fault),
-        }
+        self.keep(&Kept::Expect(next))
+    }
+
+    /// Keeps that the application message of this number isn't to be sent again, for good.
+    pub fn withhold(&mut self, n: SeqNum) -> Result<(), StoreFault>
+        requires there { n ≤ self.old.stored.last }
+        requires app { (e : End) → HoldsEnd (D.disk self.old.disk) e → (body : List ℕ) × IsAppAt e.out n body }
+        ensures answers { KeepAnswers (fault_of result) (Withhold n) self.old self.new }
+        ensures moves { self.old.stopped ≡ false
+            → StoreKeeps (fault_of result) (Withhold n) (D.disk self.old.disk) (D.disk self.new.disk) }
+        ensures room { KeepRoom (fault_of result) (Withhold n) (D.disk self.old.disk) (D.disk self.new.disk) }
+        ensures told { IsTold D.disk self.old }
+    {
+        self.keep(&Kept::Withhold(n.get()))
     }
 
     /// Keeps a store reset at this time, in microseconds since 1970: no entries, and 1 is expected.
@@ -139,19 +155,33 @@ impl<D: Disk> Store<D> {
         ensures room { KeepRoom (fault_of result) (Reset time) (D.disk self.old.disk) (D.disk self.new.disk) }
         ensures told { IsTold D.disk self.old }
     {
-        if self.stopped {
-            return Err(StoreFault::Stopped);
-        }
-        match append(&mut self.journal, &mut self.stopped, &reset_payload(time)) {
-            Ok(_) => {
-                self.folded.reset(time);
-                Ok(())
-            }
-            Err(fault) => Err(fault),
-        }
+        self.keep(&Kept::Reset(time))
     }
 
-    /// Reads the entry of this number, which is one record of the journal.
+    /// Keeps the same, and that the counterparty is to be asked to reset too (ResetSeqNumFlag 141 = Y).
+    pub fn ask_reset(&mut self, time: u64) -> Result<(), StoreFault>
+        requires { time ≤ LAST_TIME }
+        ensures answers { KeepAnswers (fault_of result) (ResetAsk time) self.old self.new }
+        ensures moves { self.old.stopped ≡ false
+            → StoreKeeps (fault_of result) (ResetAsk time) (D.disk self.old.disk) (D.disk self.new.disk) }
+        ensures room { KeepRoom (fault_of result) (ResetAsk time) (D.disk self.old.disk) (D.disk self.new.disk) }
+        ensures told { IsTold D.disk self.old }
+    {
+        self.keep(&Kept::ResetAsk(time))
+    }
+
+    /// Keeps that the counterparty has answered that it reset.
+    pub fn confirm(&mut self) -> Result<(), StoreFault>
+        ensures answers { KeepAnswers (fault_of result) Confirm self.old self.new }
+        ensures moves { self.old.stopped ≡ false
+            → StoreKeeps (fault_of result) Confirm (D.disk self.old.disk) (D.disk self.new.disk) }
+        ensures room { KeepRoom (fault_of result) Confirm (D.disk self.old.disk) (D.disk self.new.disk) }
+        ensures told { IsTold D.disk self.old }
+    {
+        self.keep(&Kept::Confirm)
+    }
+
+    /// Reads the entry of this number, which is in one record of the journal.
     pub fn entry(&mut self, n: SeqNum) -> Result<Entry, StoreFault>
         requires { n ≤ self.old.stored.last }
         ensures answers { ReadAnswers (fault_of result) self.old self.new }
@@ -163,8 +193,8 @@ impl<D: Disk> Store<D> {
         }
         let place = self.folded.places[n.get() as usize - 1];
         let mut payload = Vec::new(self.alloc);
-        match self.journal.read(place, &mut payload) {
-            Ok(()) => Ok(entry_of(payload)),
+        match self.journal.read(place.index, &mut payload) {
+            Ok(()) => Ok(entry_at(payload, place.nth)),
             Err(ReadFault::Stopped) => unreachable!(),
             Err(ReadFault::OutOfMemory) => Err(StoreFault::OutOfMemory),
             Err(ReadFault::DiskFault) => {
@@ -183,21 +213,76 @@ impl<D: Disk> Store<D> {
         self.folded.stored()
     }
 
+    /// Whether the message of this number isn't to be sent again. It costs the logarithm of how many aren't.
+    pub fn withheld(&self, n: SeqNum) -> bool
+        ensures { self.now.stopped ≡ false → (e : End) → HoldsEnd (D.disk self.now.disk) e
+            → result ≡ set.contains (withheld_of e) n }
+    {
+        self.folded.withheld.has(n.get())
+    }
+
     /// The disk.
     pub fn into_disk(self) -> D
         ensures { result ≡ self.disk }
     {
         self.journal.into_disk()
     }
+
+    // Keeps a record.
+    fn keep(&mut self, kept: &Kept<'_>) -> Result<(), StoreFault>
+        requires fits { IsKeepable (record_of kept.now) }
+        requires place { HasPlaceIn self.old.stored (record_of kept.now) }
+        requires may { MayKeep (D.disk self.old.disk) (record_of kept.now) }
+        ensures answers { KeepAnswers (fault_of result) (record_of kept.now) self.old self.new }
+        ensures moves { self.old.stopped ≡ false
+            → StoreKeeps (fault_of result) (record_of kept.now) (D.disk self.old.disk) (D.disk self.new.disk) }
+        ensures room { KeepRoom (fault_of result) (record_of kept.now) (D.disk self.old.disk) (D.disk self.new.disk) }
+        ensures told { IsTold D.disk self.old }
+    {
+        if self.stopped {
+            return Err(StoreFault::Stopped);
+        }
+        let change = change_kept(kept);
+        if !self.folded.may_take(change) {
+            return Err(StoreFault::NumbersSpent);
+        }
+        if stage(&mut self.folded, &mut self.payload, kept, change).is_err() {
+            return Err(StoreFault::OutOfMemory);
+        }
+        match append(&mut self.journal, &mut self.stopped, &self.payload) {
+            Ok(index) => {
+                self.folded.take(index, change);
+                Ok(())
+            }
+            Err(fault) => Err(fault),
+        }
+    }
 }
 
-// Spells an entry's record, and takes room for its place.
-fn stage(places: &mut Vec<u64>, payload: &mut Vec<u8>, entry: &Entry) -> Result<(), AllocError>
-    requires { HasPayload entry.now }
-    ensures places { places.new.items ≡ places.old.items }
-    ensures payload { OnOk result (payload.new.items ≡ spelled_entry entry.now) }
-    ensures room { OnOk result (vec_len places.new < vec_capacity places.new) }
+// Spells a record, and makes room for what it changes.
+fn stage(
+    folded: &mut Folded,
+    payload: &mut Vec<u8>,
+    kept: &Kept<'_>,
+    change: Change,
+) -> Result<(), AllocError>
+    requires { IsKeepable (record_of kept.now) }
+    ensures same { fold_of folded.new ≡ fold_of folded.old }
+    ensures payload { OnOk result (payload.new.items ≡ spelled (record_of kept.now)) }
+    ensures room { OnOk result (HasRoomFor folded.new change) }
 {
-    places.reserve(1)?;
-    spell_entry(payload, entry)
+    folded.reserve(change)?;
+    spell(payload, kept)
+}
+
+// The MsgSeqNum (34) of the last of so many entries.
+fn number_of(last: u32) -> SeqNum
+    requires first { 1 ≤ last }
+    requires last { last ≤ 999999999 }
+    ensures { result ≡ last }
+{
+    match SeqNum::new(last) {
+        Some(number) => number,
+        None => unreachable!(),
+    }
 }

@@ -1,7 +1,7 @@
 //! Which payloads are records, what a store's file has byte for byte, and what a stop at a call of the disk
 //! leaves.
 use super::*;
-use crate::entries::entry_of;
+use crate::fetching::entry_at;
 use fix_base::{By, Bytes, Entry, OutOfMemory, SeqNum, Stored};
 use fix_disk::{Disk, MemoryDisk};
 use fix_journal::{Journal, OpenFault};
@@ -46,6 +46,23 @@ fn with_payload(alloc: Global, payload: &[u8]) -> Result<MemoryDisk, OutOfMemory
         return Err(OutOfMemory);
     };
     if payload.is_empty() {
+        return Err(OutOfMemory);
+    }
+    match journal.append(payload) {
+        Ok(_) => Ok(journal.into_disk()),
+        Err(_) => Err(OutOfMemory),
+    }
+}
+
+// A journal with the mark of version 2 and this payload.
+fn marked_with(alloc: Global, payload: &[u8]) -> Result<MemoryDisk, OutOfMemory> {
+    let Ok(mut journal) = Journal::open(alloc, blank(alloc, &[], None)?) else {
+        return Err(OutOfMemory);
+    };
+    if payload.is_empty() {
+        return Err(OutOfMemory);
+    }
+    if journal.append(b"\x0a\0\0\0\x02").is_err() {
         return Err(OutOfMemory);
     }
     match journal.append(payload) {
@@ -285,7 +302,7 @@ fn stored_with(record: Kept) -> Stored {
 
 // Pushes the entry that the payload spells. Whether it is this one, and could be pushed.
 fn push_alike(store: &mut Store<MemoryDisk>, payload: Vec<u8>, wanted: Option<Entry>) -> bool {
-    let entry = entry_of(payload);
+    let entry = entry_at(payload, 0);
     let pushed = store.push(&entry);
     Some(entry) == wanted && pushed.is_ok()
 }
@@ -384,7 +401,7 @@ fn each_record_at_its_limits_is_kept_and_read_back(rt: HostRuntime) -> Result<()
     ];
     for (mark, first, rest, record) in rows {
         let payload = payload_of(alloc, mark, first, rest)?;
-        let wanted = with_payload(alloc, &payload)?;
+        let wanted = marked_with(alloc, &payload)?;
         let disk = store_of(alloc, record, rest, payload)?;
         assert_eq!(rt; disk.bytes(), wanted.bytes());
         let mut again = opened(alloc, disk)?;
@@ -402,7 +419,7 @@ fn numbers_and_resets_are_kept(rt: HostRuntime) -> Result<(), Fail> {
     assert_eq!(rt; store.expect(1_000_000_000), Ok(()));
     assert_eq!(rt;
         store.into_disk().bytes(),
-        b"\x01FIXJRNL1\x01\0\0\0\x05\x04\0\0\0\x02\x01\0\0\0\x09\x05\0\0\0\0\0\0\0\x07\x01\0\0\0\x05\x04\x3b\x9a\xca\0\0".as_slice()
+        b"\x01FIXJRNL1\x01\0\0\0\x05\x0a\0\0\0\x02\x01\0\0\0\x05\x04\0\0\0\x02\x01\0\0\0\x09\x05\0\0\0\0\0\0\0\x07\x01\0\0\0\x05\x04\x3b\x9a\xca\0\0".as_slice()
     );
     Ok(())
 }
@@ -457,7 +474,7 @@ fn stopped_at(alloc: Global, call: u64) -> Result<Stored, OutOfMemory> {
 
 #[test]
 fn a_stop_leaves_the_end_from_before_or_with_the_record(rt: HostRuntime) -> Result<(), Fail> {
-    for (call, expected) in [(9, 1), (10, 1), (11, 2), (12, 2)] {
+    for (call, expected) in [(13, 1), (14, 1), (15, 2), (16, 2)] {
         assert_eq!(rt;
             stopped_at(rt.alloc(), call)?,
             Stored {

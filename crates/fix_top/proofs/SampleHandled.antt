@@ -149,7 +149,7 @@ order_fits app room fields has =
 
 order_handles : (s s' : State) (notes : List Note) (r : Result ⊤ Ending) → IsAt AtOrder s → IsFit AtOrder s notes → Carries ORDER s (app_answer 2) notes r s' → Came AtOrder s notes (IsNextAt AtOrder s') s' r
 order_handles s s' notes r at fit d =
-    elim (after_done fit.link fit.app fit.store ORDER s (step.PendingDraft 2 false) (HasHanded ORDER s 2 false) (step.Count 2 ∷ step.Nothing ∷ step.Nothing ∷ []) notes r s' (hand_done fit.link fit.app fit.store ORDER s 2 false (order_fits fit.app fit.handed)) fit.rooms d) [
+    elim (after_done fit.link fit.app fit.store ORDER s (step.Hand 2 false) (HasHanded ORDER s 2 false) (step.Count 2 ∷ step.Nothing ∷ step.Nothing ∷ []) notes r s' (hand_done fit.link fit.app fit.store ORDER s 2 false (order_fits fit.app fit.handed)) fit.rooms d) [
       | inl lost ↦ want AtOrder s s' notes (IsNextAt AtOrder s') r lost
       | inr f ↦ order_goes s s' notes r at f
     ]

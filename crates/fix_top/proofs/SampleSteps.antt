@@ -127,14 +127,14 @@ LineFits app frame n marked = (fields : List Field) → HasFields frame fields �
 line_fits : (app line : ℕ) → line ≤ app → app < line → ⊥
 line_fits app line fits lost = omega (arith, fits, lost)
 
-hand_fails : (link app store : ℕ) (frame : List ℕ) (s : State) (n : ℕ) (marked : Bool) → LineFits app frame n marked → (notes : List Note) (e : Ending) (s' : State) → HasRooms link app store notes → Performed SAMPLE_ID frame s (step.PendingDraft n marked) notes (Err e) s' → e ≡ ending.OutOfMemory
+hand_fails : (link app store : ℕ) (frame : List ℕ) (s : State) (n : ℕ) (marked : Bool) → LineFits app frame n marked → (notes : List Note) (e : Ending) (s' : State) → HasRooms link app store notes → Performed SAMPLE_ID frame s (step.Hand n marked) notes (Err e) s' → e ≡ ending.OutOfMemory
 hand_fails link app store frame s n marked fits notes e s' rooms (answer.hand_lost k m fields has) = absurd (line_fits app (length (line_text n marked (body_of fields))) (fits fields has) rooms.0)
 hand_fails link app store frame s n marked fits notes e s' rooms (answer.hand_memory k m) = refl
 
-hand_goes : (frame : List ℕ) (s : State) (n : ℕ) (marked : Bool) (notes : List Note) (s' : State) → Performed SAMPLE_ID frame s (step.PendingDraft n marked) notes (Ok tt) s' → HasHanded frame s n marked notes s'
+hand_goes : (frame : List ℕ) (s : State) (n : ℕ) (marked : Bool) (notes : List Note) (s' : State) → Performed SAMPLE_ID frame s (step.Hand n marked) notes (Ok tt) s' → HasHanded frame s n marked notes s'
 hand_goes frame s n marked notes s' (answer.taken k m fields has) = record { fields = fields; has = has; noted = refl; state = refl }
 
-pub hand_done : (link app store : ℕ) (frame : List ℕ) (s : State) (n : ℕ) (marked : Bool) → LineFits app frame n marked → IsDone link app store frame s (step.PendingDraft n marked) (HasHanded frame s n marked)
+pub hand_done : (link app store : ℕ) (frame : List ℕ) (s : State) (n : ℕ) (marked : Bool) → LineFits app frame n marked → IsDone link app store frame s (step.Hand n marked) (HasHanded frame s n marked)
 hand_done link app store frame s n marked fits = record { fails = hand_fails link app store frame s n marked fits; goes = hand_goes frame s n marked }
 
 close_ok : (frame : List ℕ) (s : State) (why : Why) (notes : List Note) (mid : State) → Performed SAMPLE_ID frame s (step.Close why) notes (Ok tt) mid → ⊥

@@ -29,9 +29,9 @@ use Rattle.fix_top.proofs.SampleRooms.{lines_in}
 use Rattle.fix_top.proofs.SampleParts.{rooms_told, looks_told, reads_told, wrote_told, lines_told, AreTaken}
 use Rattle.fix_top.proofs.SampleLemmas.{ALL_LINES, IsNewStore, sample_served}
 
--- how much room a new store has on its disk: all but that of its name and two gates
+-- how much room a new store has on its disk: all but that of its name, its mark and two gates
 abbrev pub LEFT : ℕ
-LEFT = 990
+LEFT = 980
 
 -- parts with these pieces to come and one reading, to which nothing was given and that fail only where this room is spent
 abbrev pub sample_parts : List (List ℕ) → PartsSeen
@@ -106,7 +106,7 @@ sample_written turns status w notes new pieces fresh bytes enough is served foll
 
 -- an empty file has the new end
 empty_end : HasEnd [] new_end
-empty_end = record { records = []; is = record { is = inl (λ made. omega (arith, made.0), refl); each = tt }; folds = refl }
+empty_end = record { items = []; is = record { is = inl (λ made. omega (arith, made.0), refl); each = tt }; folds = refl }
 
 -- an empty disk is a new store
 pub new_store : (disk : DiskSeen) → disk.bytes ≡ Some [] → disk.room ≡ Some STORE_ROOM → (tape : Option (List Act)) (open_at : Option ℕ) (link : LinkSeen) (sink : SinkSeen) (readings : Option (List ℕ)) → IsNewStore (seen_of tape disk open_at link (line_seen sink) readings)

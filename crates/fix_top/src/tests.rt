@@ -267,8 +267,8 @@ fn other_words_are_refused(rt: HostRuntime) -> Result<(), Fail> {
 #[test]
 fn each_fault_has_its_status(rt: HostRuntime) -> Result<(), Fail> {
     let alloc = rt.alloc();
-    // The opening makes eight calls of the disk, and each of three records four.
-    for disk in 1..=20 {
+    // The opening makes twelve calls of the disk, and each of three records four.
+    for disk in 1..=24 {
         let fails = Fails { disk, ..NONE };
         let pieces = at_once(alloc, &[LOGON, ORDER, LOGOUT])?;
         let (status, _) = served(alloc, WORDS.as_slice(), pieces, fails, u64::MAX)?;
@@ -276,7 +276,7 @@ fn each_fault_has_its_status(rt: HostRuntime) -> Result<(), Fail> {
     }
     for (link, sink, want) in [(1, 0, 6), (2, 0, 6), (3, 0, 6), (0, 1, 7)] {
         let fails = Fails {
-            disk: 21,
+            disk: 25,
             link,
             sink,
         };
@@ -303,7 +303,7 @@ fn a_damaged_file_is_refused(rt: HostRuntime) -> Result<(), Fail> {
 fn a_stop_before_the_number_is_kept_leaves_the_old_one(rt: HostRuntime) -> Result<(), Fail> {
     let alloc = rt.alloc();
     // The order is handed over, and the first disk call of the record after it fails.
-    let fails = Fails { disk: 13, ..NONE };
+    let fails = Fails { disk: 17, ..NONE };
     let pieces = at_once(alloc, &[LOGON, ORDER])?;
     let (status, o) = served(alloc, WORDS.as_slice(), pieces, fails, u64::MAX)?;
     assert_eq!(rt; status, Status(5));
@@ -361,10 +361,10 @@ fn one_by_one(alloc: Global) -> Result<Vec<Bytes>, Fail> {
 }
 
 #[test]
-fn a_disk_of_78_bytes_is_enough_for_the_sample(rt: HostRuntime) -> Result<(), Fail> {
+fn a_disk_of_88_bytes_is_enough_for_the_sample(rt: HostRuntime) -> Result<(), Fail> {
     let alloc = rt.alloc();
-    // An empty store takes 10 bytes, each of two entries 19, and each of three expected numbers 10.
-    for (capacity, want) in [(78, 0), (77, 5), (29, 5), (9, 5)] {
+    // An empty store takes 20 bytes, each of two entries 19, and each of three expected numbers 10.
+    for (capacity, want) in [(88, 0), (87, 5), (39, 5), (19, 5)] {
         let disk = MemoryDisk::new(alloc, capacity, 0, Vec::new(alloc), None)?;
         let pieces = one_by_one(alloc)?;
         let (status, _) = served_on(alloc, disk, WORDS.as_slice(), pieces, NONE, u64::MAX)?;
@@ -377,7 +377,7 @@ fn a_disk_of_78_bytes_is_enough_for_the_sample(rt: HostRuntime) -> Result<(), Fa
 fn a_process_starts_again_behind_a_store_fault(rt: HostRuntime) -> Result<(), Fail> {
     let alloc = rt.alloc();
     // The first disk call of the record of the Logon's answer fails.
-    let fails = Fails { disk: 10, ..NONE };
+    let fails = Fails { disk: 14, ..NONE };
     let pieces = at_once(alloc, &[LOGON])?;
     let (status, o) = served(alloc, WORDS.as_slice(), pieces, fails, u64::MAX)?;
     assert_eq!(rt; status, Status(5));

@@ -259,9 +259,9 @@ fn stored_again<O: Outside>(alloc: Global, o: &mut O) -> Result<(bool, Session),
 fn a_draft_that_the_store_failed_at_is_stored_once(rt: HostRuntime) -> Result<(), Fail> {
     let alloc = rt.alloc();
     let mut found: u64 = 0;
-    // The opening makes eight calls of the disk; the answer to the Logon, the expected number and
+    // The opening makes twelve calls of the disk; the answer to the Logon, the expected number and
     // the order four each.
-    for disk in 17..=20 {
+    for disk in 21..=24 {
         let mut o = outside(alloc, &[LOGON, SECOND_LOGON, b"", b""], disk, 0)?;
         let (stored, session) = stored_again(alloc, &mut o)?;
         assert!(rt; !session.pending_draft());
@@ -325,7 +325,7 @@ fn sent_again<O: Outside>(alloc: Global, o: &mut O) -> Result<u32, Fail> {
 fn a_send_that_the_store_failed_at_is_stored_or_not(rt: HostRuntime) -> Result<(), Fail> {
     let alloc = rt.alloc();
     let mut found: u64 = 0;
-    for disk in 17..=20 {
+    for disk in 21..=24 {
         let mut o = outside(alloc, &[LOGON], disk, 0)?;
         let last = sent_again(alloc, &mut o)?;
         assert!(rt; last == 1 || last == 2);

@@ -1,7 +1,6 @@
 use Rattle.std.proofs.Common.{sym, ◌∙◌}
 use Rattle.fix_base.proofs.SeenLemmas.{Trace-nil, Trace-append}
-use Rattle.fix_engine.specs.Reading.{connection_seen}
-use Rattle.fix_engine.specs.Turn.{turn_seen, not_up}
+use Rattle.fix_engine.specs.Turn.{work_seen, not_up}
 use Rattle.fix_engine.proofs.HandLemmas.{offered_held, offered_asked}
 use Rattle.fix_engine.proofs.pending.offer_draft.Goals as goal
 
@@ -10,7 +9,7 @@ returns-then-is_some-clause-notes g c =
     let h = c.send_pending.ensures.notes in (
       h.0,
       h.1,
-      offered_held _ (turn_seen (connection_seen c.args.state.now c.args.reader.now.unread) c.args.pending.now) _ _ _ c.in-Up.is
+      offered_held _ (work_seen c.args.work.now) _ _ _ c.in-Up.is
           (sym c.is_some.ensures ∙ c.if-is_some.true) h.2,
     )
 
@@ -19,7 +18,7 @@ returns-else-is_some-clause-notes g c =
     let h = c.send_pending-in-Up.ensures.notes in (
       _,
       Trace-append _ _ _ _ _ c.ask_for.ensures.noted h.1,
-      offered_asked _ (turn_seen (connection_seen c.args.state.now c.args.reader.now.unread) c.args.pending.now) c.ask_for.new.pending _ _
+      offered_asked _ (work_seen c.args.work.now) c.ask_for.new.pending _ _
           _ c.in-Up.is (sym c.is_some.ensures ∙ c.if-is_some.false) c.ask_for.ensures.store_failed h.2,
     )
 

@@ -1,18 +1,17 @@
 use Rattle.fix_base.proofs.SeenLemmas.{Trace-nil}
-use Rattle.fix_engine.specs.Reading.{connection_seen}
-use Rattle.fix_engine.specs.Turn.{turn_seen, empty}
+use Rattle.fix_engine.specs.Turn.{work_seen, empty}
 use Rattle.fix_engine.proofs.HandLemmas.{spent_in_hand, sent_in_hand}
 use Rattle.fix_engine.proofs.pending.send_pending.Goals as goal
 
 pub returns-in_default-clause-notes : goal.returns-in_default-clause-notes
 returns-in_default-clause-notes g c = (_, Trace-nil _, empty c.in_default.is)
 
-pub returns-then-state-ge-LAST_SEQ_NUM-clause-notes : goal.returns-then-state-ge-LAST_SEQ_NUM-clause-notes
-returns-then-state-ge-LAST_SEQ_NUM-clause-notes g c = (
+pub returns-then-work-ge-LAST_SEQ_NUM-clause-notes : goal.returns-then-work-ge-LAST_SEQ_NUM-clause-notes
+returns-then-work-ge-LAST_SEQ_NUM-clause-notes g c = (
   _,
   Trace-nil _,
-  spent_in_hand _ _ (turn_seen (connection_seen c.args.state.now c.args.reader.now.unread) c.args.pending.now)
-      c.in-Some.is c.if-state-ge-LAST_SEQ_NUM.true,
+  spent_in_hand _ _ (work_seen c.args.work.now)
+      c.in-Some.is c.if-work-ge-LAST_SEQ_NUM.true,
 )
 
 pub returns-clause-notes : goal.returns-clause-notes
@@ -20,7 +19,7 @@ returns-clause-notes g c =
     let h = c.send_draft-sent.ensures.notes in (
       h.0,
       h.1,
-      sent_in_hand _ _ (turn_seen (connection_seen c.args.state.now c.args.reader.now.unread) c.args.pending.now) _ _ _ _ _ _
-          c.in-Some.is c.if-state-ge-LAST_SEQ_NUM.false
+      sent_in_hand _ _ (work_seen c.args.work.now) _ _ _ _ _ _
+          c.in-Some.is c.if-work-ge-LAST_SEQ_NUM.false
           c.pending_is_draft.ensures c.is_lost.ensures c.keep_pending.ensures c.ending_of.ensures h.2,
     )

@@ -1,7 +1,6 @@
 use Rattle.std.proofs.lemmas.Result.{err_from_is_err_and}
 use Rattle.fix_base.proofs.SeenLemmas.{Trace-append}
 use Rattle.fix_engine.specs.Fold.{first_ends, both}
-use Rattle.fix_engine.specs.Turn.{beside}
 use Rattle.fix_engine.proofs.turn.send_read_clock.Goals as goal
 
 pub returns-in_err-offer_draft-clause-notes : goal.returns-in_err-offer_draft-clause-notes
@@ -14,4 +13,4 @@ pub returns-clause-notes : goal.returns-clause-notes
 returns-clause-notes g c =
     let h = c.in_ok-offer_draft.ensures.notes in
     let k = c.read_and_clock.ensures.notes in
-    (_, Trace-append _ _ _ _ _ h.1 k.1, both h.2 (beside k.2))
+    (_, Trace-append _ _ _ _ _ h.1 k.1, both h.2 k.2)

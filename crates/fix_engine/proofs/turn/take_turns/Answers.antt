@@ -1,4 +1,3 @@
-use Rattle.std.proofs.Common.{rules}
 use Rattle.std.proofs.lemmas.Result.{err_from_is_err_and}
 use Rattle.fix_engine.specs.Turn.{OneTurn}
 use Rattle.fix_engine.proofs.FoldLemmas.{count_started, counts_on, count_stopped, count_finished}
@@ -13,14 +12,12 @@ returns-in_err-turn-clause-notes g c =
 pub loop-done-init : goal.loop-done-init
 loop-done-init g c = record {
   ready = c.requires.ready;
-  room = c.requires.room;
   done = count_started (OneTurn c.args.context.now.identity) _ _ _;
 }
 
 pub loop-done-preserved : goal.loop-done-preserved
 loop-done-preserved g c = record {
   ready = c.in_ok-turn.ensures.ready;
-  room = search rules;
   done = counts_on (OneTurn c.args.context.now.identity) _ _ _ _ _ _ _ _ c.loop-done-test.true
       c.loop-done.invariant.done c.in_ok-turn.ensures.notes;
 }

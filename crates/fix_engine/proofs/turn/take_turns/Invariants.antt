@@ -1,15 +1,11 @@
-use Rattle.std.proofs.Common.{◌≡◌, ◌-◌, Some, length, replicate}
-use Rattle.fix_engine.specs.Ready.{IsReady}
-use Rattle.fix_engine.specs.Reading.{connection_seen}
-use Rattle.fix_engine.specs.Turn.{turn_seen, OneTurn}
+use Rattle.std.proofs.Common.{◌-◌, Some, replicate}
+use Rattle.fix_engine.specs.Turn.{work_seen, IsReadyToTurn, OneTurn}
 use Rattle.fix_engine.proofs.FoldLemmas.{SoFar}
 use Rattle.fix_engine.proofs.turn.take_turns.Given as goal
 
 abbrev pub invariant-loop-done : goal.invariant-loop-done
 invariant-loop-done g l = record {
-  ready : IsReady l.context.identity (g.O.Outside.seen l.o) (Some l.state.last) l.state;
-  room : length l.room ≡ 65536;
+  ready : IsReadyToTurn l.context.identity (g.O.Outside.seen l.o) (Some l.work.state.last) l.work;
   done : SoFar (OneTurn l.context.identity) (g.O.Outside.seen l.initial.o) (g.O.Outside.seen l.o)
-      (turn_seen (connection_seen l.initial.state l.initial.reader.unread) l.initial.pending) (replicate l.turns tt)
-      (turn_seen (connection_seen l.state l.reader.unread) l.pending) (replicate (l.turns - l.done) tt);
+      (work_seen l.initial.work) (replicate l.turns tt) (work_seen l.work) (replicate (l.turns - l.done) tt);
 }

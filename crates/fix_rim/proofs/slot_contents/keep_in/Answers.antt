@@ -4,8 +4,9 @@ use Rattle.fix_store.specs.declared.fault.StoreFault.TheVariants as fault
 use Rattle.fix_base.specs.Trace.{Rises}
 use Rattle.fix_store.specs.Store.{store_failures}
 use Rattle.fix_outside.specs.declared.outside.KeepFault.TheVariants as keep
-use Rattle.fix_rim.specs.StoreSlot.{disk_in, DiskMoves, KeepLeaves}
-use Rattle.fix_rim.proofs.SlotLemmas.{told_end, still_then, kept_moves, lost_moves, kept_leaves, lost_leaves, has_form}
+use Rattle.fix_outside.specs.Outside.{HasPlace}
+use Rattle.fix_rim.specs.StoreSlot.{disk_in, open_in, DiskMoves, KeepLeaves, NamesAppOn}
+use Rattle.fix_rim.proofs.SlotLemmas.{told_end, still_then, kept_moves, lost_moves, kept_leaves, lost_leaves, numbered}
 use Rattle.fix_rim.proofs.slot_contents.keep_in.Goals as goal
 
 pub returns-in-Ok-clause-moves : goal.returns-in-Ok-clause-moves
@@ -43,5 +44,8 @@ returns-in-Err-DiskFault-clause-leaves g c =
     subst (λ h. KeepLeaves {T = Unit {0}} (Err keep.Failed) c.args.kept.now (disk_in disk h) (disk c.keep_on.new.store.disk)) (sym c.in-Open.is)
     (lost_leaves (disk s.disk) (disk c.keep_on.new.store.disk) c.args.kept.now (Some failed.field-0) keeps (told_end disk s failed.ensures.told still) keep.Failed)
 
-pub keep_on-requires : goal.keep_on-requires
-keep_on-requires g c = has_form c.args.kept.now _ c.requires.payload c.requires.place
+pub keep_on-requires-clause-numbered : goal.keep_on-requires-clause-numbered
+keep_on-requires-clause-numbered g c = numbered c.args.kept.now c.in-Open.store.stopped c.in-Open.store.stored (subst (λ h. HasPlace c.args.kept.now (open_in h)) c.in-Open.is c.requires.place)
+
+pub keep_on-requires-clause-named : goal.keep_on-requires-clause-named
+keep_on-requires-clause-named g c = subst (λ h. NamesAppOn c.args.kept.now (disk_in g.D.Disk.disk h)) c.in-Open.is c.requires.named

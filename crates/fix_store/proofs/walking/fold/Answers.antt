@@ -1,5 +1,6 @@
 use Rattle.std.proofs.Common.{◌≡◌, subst, arith}
 use Rattle.fix_store.specs.Folding.{fold_of, IsWithin}
+use Rattle.fix_store.proofs.Places.{within_more}
 use Rattle.fix_store.proofs.WalkLemmas.{walk_begins, walks_on, walk_fails, walk_ends, reads_then}
 use Rattle.fix_store.proofs.walking.fold.Goals as goal
 
@@ -9,11 +10,11 @@ loop-index-init g c = walk_begins g.D.Disk.disk c.args.journal.now (fold_of c.ne
 pub take_next-requires-clause-goes_on : goal.take_next-requires-clause-goes_on
 take_next-requires-clause-goes_on g c = c.loop-index.invariant.goes_on.stopped
 
-pub take_next-requires-clause-within : goal.take_next-requires-clause-within
-take_next-requires-clause-within g c = omega (arith, c.loop-index-test.true, c.count-index-end.ensures, c.loop-index.invariant.goes_on.count)
+pub take_next-requires-clause-index : goal.take_next-requires-clause-index
+take_next-requires-clause-index g c = omega (arith, c.loop-index-test.true, c.count-index-end.ensures, c.loop-index.invariant.goes_on.count)
 
-pub take_next-requires-clause-few : goal.take_next-requires-clause-few
-take_next-requires-clause-few g c = c.loop-index.invariant.within.few
+pub take_next-requires-clause-within : goal.take_next-requires-clause-within
+take_next-requires-clause-within g c = within_more (fold_of c.loop-index.folded) c.loop-index.index c.loop-index.journal.count c.loop-index.invariant.within (omega (arith, c.loop-index-test.true, c.count-index-end.ensures, c.loop-index.invariant.goes_on.count))
 
 pub returns-in-Err-clause-folds : goal.returns-in-Err-clause-folds
 returns-in-Err-clause-folds g c = λ payloads holds count.

@@ -12,11 +12,11 @@ returns-in-Ok-clause-loads g c =
 
 pub returns-in-Ok-clause-stands : goal.returns-in-Ok-clause-stands
 returns-in-Ok-clause-stands g c =
-    rw (c.state_from-self-inside.ensures.numbers, c.settle_pending.ensures) (again_stands (record { identity = c.self.inside.context.identity; connection = connection_seen c.self.inside.state c.self.inside.reader.unread; pending = c.self.inside.pending; stopped = c.self.inside.stopped }) c.in-Ok.stored _ _ c.in-Ok.ensures.answers c.in-Ok.ensures.noted c.in-Ok.ensures.opens)
+    rw (c.state_from-self-inside.ensures.numbers, c.settle_pending.ensures) (again_stands (record { identity = c.self.inside.context.identity; connection = connection_seen c.self.inside.work.state c.self.inside.work.reader.unread; pending = c.self.inside.work.pending; stopped = c.self.inside.stopped }) c.in-Ok.stored _ _ c.in-Ok.ensures.answers c.in-Ok.ensures.noted c.in-Ok.ensures.opens)
 
 pub returns-in-Ok-clause-in_step : goal.returns-in-Ok-clause-in_step
 returns-in-Ok-clause-in_step g c =
-    rw (← c.self.view_is, c.state_from-self-inside.ensures.numbers, c.settle_pending.ensures) (again_in_step (record { identity = c.self.inside.context.identity; connection = connection_seen c.self.inside.state c.self.inside.reader.unread; pending = c.self.inside.pending; stopped = c.self.inside.stopped }) c.in-Ok.stored _ _ c.in-Ok.ensures.answers c.in-Ok.ensures.noted c.in-Ok.ensures.opens)
+    rw (← c.self.view_is, c.state_from-self-inside.ensures.numbers, c.settle_pending.ensures) (again_in_step (record { identity = c.self.inside.context.identity; connection = connection_seen c.self.inside.work.state c.self.inside.work.reader.unread; pending = c.self.inside.work.pending; stopped = c.self.inside.stopped }) c.in-Ok.stored _ _ c.in-Ok.ensures.answers c.in-Ok.ensures.noted c.in-Ok.ensures.opens)
 
 pub returns-in-Err-clause-loads : goal.returns-in-Err-clause-loads
 returns-in-Err-clause-loads g c =
@@ -27,4 +27,4 @@ returns-in-Err-clause-cause g c = load_cause ⊤ c.in-Err.fault _ _ c.in-Err.ens
 
 pub returns-in-Err-clause-trails : goal.returns-in-Err-clause-trails
 returns-in-Err-clause-trails g c =
-    rw (← c.self.view_is) (refused_trail (record { identity = c.self.inside.context.identity; connection = connection_seen c.self.inside.state c.self.inside.reader.unread; pending = c.self.inside.pending; stopped = c.self.inside.stopped }) c.in-Err.fault _ _ _ c.in-Err.ensures.noted)
+    rw (← c.self.view_is) (refused_trail (record { identity = c.self.inside.context.identity; connection = connection_seen c.self.inside.work.state c.self.inside.work.reader.unread; pending = c.self.inside.work.pending; stopped = c.self.inside.stopped }) c.in-Err.fault _ _ _ c.in-Err.ensures.noted)

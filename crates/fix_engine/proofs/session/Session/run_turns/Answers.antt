@@ -1,4 +1,4 @@
-use Rattle.std.proofs.Common.{ℕ, arith, length, length-take, length-append, sym, ap, ◌∙◌}
+use Rattle.std.proofs.Common.{sym, ap, ◌∙◌}
 use Rattle.std.specs.Prelude.{None}
 use Rattle.fix_engine.specs.Reading.{connection_seen}
 use Rattle.fix_engine.specs.Faults.{stop_cause}
@@ -12,18 +12,19 @@ use Rattle.fix_engine.proofs.LawfulRuns.{run_lawful}
 use Rattle.fix_engine.proofs.InStepLemmas.{run_in_step, run_stands, run_trails, run_connected, run_serves}
 use Rattle.fix_engine.proofs.PeerEnds.{shows_peer_end}
 use Rattle.fix_engine.proofs.Untried.{RunAndCut-untried}
+use Rattle.fix_engine.proofs.EndedLemmas.{run_stops_down}
 use Rattle.fix_engine.proofs.session.Session.run_turns.Goals as goal
 
 pub invariant_of-self : goal.invariant_of-self
 invariant_of-self g c =
     let h = c.run_and_cut-ran.ensures.notes in
-    let room = c.deref_mut.ensures in
-    let kept = c.run_and_cut-ran.auto.room in
+    let ready = c.run_and_cut-ran.ensures.ready in
     let answered = ap stop_cause (sym c.answer_of-answer.ensures) ∙ sym c.stop_of-self-inside.ensures in (
       c.self.invariant.0,
-      c.run_and_cut-ran.ensures.ready.range,
-      omega (arith, length-take {A = ℕ}, length-append {A = ℕ}, kept, room.len, ap length room.value, c.self.invariant.2),
+      ready.range,
+      ready.room,
       λ goes_on. RunAndCut-untried _ _ _ _ _ _ (c.self.invariant.3 c.in_default.is) h.2 (answered ∙ goes_on),
+      rw (c.stop_of-self-inside.ensures, c.answer_of-answer.ensures) (run_stops_down _ _ _ _ _ _ h.2),
     )
 
 pub returns-clause-cause : goal.returns-clause-cause
@@ -76,4 +77,4 @@ returns-clause-stands g c =
 
 pub returns-clause-trails : goal.returns-clause-trails
 returns-clause-trails g c =
-    rw (← c.self.view_is, c.in_default.is) (run_trails _ (record { identity = c.self.inside.context.identity; connection = connection_seen c.self.inside.state c.self.inside.reader.unread; pending = c.self.inside.pending; stopped = None }) _ _ _ _ _ _ (rw (← c.self.view_is, c.in_default.is) at c.requires.phase) c.run_and_cut-ran.ensures.notes)
+    rw (← c.self.view_is, c.in_default.is) (run_trails _ (record { identity = c.self.inside.context.identity; connection = connection_seen c.self.inside.work.state c.self.inside.work.reader.unread; pending = c.self.inside.work.pending; stopped = None }) _ _ _ _ _ _ (rw (← c.self.view_is, c.in_default.is) at c.requires.phase) c.run_and_cut-ran.ensures.notes)

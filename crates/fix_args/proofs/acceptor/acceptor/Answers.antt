@@ -1,0 +1,31 @@
+use Rattle.std.proofs.Common.{rules, ◌≡◌, ◌∙◌, ap₂, codes}
+use Rattle.std.proofs.lemmas.Result.{IfOk-weaker}
+use Rattle.clap.specs.Words.{App, app_of, with_rule}
+use Rattle.fix_args.specs.Command.{bare, flag, option}
+use Rattle.fix_args.proofs.ArgsLemmas.{bare_is}
+use Rattle.fix_args.proofs.acceptor.acceptor.Goals as goal
+
+abbrev one : App
+one = with_rule (bare (codes "fixacceptor")) (flag (codes "stdio"))
+
+abbrev two : App
+two = with_rule one (flag (codes "check"))
+
+abbrev three : App
+three = with_rule two (flag (codes "echo"))
+
+abbrev four : App
+four = with_rule three (option (codes "settings"))
+
+abbrev five : App
+five = with_rule four (option (codes "store"))
+
+pub returns : goal.returns
+returns c =
+    let top = bare_is _ _ _ _ c.new.ensures.app c.no_binary_name.ensures c.disable_help_flag.ensures in
+    let is_one : app_of c.in_ok-arg.field-0 ≡ one = c.in_ok-arg.ensures.shape c.flag.ensures.global ∙ ap₂ with_rule top c.flag.ensures.rule in
+    let is_two : app_of c.in_ok-arg-2.field-0 ≡ two = c.in_ok-arg-2.ensures.shape c.flag-2.ensures.global ∙ ap₂ with_rule is_one c.flag-2.ensures.rule in
+    let is_three : app_of c.in_ok-arg-3.field-0 ≡ three = c.in_ok-arg-3.ensures.shape c.flag-3.ensures.global ∙ ap₂ with_rule is_two c.flag-3.ensures.rule in
+    let is_four : app_of c.in_ok-arg-4.field-0 ≡ four = c.in_ok-arg-4.ensures.shape c.option.ensures.global ∙ ap₂ with_rule is_three c.option.ensures.rule in
+    let is_five : app_of c.in_ok-arg-5.field-0 ≡ five = c.in_ok-arg-5.ensures.shape c.option-2.ensures.global ∙ ap₂ with_rule is_four c.option-2.ensures.rule in
+    IfOk-weaker c.arg-6.result _ _ (λ r h. h.shape c.names.ensures.global ∙ ap₂ with_rule is_five c.names.ensures.rule) c.arg-6.ensures

@@ -1,0 +1,11 @@
+use Rattle.std.proofs.Common.{rules, ◌≡◌, ◌∙◌, refl}
+use Rattle.clap.specs.Matches.{found_of}
+use Rattle.clap.specs.Words.{rows_of}
+use Rattle.clap.proofs.WalkLemmas.{raw_values-rows}
+use Rattle.fix_args.proofs.ArgsLemmas.{names_eq}
+use Rattle.fix_args.proofs.script.line_met.Goals as goal
+
+pub returns : goal.returns
+returns c =
+    let names = names_eq c.get_strs.result _ c.unwrap_or.result _ (c.get_strs.ensures ∙ raw_values-rows (found_of c.args.m.now) _) refl c.unwrap_or.ensures in
+    rw (c.line.ensures, c.is_set.ensures, names) refl

@@ -1,0 +1,4 @@
+pub mod Command
+pub mod Acceptor
+pub mod Initiator
+pub mod Script

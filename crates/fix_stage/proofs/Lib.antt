@@ -1,0 +1,15 @@
+pub mod FoldLemmas
+pub mod CombineLemmas
+pub mod OutgoingLemmas
+pub mod StageLemmas
+pub mod EachTime
+pub mod SendingLemmas
+pub mod LeadsLemmas
+pub mod PlainLemmas
+pub mod ChainLemmas
+pub mod KeepLeads
+pub mod WriteLeads
+pub mod FlushLeads
+pub mod ApartLeads
+pub mod StagingLeads
+pub mod Carrying

@@ -1,0 +1,164 @@
+-- The frames of what was kept may be written, one after another, and a part of the last one.
+use Rattle.std.proofs.Common.{◌≡◌, ℕ, ◌+◌, ◌≤◌, List, [], ◌∷◌, ◌++◌, length, length-append, take, drop, Option, Some, None}
+use Rattle.std.proofs.Common.{Result, Ok, Err, refl, sym, ◌∙◌, ap, subst, append_assoc, arith}
+use Rattle.std.specs.Prelude.{⊤}
+use Rattle.std.proofs.lemmas.List.{take-append-drop}
+use Rattle.fix_base.specs.Lists.{IsPrefixOf}
+use Rattle.fix_base.specs.declared.identity.Identity.{Identity}
+use Rattle.fix_base.specs.declared.entry.Entry.{Entry}
+use Rattle.fix_base.specs.declared.act.Act.TheVariants as act
+use Rattle.fix_base.specs.End.{IsEntry}
+use Rattle.fix_base.specs.Wrote as wrote
+use Rattle.fix_base.specs.Wrote.{Wrote, WroteWhole}
+use Rattle.fix_base.specs.EndStep as steps
+use Rattle.fix_base.specs.EndStep.{Acceptor, Connection, EndState, LogonRule}
+use Rattle.fix_base.specs.Trace.{Note, acts_of}
+use Rattle.fix_base.proofs.ListLemmas.{prefix_refl, prefix_under}
+use Rattle.fix_base.proofs.WholeLemmas.{whole_more, whole_wrote, front_wrote}
+use Rattle.fix_stage.specs.Combine as combine
+use Rattle.fix_stage.specs.Combine.{Each}
+use Rattle.fix_stage.specs.Sender.{StageFault}
+use Rattle.fix_stage.specs.declared.fault.StageFault.TheVariants as fault
+use Rattle.fix_stage.specs.Flush as flush
+use Rattle.fix_stage.specs.Flush.{WroteOne}
+use Rattle.fix_stage.specs.Lawful.{IsPlainly, IsPlainOriginal, AreOriginals, LawfulRunTo}
+use Rattle.fix_stage.proofs.LeadsLemmas.{leads_nowhere, leads_step, leads_weaker}
+use Rattle.fix_stage.proofs.PlainLemmas.{plain_more, plain_rule, original_frame}
+
+-- nothing but the connection changed
+pub record Same (e e' : EndState) : Type 0 where
+  pub end : e'.end ≡ e.end
+  pub role : e'.role ≡ e.role
+  pub expected : e'.expected ≡ e.expected
+  pub handled : e'.handled ≡ e.handled
+  pub doubt : e'.doubt ≡ None
+
+-- the connection goes on, and whole originals were written on it
+pub record StillOpen (id : Identity) (e : EndState) (c : Connection) (e' : EndState) : Type 0 where
+  pub same : Same e e'
+  pub connection : Connection
+  pub is_open : e'.connection ≡ Some connection
+  pub opened : connection.opened ≡ c.opened
+  pub read : connection.read ≡ c.read
+  pub base : connection.base ≡ c.base
+  pub gave : connection.gave ≡ c.gave
+  pub last : ℕ
+  pub below : last ≤ length e.end.out
+  pub whole : WroteWhole id c.opened e.end last connection.written
+  pub plain : IsPlainly connection.written
+
+-- what a write may fail for
+abbrev pub IsWriteFault : StageFault → Type 0
+IsWriteFault fault.NumbersSpent = ⊥
+IsWriteFault fault.OutOfMemory = ⊤
+IsWriteFault fault.StoreFault = ⊥
+IsWriteFault fault.LinkFault = ⊤
+
+-- the end after the writes
+abbrev pub AfterWrite : Identity → Result ⊤ StageFault → EndState → Connection → EndState → Type 0
+AfterWrite id (Ok x) e c e' = StillOpen id e c e'
+AfterWrite id (Err f) e c e' = Same e e' × IsWriteFault f
+
+abbrev writing : Connection → List ℕ → Connection
+writing c w = record c { written = c.written ++ w }
+
+abbrev connected : EndState → Connection → EndState
+connected e c = record e { connection = Some c }
+
+again : (id : Identity) (r : Result ⊤ StageFault) (e : EndState) (c : Connection) (w : List ℕ) (e' : EndState) → AfterWrite id r (connected e (writing c w)) (writing c w) e' → AfterWrite id r e c e'
+again id (Ok x) e c w e' h = record {
+  same = record { end = h.same.end; role = h.same.role; expected = h.same.expected; handled = h.same.handled; doubt = h.same.doubt };
+  connection = h.connection;
+  is_open = h.is_open;
+  opened = h.opened;
+  read = h.read;
+  base = h.base;
+  gave = h.gave;
+  last = h.last;
+  below = h.below;
+  whole = h.whole;
+  plain = h.plain;
+}
+again id (Err f) e c w e' h = (record { end = h.0.end; role = h.0.role; expected = h.0.expected; handled = h.0.handled; doubt = h.0.doubt }, h.1)
+
+-- the end on its connection, with these entries still to be written
+pub record Writes (id : Identity) (es before : List Entry) (c : Connection) (last : ℕ) (e : EndState) : Type 0 where
+  pub doubt : e.doubt ≡ None
+  pub role : e.role ≡ Acceptor
+  pub is_open : e.connection ≡ Some c
+  pub out : e.end.out ≡ before ++ es
+  pub low : last ≤ length before
+  pub whole : WroteWhole id c.opened e.end last c.written
+  pub plain : IsPlainly c.written
+
+-- the frame of the next entry may be written
+record Goes (id : Identity) (n : ℕ) (e : EndState) (c : Connection) (text : List ℕ) : Type 0 where
+  whole : WroteWhole id c.opened e.end n (c.written ++ text)
+  plain : IsPlainly (c.written ++ text)
+
+next_goes : (id : Identity) (x : Entry) (es before : List Entry) (c : Connection) (last : ℕ) (e : EndState) (text : List ℕ) → Writes id (x ∷ es) before c last e → IsPlainOriginal id (length before + 1) x text → Goes id (length before + 1) e c text
+next_goes id x es before c last e text h o =
+    let at : IsEntry e.end.out (length before + 1) x = record { before = before; after = es; is = h.out; place = omega arith } in
+    record {
+      whole = whole_more id c.opened e.end last (length before + 1) c.written text (wrote.next_original (length before + 1) x o.fits (omega (arith, h.low)) at o.original) h.whole;
+      plain = plain_more c.written text (original_frame id (length before + 1) x text o.original) o.plain h.plain;
+    }
+
+all_wrote : (id : Identity) (n : ℕ) (e : EndState) (c : Connection) (text : List ℕ) → Goes id n e c text → Wrote id c.opened e.end (c.written ++ text)
+all_wrote id n e c text g = whole_wrote id c.opened e.end n (c.written ++ text) g.whole
+
+front_of : (many : ℕ) (text : List ℕ) → IsPrefixOf (take many text) text
+front_of many text = record { rest = drop many text; is = sym (take-append-drop many text) }
+
+some_wrote : (id : Identity) (n many : ℕ) (e : EndState) (c : Connection) (text : List ℕ) → Goes id n e c text → Wrote id c.opened e.end (c.written ++ take many text)
+some_wrote id n many e c text g = front_wrote id c.opened e.end (c.written ++ text) (c.written ++ take many text) (prefix_under c.written (front_of many text)) (all_wrote id n e c text g)
+
+all_rule : (id : Identity) (n : ℕ) (e : EndState) (c : Connection) (text : List ℕ) → e.role ≡ Acceptor → Goes id n e c text → LogonRule id e c text
+all_rule id n e c text role g = plain_rule id e c text (c.written ++ text) role g.plain (prefix_refl (c.written ++ text))
+
+some_rule : (id : Identity) (n many : ℕ) (e : EndState) (c : Connection) (text : List ℕ) → e.role ≡ Acceptor → Goes id n e c text → LogonRule id e c (take many text)
+some_rule id n many e c text role g = plain_rule id e c (take many text) (c.written ++ text) role g.plain (prefix_under c.written (front_of many text))
+
+-- the rest of the frames, where the next number is another name of the same
+rest_originals : (id : Identity) (x : Entry) (before es : List Entry) (frames : List (Option (List ℕ))) → AreOriginals id (length before + 1) es frames → AreOriginals id (length (before ++ x ∷ [])) es frames
+rest_originals id x before es frames h = subst (λ n. AreOriginals id n es frames) (sym (length-append before (x ∷ []))) h
+
+pub write_leads : (id : Identity) (es before : List Entry) (frames : List (Option (List ℕ))) (c : Connection) (last : ℕ) (e : EndState) (notes : List Note) (r : Result ⊤ StageFault) (u : ⊤) → AreOriginals id (length before) es frames → Writes id es before c last e → Each WroteOne tt frames notes r u → LawfulRunTo id e (acts_of notes) (AfterWrite id r e c)
+write_leads id [] before [] c last e notes r u are h combine.none =
+    leads_nowhere id e (StillOpen id e c) (record {
+      same = record { end = refl; role = refl; expected = refl; handled = refl; doubt = h.doubt };
+      connection = c;
+      is_open = h.is_open;
+      opened = refl;
+      read = refl;
+      base = refl;
+      gave = refl;
+      last = last;
+      below = (let size = ap (λ (l : List Entry). length l) h.out in omega (arith, h.low, size, length-append before []));
+      whole = h.whole;
+      plain = h.plain;
+    })
+write_leads id [] before (frame ∷ frames) c last e notes r u are h d = absurd are
+write_leads id (x ∷ es) before [] c last e notes r u are h d = absurd are
+write_leads id (x ∷ es) before (None ∷ frames) c last e notes r u are h (combine.ends d) = elim d [ ]
+write_leads id (x ∷ es) before (None ∷ frames) c last e notes r u are h (combine.goes {more = others} flush.no_frame rest) =
+    write_leads id es (before ++ x ∷ []) frames c last e others r u (rest_originals id x before es frames are)
+    (record { doubt = h.doubt; role = h.role; is_open = h.is_open; out = h.out ∙ sym (append_assoc before (x ∷ []) es); low = omega (arith, h.low, length-append before (x ∷ [])); whole = h.whole; plain = h.plain }) rest
+write_leads id (x ∷ es) before (Some text ∷ frames) c last e notes r u are h (combine.ends (flush.write_lost t sent)) =
+    let w : List ℕ = take sent text in
+    let g = next_goes id x es before c last e text h are.0 in
+    let to : EndState = connected e (writing c w) in
+    leads_step id e to (act.Wrote w) [] (AfterWrite id (Err fault.LinkFault) e c)
+    (record { certain = h.doubt; row = steps.wrote w c h.is_open (some_wrote id (length before + 1) sent e c text g) (some_rule id (length before + 1) sent e c text h.role g) }) (λ held k. k)
+    (leads_nowhere id to (AfterWrite id (Err fault.LinkFault) e c) (record { end = refl; role = refl; expected = refl; handled = refl; doubt = h.doubt }, tt))
+write_leads id (x ∷ es) before (Some text ∷ frames) c last e notes r u are h (combine.ends (flush.write_memory t)) =
+    leads_nowhere id e (AfterWrite id (Err fault.OutOfMemory) e c) (record { end = refl; role = refl; expected = refl; handled = refl; doubt = h.doubt }, tt)
+write_leads id (x ∷ es) before (Some text ∷ frames) c last e notes r u are h (combine.goes {more = others} (flush.wrote t) rest) =
+    let g = next_goes id x es before c last e text h are.0 in
+    let to : EndState = connected e (writing c text) in
+    let size : length (before ++ x ∷ []) ≡ length before + 1 = length-append before (x ∷ []) in
+    leads_step id e to (act.Wrote text) (acts_of others) (AfterWrite id r e c)
+    (record { certain = h.doubt; row = steps.wrote text c h.is_open (all_wrote id (length before + 1) e c text g) (all_rule id (length before + 1) e c text h.role g) }) (λ held k. k)
+    (leads_weaker id to (acts_of others) (AfterWrite id r to (writing c text)) (AfterWrite id r e c) (again id r e c text)
+    (write_leads id es (before ++ x ∷ []) frames (writing c text) (length before + 1) to others r u (rest_originals id x before es frames are.1)
+    (record { doubt = h.doubt; role = h.role; is_open = refl; out = h.out ∙ sym (append_assoc before (x ∷ []) es); low = omega (arith, size); whole = g.whole; plain = g.plain }) rest))

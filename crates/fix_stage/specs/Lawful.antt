@@ -1,0 +1,166 @@
+-- What a session sends is lawful: staging leaves an end as it is, and a flush is a run of it.
+use Rattle.std.specs.Prelude.{◌≡◌, ◌⊎◌, ℕ, ◌+◌, ◌≤◌, List, [], ◌∷◌, length, Option, Some, None, Result, Ok, Err, ⊤}
+use Rattle.fix_base.specs.Lists.{Among}
+use Rattle.fix_base.specs.declared.identity.Identity.{Identity}
+use Rattle.fix_base.specs.declared.entry.Entry.{Entry}
+use Rattle.fix_base.specs.declared.entry.Record.{Record}
+use Rattle.fix_base.specs.declared.act.Act.{Act}
+use Rattle.fix_base.specs.Shape.{IsFrame}
+use Rattle.fix_base.specs.Says.{joined}
+use Rattle.fix_base.specs.Logon.{IsResetLogon}
+use Rattle.fix_base.specs.End.{End, folded}
+use Rattle.fix_base.specs.Wrote.{IsOriginal, WroteWhole}
+use Rattle.fix_base.specs.EndStep.{Acceptor, Connection, EndState, Chain, EndRun}
+use Rattle.fix_base.specs.Trace.{Stores, Note, acts_of}
+use Rattle.fix_stage.specs.Stage.{no_stage}
+use Rattle.fix_stage.specs.Sender.{Numbers, Sender, StageFault, NumbersSpent, OutOfMemory, StoreFault, LinkFault}
+use Rattle.fix_stage.specs.Flush.{record_of}
+use Rattle.fix_stage.specs.Outgoing.{Outgoing, IsFrameOf}
+
+-- ---- an end and the numbers of a session
+
+-- the end has what the session has kept. It is the end of an acceptor
+pub record HasKept (n : Numbers) (e : EndState) : Type 0 where
+  pub stored : e.end.stored ≡ n.stored_expected
+  pub out : length e.end.out ≡ n.last
+  pub role : e.role ≡ Acceptor
+
+-- the same, and no record is in doubt
+pub record IsCertain (n : Numbers) (e : EndState) : Type 0 where
+  pub doubt : e.doubt ≡ None
+  pub kept : HasKept n e
+
+-- a record of what was staged is in doubt, and else the end has what the session has kept
+pub record IsInDoubt (b : Sender) (e : EndState) : Type 0 where
+  pub kept : HasKept b.numbers e
+  pub entries : List Entry
+  pub expect : ℕ
+  pub due : (expect ≡ 0) ⊎ (expect ≡ b.numbers.expected)
+  pub doubt : e.doubt ≡ Some (record_of entries expect)
+  pub closed : e.connection ≡ None
+
+-- ---- its connection
+
+-- the bytes are whole frames, and none of them is a Logon with 141=Y
+pub record IsPlainly (bytes : List ℕ) : Type 0 where
+  pub texts : List (List ℕ)
+  pub are : bytes ≡ joined texts
+  pub frames : (text : List ℕ) → Among text texts → IsFrame text
+  pub plain : (text : List ℕ) → Among text texts → IsResetLogon text → ⊥
+
+-- on the end's connection this was read, and messages of these numbers were given. What was written is whole messages,
+-- none of which is a Logon with 141=Y; the last original is that of an entry
+pub record IsOn (id : Identity) (read given : List ℕ) (e : EndState) : Type 0 where
+  pub connection : Connection
+  pub is_open : e.connection ≡ Some connection
+  pub reads : connection.read ≡ read
+  pub gives : connection.gave ≡ given
+  pub last : ℕ
+  pub below : last ≤ length e.end.out
+  pub whole : WroteWhole id connection.opened e.end last connection.written
+  pub plain : IsPlainly connection.written
+
+-- ---- what is staged
+
+-- the frame is the original of the entry under this number, and no Logon with 141=Y
+pub record IsPlainOriginal (id : Identity) (n : ℕ) (entry : Entry) (text : List ℕ) : Type 0 where
+  pub fits : n ≤ 999999999
+  pub original : IsOriginal id n entry text
+  pub plain : IsResetLogon text → ⊥
+
+-- each frame, where there is one, is the original of its entry, under the numbers after this one
+abbrev pub AreOriginals : Identity → ℕ → List Entry → List (Option (List ℕ)) → Type 0
+AreOriginals id last [] [] = ⊤
+AreOriginals id last [] (frame ∷ frames) = ⊥
+AreOriginals id last (entry ∷ entries) [] = ⊥
+AreOriginals id last (entry ∷ entries) (None ∷ frames) = AreOriginals id (last + 1) entries frames
+AreOriginals id last (entry ∷ entries) (Some text ∷ frames) =
+    IsPlainOriginal id (last + 1) entry text × AreOriginals id (last + 1) entries frames
+
+-- no frame of the message is a Logon with 141=Y
+abbrev pub AsksNoReset : Identity → Outgoing → Type 0
+AsksNoReset id m = (n : ℕ) (text : List ℕ) → n ≤ 999999999 → IsFrameOf id n m text → IsResetLogon text → ⊥
+
+-- The end where what is staged is kept, entry by entry, each as it may be when its turn comes. The number that the
+-- session expects is that end's, and not the end's as it is now
+pub record IsAhead (n : ℕ) (entries : List Entry) (e : EndState) (c : Connection) : Type 0 where
+  pub to : EndState
+  pub run : Chain e entries 0 to
+  pub expected : to.expected ≡ n
+  pub base : c.base ≤ length to.handled
+
+-- the end is in step with a session in the middle of a turn, which expects this number
+pub record Fits (id : Identity) (read given : List ℕ) (n : ℕ) (b : Sender) (e : EndState) : Type 0 where
+  pub certain : IsCertain b.numbers e
+  pub on : IsOn id read given e
+  pub ahead : IsAhead n b.stage.entries e on.connection
+  pub expected : b.numbers.expected ≡ n
+  pub frames : AreOriginals id b.numbers.last b.stage.entries b.stage.frames
+
+-- the same, where the end expects this number already: no message was passed after what is staged
+pub record Level (id : Identity) (read given : List ℕ) (n : ℕ) (b : Sender) (e : EndState) : Type 0 where
+  pub certain : IsCertain b.numbers e
+  pub on : IsOn id read given e
+  pub here : e.expected ≡ n
+  pub base : on.connection.base ≤ length e.handled
+  pub expected : b.numbers.expected ≡ n
+  pub frames : AreOriginals id b.numbers.last b.stage.entries b.stage.frames
+
+-- there are no frames
+abbrev pub AreUnwritten : List (Option (List ℕ)) → Type 0
+AreUnwritten [] = ⊤
+AreUnwritten (None ∷ frames) = AreUnwritten frames
+AreUnwritten (Some text ∷ frames) = ⊥
+
+-- a session that writes nothing, as one that has no connection: what is staged has no frames
+pub record Apart (b : Sender) (e : EndState) : Type 0 where
+  pub certain : IsCertain b.numbers e
+  pub here : e.expected ≡ b.numbers.expected
+  pub unwritten : AreUnwritten b.stage.frames
+
+-- the same, with nothing staged
+pub record Bare (b : Sender) (e : EndState) : Type 0 where
+  pub certain : IsCertain b.numbers e
+  pub here : e.expected ≡ b.numbers.expected
+  pub empty : b.stage ≡ no_stage
+
+-- ---- runs
+
+-- what a store of this end holds: the end, with or without the record that is in doubt
+abbrev pub IsStoredOrInDoubt : Option Record → End → Option End → Type 0
+IsStoredOrInDoubt None end held = held ≡ Some end
+IsStoredOrInDoubt (Some r) end held = (held ≡ Some end) ⊎ (held ≡ Some (folded end r))
+
+-- these acts are a run of a lawful end, to one that has P. A store that held the old end, and did the acts,
+-- holds the new one
+pub record LawfulRunTo (id : Identity) (e : EndState) (acts : List Act) (P : EndState → Type 0) : Type 0 where
+  pub to : EndState
+  pub run : EndRun id e acts to
+  pub holds : P to
+  pub store : (held : Option End) → Stores acts (Some e.end) held → IsStoredOrInDoubt to.doubt to.end held
+
+-- the end after a part: where it went well it has Q, and else what this fault leaves
+abbrev pub After : {S E : Type 0} → (E → S → EndState → Type 0) → (S → EndState → Type 0) → Result ⊤ E → S → EndState
+    → Type 0
+After Failed Q (Ok x) s e = Q s e
+After Failed Q (Err fault) s e = Failed fault s e
+
+-- a part leads from P to Q: whatever end has P before it, its acts are a run of it
+abbrev pub LeadsFrom : {S E : Type 0} → Identity → (E → S → EndState → Type 0) → (S → EndState → Type 0)
+    → (S → List Note → Result ⊤ E → S → Type 0) → (S → EndState → Type 0) → Type 0
+LeadsFrom {S} {E} id Failed P R Q = (s : S) (notes : List Note) (r : Result ⊤ E) (to : S) → R s notes r to
+    → (e : EndState) → P s e → LawfulRunTo id e (acts_of notes) (After Failed Q r to)
+
+-- the end after a fault of sending. Where no number is left all that was staged is kept
+abbrev pub AfterFault : Identity → List ℕ → List ℕ → ℕ → StageFault → Sender → EndState → Type 0
+AfterFault id read given n NumbersSpent b e = Level id read given n b e × (b.stage ≡ no_stage)
+AfterFault id read given n OutOfMemory b e = IsCertain b.numbers e
+AfterFault id read given n StoreFault b e = IsInDoubt b e
+AfterFault id read given n LinkFault b e = Bare b e
+
+-- the same of a session that writes nothing: its connection doesn't fail
+abbrev pub AfterApart : StageFault → Sender → EndState → Type 0
+AfterApart NumbersSpent b e = Bare b e
+AfterApart OutOfMemory b e = IsCertain b.numbers e
+AfterApart StoreFault b e = IsInDoubt b e
+AfterApart LinkFault b e = ⊥

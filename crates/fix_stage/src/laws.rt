@@ -1,0 +1,60 @@
+//! What holds of all that a session sends, each law on a function that does nothing.
+ghost use Rattle.std.specs.Prelude.{◌≡◌, ◌⊎◌, ℕ, List, false, Result, ⊤};
+ghost use Rattle.fix_base.specs.declared.identity.Identity.{Identity};
+ghost use Rattle.fix_base.specs.Session.{IsValidIdentity};
+ghost use Rattle.fix_base.specs.EndStep.{EndState};
+ghost use Rattle.fix_base.specs.Trace.{Note, acts_of};
+ghost use Rattle.fix_stage.specs.Sender.{Sender, StageFault};
+ghost use Rattle.fix_stage.specs.Flush.{Flushed, Settled};
+ghost use Rattle.fix_stage.specs.Outgoing.{Outgoing, IsOutgoing};
+ghost use Rattle.fix_stage.specs.Staging.{Staging, MakesAndStages, StagesPending};
+ghost use Rattle.fix_stage.specs.Stated.{Total, Resumes, IsTimely};
+ghost use Rattle.fix_stage.specs.Lawful.{AsksNoReset, Fits, Level, Apart, Bare, LawfulRunTo, After, AfterFault};
+ghost use Rattle.fix_stage.specs.Lawful.{AfterApart, LeadsFrom};
+
+/// A flush is a run of a lawful end: whatever end is in step with the session before it, its acts are a run of
+/// that end. Where it goes well the end has passed what the session has counted.
+pub fn a_flush_is_lawful()
+    ensures { (id : Identity) (read given : List ℕ) (n k : ℕ) (b : Sender) (notes : List Note) (r : Result ⊤ StageFault)
+        (to : Sender) → (k ≡ 0) ⊎ (k ≡ n) → Flushed k b notes r to → (e : EndState) → Fits id read given n b e
+        → LawfulRunTo id e (acts_of notes) (After (AfterFault id read given n) (Level id read given n) r to) }
+{}
+
+/// So is the flush at the end of a turn.
+pub fn a_turn_settles_lawfully()
+    ensures { (id : Identity) (read given : List ℕ) (n : ℕ)
+        → LeadsFrom id (AfterFault id read given n) (Fits id read given n) Settled (Level id read given n) }
+{}
+
+/// Staging a message that asks for no reset is a run of a lawful end, and leaves it in step.
+pub fn a_message_is_staged_lawfully()
+    ensures { (id : Identity) (read given : List ℕ) (n : ℕ) (m : Outgoing) → IsValidIdentity id
+        → (IsOutgoing m → AsksNoReset id m)
+        → LeadsFrom id (AfterFault id read given n) (Fits id read given n) (Staging id m) (Fits id read given n) }
+{}
+
+/// Staging the draft in hand is one too, and leaves the end level: bytes may be read after it.
+pub fn a_draft_is_staged_lawfully()
+    ensures { (id : Identity) (read given : List ℕ) (n : ℕ) → IsValidIdentity id
+        → LeadsFrom id (AfterFault id read given n) (Level id read given n) (StagesPending id) (Level id read given n) }
+{}
+
+/// A session that writes nothing, as one with no connection, keeps its messages lawfully.
+pub fn an_unwritten_message_is_kept_lawfully()
+    ensures staged { (id : Identity) (m : Outgoing) → m.written ≡ false
+        → LeadsFrom id AfterApart Apart (MakesAndStages id m) Apart }
+    ensures kept { (id : Identity) → LeadsFrom id AfterApart Apart (Flushed 0) Bare }
+    ensures settled { (id : Identity) → LeadsFrom id AfterApart Apart Settled Bare }
+{}
+
+/// What is out of memory would have gone on, and what is not has an end: no flush and no staging is left without one.
+pub fn what_is_out_of_memory_would_have_gone_on()
+    ensures flush { (k : ℕ) → Resumes StageFault.OutOfMemory IsTimely (Flushed k) }
+    ensures flush_ends { (k : ℕ) → Total StageFault.OutOfMemory IsTimely (Flushed k) }
+    ensures message { (id : Identity) (m : Outgoing) → IsOutgoing m
+        → Resumes StageFault.OutOfMemory IsTimely (Staging id m) }
+    ensures message_ends { (id : Identity) (m : Outgoing) → IsOutgoing m
+        → Total StageFault.OutOfMemory IsTimely (Staging id m) }
+    ensures draft { (id : Identity) → Resumes StageFault.OutOfMemory IsTimely (StagesPending id) }
+    ensures draft_ends { (id : Identity) → Total StageFault.OutOfMemory IsTimely (StagesPending id) }
+{}

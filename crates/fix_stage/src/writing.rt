@@ -1,0 +1,37 @@
+//! Writes frames on the connection, one write each. `flushing` calls this.
+ghost use Rattle.std.specs.Prelude.{◌≡◌, ◌≢◌, Err};
+ghost use Rattle.fix_base.specs.Trace.{HasTrace};
+ghost use Rattle.fix_stage.specs.Combine.{Each};
+ghost use Rattle.fix_stage.specs.Flush.{WroteOne};
+
+use crate::StageFault;
+use fix_base::Bytes;
+use fix_outside::{Outside, WriteTurn};
+
+/// Writes the frames in order, until one fails.
+pub fn write_all<O: Outside>(o: &mut O, frames: &[Option<Bytes>]) -> Result<(), StageFault>
+    ensures opens { (O.seen o.new).open_at ≡ (O.seen o.old).open_at }
+    ensures open { result ≢ Err StageFault.StoreFault }
+    ensures notes { HasTrace (O.seen o.old) (O.seen o.new) (λ notes. Each WroteOne tt frames.now notes result tt) }
+{
+    for frame in frames {
+        write_one(o, frame)?;
+    }
+    Ok(())
+}
+
+// Writes one frame, where there is one.
+fn write_one<O: Outside>(o: &mut O, frame: &Option<Bytes>) -> Result<(), StageFault>
+    ensures opens { (O.seen o.new).open_at ≡ (O.seen o.old).open_at }
+    ensures open { result ≢ Err StageFault.StoreFault }
+    ensures notes { HasTrace (O.seen o.old) (O.seen o.new) (λ notes. WroteOne tt frame.now notes result tt) }
+{
+    match frame {
+        None => Ok(()),
+        Some(text) => match o.write(text.as_slice()) {
+            WriteTurn::Done => Ok(()),
+            WriteTurn::Failed(_) => Err(StageFault::LinkFault),
+            WriteTurn::OutOfMemory => Err(StageFault::OutOfMemory),
+        },
+    }
+}

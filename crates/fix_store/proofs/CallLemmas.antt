@@ -1,0 +1,72 @@
+-- What a call that keeps a record answers, and what a store tells.
+use Rattle.std.proofs.Common.{◌≡◌, ◌∙◌, ℕ, ◌≤◌, Bool, true, false, List, [], ◌∷◌, length, Some, None, Err, refl, sym, ap, subst, true≢false}
+use Rattle.std.specs.Prelude.{map, IfSome, is_some}
+use Rattle.std.specs.FinSet as set
+use Rattle.fix_base.specs.declared.entry.Record.{Record}
+use Rattle.fix_base.specs.End.{End}
+use Rattle.fix_disk.specs.Disk.{DiskSeen}
+use Rattle.fix_journal.specs.Format.{IsJournal}
+use Rattle.fix_journal.specs.Journal.{JournalSeen}
+use Rattle.fix_journal.proofs.SoundLemmas.{told_case, some_same}
+use Rattle.fix_store.specs.declared.fault.StoreFault.{StoreFault}
+use Rattle.fix_store.specs.declared.fault.StoreFault.TheVariants as fault
+use Rattle.fix_store.specs.Spelling.{keeps, spelled_item}
+use Rattle.fix_store.specs.Reading.{LAST_NUMBER, new_content, taken_all, HasEnd}
+use Rattle.fix_store.specs.Store.{StoreSeen, stored_of, withheld_of, HoldsEnd, IsTold, KeepAnswers}
+use Rattle.fix_store.specs.Keeping.{AppendAnswers}
+use Rattle.fix_store.specs.Folding.{Fold, fold_with, stored_in, change_of, MayTake, HasPlaceIn, IsSound}
+use Rattle.fix_store.proofs.Places.{fold_goes_on, has_number, has_none}
+use Rattle.fix_store.proofs.KeepLemmas.{end_of, this_end}
+
+-- what is seen of a store
+abbrev pub seen_by : {D : Type 0} → D → Fold → Bool → StoreSeen D
+seen_by d f stopped = record { disk = d; stored = stored_in f; stopped = stopped }
+
+-- what it tells is its end
+pub told_of : {D : Type 0} (disk : D → DiskSeen) (journal : JournalSeen D) (f : Fold) (stopped : Bool) → IsSound disk journal f stopped → IsTold disk (seen_by journal.disk f stopped)
+told_of disk journal f stopped sound = λ still.
+    told_case (disk journal.disk).bytes (λ file. (e : End) × HasEnd file e × (stored_in f ≡ stored_of e)) (λ file is.
+    let k = sound.kept still (ap is_some is) in
+    let same : k.1.holds.0 ≡ file = some_same k.1.holds.0 file (sym k.1.holds.1 ∙ is) in (
+      (taken_all new_content k.0).end,
+      end_of k.0 k.1.folds.each file (subst (λ x. IsJournal x (map spelled_item k.0)) same k.1.holds.2),
+      k.1.folds.stored,
+    ))
+
+module _ {D : Type 0} (d d' : D) (f h : Fold) (r : Record) (stopped : Bool) (still : stopped ≡ false) where
+  -- it is kept
+  pub answers_ok : (index : ℕ) (then_stopped : Bool) → then_stopped ≡ false → MayTake f (change_of (keeps r)) → h ≡ fold_with index f (change_of (keeps r)) → KeepAnswers None r (seen_by d f stopped) (seen_by d' h then_stopped)
+  answers_ok index then_stopped then_still may is = (
+    still,
+    has_number f r may,
+    ap stored_in is ∙ fold_goes_on index f r,
+    then_still,
+  )
+
+  -- every number is spent
+  pub answers_spent : length f.places ≤ LAST_NUMBER → f.marked ≡ true → HasPlaceIn (stored_in f) r → (MayTake f (change_of (keeps r)) → ⊥) → KeepAnswers (Some fault.NumbersSpent) r (seen_by d f stopped) (seen_by d f stopped)
+  answers_spent few marked place not = (still, has_none f r few marked place not, refl)
+
+  -- out of memory before the disk is called
+  pub answers_without : MayTake f (change_of (keeps r)) → h ≡ f → KeepAnswers (Some fault.OutOfMemory) r (seen_by d f stopped) (seen_by d h stopped)
+  answers_without may same = (still, has_number f r may, ap (λ x. seen_by d x stopped) same)
+
+-- the append failed
+pub answers_failed : {D : Type 0} (journal new : JournalSeen D) (f h : Fold) (r : Record) (stopped then_stopped : Bool) → stopped ≡ false → journal.stopped ≡ false → then_stopped ≡ new.stopped → MayTake f (change_of (keeps r)) → h ≡ f → (said : StoreFault) → AppendAnswers (Err said) journal new → KeepAnswers (Some said) r (seen_by journal.disk f stopped) (seen_by new.disk h then_stopped)
+answers_failed journal new f h r stopped then_stopped still calm is may same fault.Stopped answers = absurd answers
+answers_failed journal new f h r stopped then_stopped still calm is may same fault.NumbersSpent answers = absurd answers
+answers_failed journal new f h r stopped then_stopped still calm is may same fault.OutOfMemory answers =
+    let then_still : then_stopped ≡ stopped = is ∙ ap (λ j. j.stopped) answers ∙ calm ∙ sym still in
+    (still, has_number f r may, λ i. seen_by (answers i).disk (same i) (then_still i))
+answers_failed journal new f h r stopped then_stopped still calm is may same fault.DiskFault answers = (
+  still,
+  has_number f r may,
+  ap stored_in same,
+  is ∙ answers.1,
+)
+
+-- what it tells as withheld is so at its end
+pub held_of : {D : Type 0} (disk : D → DiskSeen) (journal : JournalSeen D) (f : Fold) (stopped : Bool) → IsSound disk journal f stopped → (n : ℕ) (b : Bool) → b ≡ set.contains f.withheld n → stopped ≡ false → (e : End) → HoldsEnd (disk journal.disk) e → b ≡ set.contains (withheld_of e) n
+held_of disk journal f stopped sound n b is still e holds =
+    let k = sound.kept still (ap is_some holds.1) in
+    is ∙ ap (λ w. set.contains w n) (k.1.folds.withheld ∙ ap withheld_of (sym (this_end (disk journal.disk) journal.count k.0 f k.1 e holds)))

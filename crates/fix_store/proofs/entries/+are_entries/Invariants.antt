@@ -1,0 +1,4 @@
+use Rattle.fix_store.proofs.entries.+are_entries.Given as goal
+
+abbrev pub decreases-are_entries : goal.decreases-are_entries
+decreases-are_entries l = l.count
