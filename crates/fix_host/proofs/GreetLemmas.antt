@@ -123,14 +123,14 @@ gives_up known seconds turns since count ahead held a b x y le s = record {
 }
 
 -- no turn is left
-pub turns_spent : (known : List Identity) (seconds turns since : ℕ) (ahead held : List ℕ) (a b : LinkSeen) (x y : Option (List ℕ)) → SoFar seconds since turns ahead held a b x y → Greets known seconds turns greeted.TurnsSpent ahead held a b x y
-turns_spent known seconds turns since ahead held a b x y s = record {
+pub turns_spent : (known : List Identity) (seconds turns since count : ℕ) (ahead held : List ℕ) (a b : LinkSeen) (x y : Option (List ℕ)) → count ≡ turns → SoFar seconds since count ahead held a b x y → Greets known seconds turns greeted.TurnsSpent ahead held a b x y
+turns_spent known seconds turns since count ahead held a b x y all s = record {
   since = since;
   taken = s.taken;
   clock = s.clock;
   reads = s.reads;
   held = s.held;
-  answers = spent s.on s.many;
+  answers = spent s.on (s.many ∙ all);
 }
 
 -- where the bytes before were looked at, with those that a read gave

@@ -1,6 +1,6 @@
 //! Greets a connection: reads it up to its first frame, within so many bytes, turns and seconds, and says for which
 //! session that frame is. `accept` hands the connection to that session, which reads these bytes again.
-ghost use Rattle.std.specs.Prelude.{◌≡◌, ◌<◌, ◌≤◌, ◌-◌, ◌*◌, List, ℕ, MatchBool, length, min};
+ghost use Rattle.std.specs.Prelude.{◌≡◌, ◌<◌, ◌≤◌, ◌-◌, ◌*◌, List, ℕ, MatchBool, IfOk, vec_len, length, min};
 ghost use Rattle.fix_outside.specs.declared.connection.ReadTurn.{ReadTurn};
 ghost use Rattle.fix_host.specs.Held.{ahead_of, inner_of};
 ghost use Rattle.fix_host.specs.Looking.{IsLookedTo};
@@ -10,7 +10,7 @@ ghost use Rattle.fix_host.specs.Steps.{Judges, ComesTo, turn_of, TakesStep};
 use crate::Held;
 use crate::known::{Greeted, recognise};
 use crate::looking::{Looked, look};
-use fix_base::Identity;
+use fix_base::{Identity, OutOfMemory};
 use fix_parts::{Clock, Link, ReadTurn};
 use std::alloc::Global;
 
@@ -48,7 +48,7 @@ pub fn greet<L: Link, C: Clock>(
         Step::Ends(answer) => return answer,
         Step::GoesOn(place) => place,
     };
-    let Ok(mut room) = Vec::from_elem(alloc, 0u8, MOST_AT_ONCE) else {
+    let Ok(mut room) = room_of(alloc, MOST_AT_ONCE) else {
         return Greeted::OutOfMemory;
     };
     for taken in 0..turns {
@@ -58,6 +58,13 @@ pub fn greet<L: Link, C: Clock>(
         }
     }
     Greeted::TurnsSpent
+}
+
+// Room for so many bytes.
+fn room_of(alloc: Global, count: usize) -> Result<Vec<u8>, OutOfMemory>
+    ensures { IfOk result (λ room. vec_len room ≡ count) }
+{
+    Ok(Vec::from_elem(alloc, 0u8, count)?)
 }
 
 // One read and one reading of the clock, and what they come to.
