@@ -142,6 +142,6 @@ looked_after old mid new bytes given place same more is looked =
 pub step_taken : (known : List Identity) (seconds since now : ℕ) (old mid new bytes room : List ℕ) (read : ReadTurn) (a b c : LinkSeen) (x y : Option (List ℕ)) (step : Step) → mid ≡ old → b ≡ a → new ≡ mid ++ bytes_of read room → bytes ≡ new → length room ≤ min 65536 (1048612 - length old) → LinkReads read room b c → ClockReads now x y → ((given : List ℕ) → ComesTo known seconds since bytes (turn_of read given now) step) → TakesStep known seconds since old new a c x y step
 step_taken known seconds since now old mid new bytes room read a b c x y step same same_link more is most reads clock comes =
     steps.takes (turn_of read (bytes_of read room) now)
-        (record { room = room; most = most; reads = subst (λ l. LinkReads read room l c) same_link reads; bytes = refl })
-        clock (more ∙ ap (λ w. w ++ bytes_of read room) same)
-        (subst (λ w. ComesTo known seconds since w (turn_of read (bytes_of read room) now) step) is (comes (bytes_of read room)))
+    (record { room = room; most = most; reads = subst (λ l. LinkReads read room l c) same_link reads; bytes = refl })
+    clock (more ∙ ap (λ w. w ++ bytes_of read room) same)
+    (subst (λ w. ComesTo known seconds since w (turn_of read (bytes_of read room) now) step) is (comes (bytes_of read room)))

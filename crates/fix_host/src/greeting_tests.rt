@@ -8,6 +8,7 @@ use std::test::Fail;
 // A Logon of BUY to SELL, and one of BUY to NOONE.
 const LOGON: &[u8] =
     b"8=FIX.4.2\x019=58\x0135=A\x0134=1\x0149=BUY\x0152=20260105-09:30:00\x0156=SELL\x0198=0\x01108=30\x0110=079\x01";
+
 const STRANGER: &[u8] =
     b"8=FIX.4.2\x019=59\x0135=A\x0134=1\x0149=BUY\x0152=20260105-09:30:00\x0156=NOONE\x0198=0\x01108=30\x0110=159\x01";
 
@@ -45,7 +46,10 @@ fn still(alloc: Global) -> Result<MemoryClock, Fail> {
 fn a_logon_in_parts_is_known_and_read_again(rt: HostRuntime) -> Result<(), Fail> {
     let alloc = rt.alloc();
     let known = sessions(alloc)?;
-    let mut link = link_of(alloc, &[b"jun\x01", &LOGON[..20], b"", &LOGON[20..], b"more"])?;
+    let mut link = link_of(
+        alloc,
+        &[b"jun\x01", &LOGON[..20], b"", &LOGON[20..], b"more"],
+    )?;
     let mut clock = still(alloc)?;
     let answer = greet(alloc, &mut link, &mut clock, &known, 10, 100);
     assert_eq!(rt; answer, Greeted::Known { index: 1 });
@@ -102,10 +106,19 @@ fn an_end_a_fault_and_the_last_turn(rt: HostRuntime) -> Result<(), Fail> {
     let known = sessions(alloc)?;
     let mut clock = still(alloc)?;
     let mut link = link_of(alloc, &[b"8=FIX"])?;
-    assert_eq!(rt; greet(alloc, &mut link, &mut clock, &known, 10, 1), Greeted::TurnsSpent);
-    assert_eq!(rt; greet(alloc, &mut link, &mut clock, &known, 10, 1), Greeted::Ended);
+    assert_eq!(rt;
+        greet(alloc, &mut link, &mut clock, &known, 10, 1),
+        Greeted::TurnsSpent
+    );
+    assert_eq!(rt;
+        greet(alloc, &mut link, &mut clock, &known, 10, 1),
+        Greeted::Ended
+    );
     let broken = MemoryLink::new(alloc, Vec::new(alloc), 0, vec![in alloc; 1]?)?;
     let mut link = Held::new(alloc, broken);
-    assert_eq!(rt; greet(alloc, &mut link, &mut clock, &known, 10, 1), Greeted::LinkFault);
+    assert_eq!(rt;
+        greet(alloc, &mut link, &mut clock, &known, 10, 1),
+        Greeted::LinkFault
+    );
     Ok(())
 }

@@ -3,13 +3,13 @@
 #![tactic(auto)]
 
 mod greeting;
+#[cfg(test)]
+mod greeting_tests;
 mod held;
 mod known;
 mod looking;
 mod slot;
 mod spawner;
-#[cfg(test)]
-mod greeting_tests;
 #[cfg(test)]
 mod tests;
 mod world;

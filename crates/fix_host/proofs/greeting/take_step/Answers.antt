@@ -13,5 +13,5 @@ outcome-requires g c = looked_after _ _ _ _ _ c.args.from c.reserve.ensures.ahea
 pub returns-clause-step : goal.returns-clause-step
 returns-clause-step g c =
     step_taken _ _ _ c.now-now.result _ _ _ _ c.read_ahead-turn.new.room c.read_ahead-turn.result _ _ _ _ _ _ c.reserve.ensures.ahead (ap g.L.Link.link c.reserve.ensures.inner) c.read_ahead-turn.ensures.ahead c.ahead-2.ensures
-        (omega (arith, c.read_ahead-turn.auto.room, c.room_for-most.ensures.most, ap length c.ahead.ensures, c.requires.room, length-take c.room_for-most.result c.args.room.now))
-        c.read_ahead-turn.ensures.moves c.now-now.ensures.moves c.outcome.ensures
+    (omega (arith, c.read_ahead-turn.auto.room, c.room_for-most.ensures.most, ap length c.ahead.ensures, c.requires.room, length-take c.room_for-most.result c.args.room.now))
+    c.read_ahead-turn.ensures.moves c.now-now.ensures.moves c.outcome.ensures
