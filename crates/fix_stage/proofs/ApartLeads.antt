@@ -39,7 +39,7 @@ apart_flushed id k b notes r to which (flush.nothing_due due) e f = leads_nowher
 apart_flushed id k b notes r to which (flush.not_kept due flush.keep_memory) e f = leads_nowhere id e (IsCertain to.numbers) f.certain
 apart_flushed id k b notes r to which (flush.not_kept due flush.keep_lost) e f =
     lost_at id b.numbers.expected k b.stage.entries e (no_connection e.end) (ahead_plain b e f) (IsInDoubt to) f.certain.doubt which due (k == 0) refl
-    (λ e' end role doubt closed. in_doubt b.numbers.expected k b to e e' refl refl which f.certain.kept end role doubt closed)
+    (λ e' end role doubt closed. in_doubt b.numbers.expected k b to e e' refl refl due which f.certain.kept end role doubt closed)
 apart_flushed id k b notes r to which (flush.kept_and_written {more = more} due flush.kept w) e f = by (k == 0) refl
   where
     a : IsAhead b.numbers.expected b.stage.entries e (no_connection e.end)

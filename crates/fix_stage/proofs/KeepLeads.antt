@@ -134,8 +134,8 @@ kept_certain id read given n k b e f p e' same doubt role = record {
 
 -- ---- a record is lost
 
-pub in_doubt : (n k : ℕ) (b to : Sender) (e e' : EndState) → to.numbers ≡ b.numbers → b.numbers.expected ≡ n → (k ≡ 0) ⊎ (k ≡ n) → HasKept b.numbers e → e'.end ≡ e.end → e'.role ≡ e.role → e'.doubt ≡ Some (record_of b.stage.entries k) → e'.connection ≡ None → IsInDoubt to e'
-in_doubt n k b to e e' same expected which kept end role doubt closed = record {
+pub in_doubt : (n k : ℕ) (b to : Sender) (e e' : EndState) → to.numbers ≡ b.numbers → b.numbers.expected ≡ n → not (length b.stage.entries == 0 && k == 0) ≡ true → (k ≡ 0) ⊎ (k ≡ n) → HasKept b.numbers e → e'.end ≡ e.end → e'.role ≡ e.role → e'.doubt ≡ Some (record_of b.stage.entries k) → e'.connection ≡ None → IsInDoubt to e'
+in_doubt n k b to e e' same expected some which kept end role doubt closed = record {
   kept = record {
     stored = ap (λ (x : End). x.stored) end ∙ kept.stored ∙ sym (ap (λ (m : Numbers). m.stored_expected) same);
     out = ap (λ (x : End). length x.out) end ∙ kept.out ∙ sym (ap (λ (m : Numbers). m.last) same);
@@ -143,6 +143,7 @@ in_doubt n k b to e e' same expected which kept end role doubt closed = record {
   };
   entries = b.stage.entries;
   expect = k;
+  some = some;
   due = elim which as (λ _. (k ≡ 0) ⊎ (k ≡ to.numbers.expected)) [ inl zeroed ↦ inl zeroed | inr is ↦ inr (is ∙ sym expected ∙ sym (ap (λ (m : Numbers). m.expected) same)) ];
   doubt = doubt;
   closed = closed;
@@ -185,4 +186,19 @@ lost_at id n k (x ∷ y ∷ es) e c a P sure which due t z holds = many_lost id 
 pub lost_leads : (id : Identity) (read given : List ℕ) (n k : ℕ) (b to : Sender) (e : EndState) → to.numbers ≡ b.numbers → Fits id read given n b e → (k ≡ 0) ⊎ (k ≡ n) → is_due b k ≡ true → LawfulRunTo id e (act.KeepLost (record_of b.stage.entries k) ∷ []) (IsInDoubt to)
 lost_leads id read given n k b to e same f which due =
     lost_at id n k b.stage.entries e f.on.connection f.ahead (IsInDoubt to) f.certain.doubt which due (k == 0) refl
-    (λ e' end role doubt closed. in_doubt n k b to e e' same f.expected which f.certain.kept end role doubt closed)
+    (λ e' end role doubt closed. in_doubt n k b to e e' same f.expected due which f.certain.kept end role doubt closed)
+
+-- ---- a doubt that settles
+
+-- where the record is there, the end has its entries, and its number where it isn't 0
+pub record HasRecord (b : Sender) (entries : List Entry) (expect : ℕ) (end : End) : Type 0 where
+  pub out : length end.out ≡ b.numbers.last + length entries
+  pub stored : end.stored ≡ (if expect == 0 then b.numbers.stored_expected else expect)
+
+pub doubt_leaves : (b : Sender) (e : EndState) (h : IsInDoubt b e) → HasRecord b h.entries h.expect (folded e.end (record_of h.entries h.expect))
+doubt_leaves b e h =
+    let same = record_same e.end h.entries h.expect (h.expect == 0) refl h.some in
+    record {
+      out = ap (λ (x : End). length x.out) (sym same) ∙ ap length (many_out e.end h.entries h.expect) ∙ length-append e.end.out h.entries ∙ ap (λ l. l + length h.entries) h.kept.out;
+      stored = ap (λ (x : End). x.stored) (sym same) ∙ many_stored e.end h.entries h.expect b.numbers.stored_expected h.kept.stored;
+    }

@@ -349,7 +349,7 @@ makes_resumes id m is b notes s' ok (staging.made d) =
 makes_resumes id m is b notes s' ok staging.not_made = λ hold. hold (makes_total id m is b ok)
 
 -- what is in hand is a draft
-in_hand_is : (p : PendingDraft) (d : DraftText) → IfSome p.draft IsDraft → p.draft ≡ Some d → IsDraft d
+pub in_hand_is : (p : PendingDraft) (d : DraftText) → IfSome p.draft IsDraft → p.draft ≡ Some d → IsDraft d
 in_hand_is p d ok some = subst (λ (x : Option DraftText). IfSome x IsDraft) some ok
 
 pending_onward : (id : Identity) (b : Sender) (d : DraftText) (notes : List Note) → b.pending.draft ≡ Some d

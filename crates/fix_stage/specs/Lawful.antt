@@ -1,5 +1,6 @@
 -- What a session sends is lawful: staging leaves an end as it is, and a flush is a run of it.
 use Rattle.std.specs.Prelude.{◌≡◌, ◌⊎◌, ℕ, ◌+◌, ◌≤◌, List, [], ◌∷◌, length, Option, Some, None, Result, Ok, Err, ⊤}
+use Rattle.std.specs.Prelude.{◌==◌, ◌&&◌, not, true}
 use Rattle.fix_base.specs.Lists.{Among}
 use Rattle.fix_base.specs.declared.identity.Identity.{Identity}
 use Rattle.fix_base.specs.declared.entry.Entry.{Entry}
@@ -35,6 +36,7 @@ pub record IsInDoubt (b : Sender) (e : EndState) : Type 0 where
   pub kept : HasKept b.numbers e
   pub entries : List Entry
   pub expect : ℕ
+  pub some : not (length entries == 0 && expect == 0) ≡ true
   pub due : (expect ≡ 0) ⊎ (expect ≡ b.numbers.expected)
   pub doubt : e.doubt ≡ Some (record_of entries expect)
   pub closed : e.connection ≡ None

@@ -2,12 +2,15 @@
 ghost use Rattle.std.specs.Prelude.{◌≡◌, ◌⊎◌, ℕ, List, false, Result, ⊤};
 ghost use Rattle.fix_base.specs.declared.identity.Identity.{Identity};
 ghost use Rattle.fix_base.specs.Session.{IsValidIdentity};
+ghost use Rattle.std.specs.List.{AllByRecursion};
+ghost use Rattle.fix_base.specs.Payload.{IsPersistentEntry};
 ghost use Rattle.fix_base.specs.EndStep.{EndState};
 ghost use Rattle.fix_base.specs.Trace.{Note, acts_of};
 ghost use Rattle.fix_stage.specs.Sender.{Sender, StageFault};
 ghost use Rattle.fix_stage.specs.Flush.{Flushed, Settled};
 ghost use Rattle.fix_stage.specs.Outgoing.{Outgoing, IsOutgoing};
 ghost use Rattle.fix_stage.specs.Staging.{Staging, MakesAndStages, StagesPending};
+ghost use Rattle.fix_stage.specs.Notes.{SendsOnly};
 ghost use Rattle.fix_stage.specs.Stated.{Total, Resumes, IsTimely};
 ghost use Rattle.fix_stage.specs.Lawful.{AsksNoReset, Fits, Level, Apart, Bare, LawfulRunTo, After, AfterFault};
 ghost use Rattle.fix_stage.specs.Lawful.{AfterApart, LeadsFrom};
@@ -57,4 +60,19 @@ pub fn what_is_out_of_memory_would_have_gone_on()
         → Total StageFault.OutOfMemory IsTimely (Staging id m) }
     ensures draft { (id : Identity) → Resumes StageFault.OutOfMemory IsTimely (StagesPending id) }
     ensures draft_ends { (id : Identity) → Total StageFault.OutOfMemory IsTimely (StagesPending id) }
+{}
+
+/// Sending keeps records of what was staged, writes, and does nothing else. What is staged may be sent again,
+/// where each message that is staged may be; so may each entry of a record that is kept or lost.
+pub fn sending_keeps_and_writes()
+    ensures flush { (k : ℕ) (b : Sender) (notes : List Note) (r : Result ⊤ StageFault) (to : Sender)
+        → AllByRecursion IsPersistentEntry b.stage.entries → Flushed k b notes r to
+        → SendsOnly IsPersistentEntry notes to }
+    ensures message { (id : Identity) (m : Outgoing) → IsPersistentEntry m.entry → (b : Sender) (notes : List Note)
+        (r : Result ⊤ StageFault) (to : Sender) → AllByRecursion IsPersistentEntry b.stage.entries
+        → Staging id m b notes r to → SendsOnly IsPersistentEntry notes to }
+    ensures draft { (id : Identity) (b : Sender) → IsTimely b → (notes : List Note) (r : Result ⊤ StageFault)
+        (to : Sender)
+        → AllByRecursion IsPersistentEntry b.stage.entries → StagesPending id b notes r to
+        → SendsOnly IsPersistentEntry notes to }
 {}

@@ -24,7 +24,7 @@ pub use flushing::{flush, settle};
 pub use framing::frame_of;
 pub use laws::{
     a_draft_is_staged_lawfully, a_flush_is_lawful, a_message_is_staged_lawfully,
-    a_turn_settles_lawfully, an_unwritten_message_is_kept_lawfully,
+    a_turn_settles_lawfully, an_unwritten_message_is_kept_lawfully, sending_keeps_and_writes,
     what_is_out_of_memory_would_have_gone_on,
 };
 pub use pending::{PendingDraft, pending_is_draft, settle_pending};

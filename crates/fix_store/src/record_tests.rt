@@ -74,8 +74,11 @@ fn many(
     payload.extend_from_slice(&[6])?;
     payload.extend_from_slice(&count.to_be_bytes())?;
     payload.extend_from_slice(&expect.to_be_bytes())?;
+    let Ok(size) = u32::try_from(entry.len()) else {
+        return Err(OutOfMemory);
+    };
     for _ in 0..times {
-        payload.extend_from_slice(&(entry.len() as u32).to_be_bytes())?;
+        payload.extend_from_slice(&size.to_be_bytes())?;
         payload.extend_from_slice(entry)?;
     }
     Ok(payload)
@@ -203,7 +206,7 @@ fn an_opening_adds_the_mark(rt: HostRuntime) -> Result<(), Fail> {
 fn a_stop_while_the_mark_is_added_leaves_the_end(rt: HostRuntime) -> Result<(), Fail> {
     let alloc = rt.alloc();
     let old = with_payloads(alloc, &[&BEAT, &[4, 0, 0, 0, 2]])?;
-    let mut stopped = 0;
+    let mut stopped: u32 = 0;
     for call in 1..=20 {
         let mut disk = blank(alloc, Some(call + 1))?;
         if disk.write_at(0, old.bytes()).is_err() {
@@ -212,7 +215,7 @@ fn a_stop_while_the_mark_is_added_leaves_the_end(rt: HostRuntime) -> Result<(), 
         match Store::open(alloc, disk) {
             Ok(_) => {}
             Err(refused) => {
-                stopped += 1;
+                stopped = stopped.saturating_add(1);
                 assert_eq!(rt; refused.fault, OpenFault::DiskFault);
                 let left = holding(alloc, refused.disk.bytes())?;
                 assert_eq!(rt; opened(alloc, left)?.stored(), told(1, 2).unwrap_or(OTHER));
