@@ -68,7 +68,9 @@ fn next_link(listener: &TcpListener) -> Option<TcpLink<TcpStream>> {
                 }
             }
             Err(e) => match e.kind() {
-                ErrorKind::ConnectionAborted | ErrorKind::ConnectionReset | ErrorKind::Interrupted => {}
+                ErrorKind::ConnectionAborted
+                | ErrorKind::ConnectionReset
+                | ErrorKind::Interrupted => {}
                 _ => return None,
             },
         }
