@@ -29,7 +29,9 @@ use Rattle.fix_base.proofs.Seals.{sealed_is_frame, sealed_has_fields}
 use Rattle.fix_base.proofs.WrittenLemmas.{original_is, original_number, seq_num_decimal, admin_fields}
 use Rattle.fix_base.proofs.WholeLemmas.{push_grows}
 use Rattle.fix_base.proofs.LetterLemmas.{clear_number, short_number, number_clear, number_short, at, at_epoch, at_clear}
-use Rattle.fix_base.proofs.ResetLemmas.{confirm_state, ask_state, stays}
+use Rattle.fix_base.proofs.EpochAccepts.{stays}
+use Rattle.fix_base.proofs.EpochShared.{confirm_state}
+use Rattle.fix_base.proofs.EpochAsks.{ask_state}
 
 -- ---- the Logon (35=A) of entry 1, with EncryptMethod (98), HeartBtInt (108) and ResetSeqNumFlag (141) = Y
 

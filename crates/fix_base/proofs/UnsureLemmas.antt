@@ -15,7 +15,10 @@ use Rattle.fix_base.specs.Resets.{EpochPeer, EpochPeers, EpochStep, EpochMove, R
 use Rattle.fix_base.proofs.ListLemmas.{some_same}
 use Rattle.fix_base.proofs.RowLemmas.{row_plain, move_plain}
 use Rattle.fix_base.proofs.ResetParts.{IsSureRecord, IsSure}
-use Rattle.fix_base.proofs.ResetLemmas.{Inv, accepts_step, accepts_move, initiates_in, initiates_move, reset_state, confirm_state, stays, now_plain, shared_by, apart_by, new_inv}
+use Rattle.fix_base.proofs.Eras.{Inv}
+use Rattle.fix_base.proofs.EpochAccepts.{reset_state, stays}
+use Rattle.fix_base.proofs.EpochShared.{confirm_state}
+use Rattle.fix_base.proofs.ResetLemmas.{accepts_step, accepts_move, initiates_in, initiates_move, now_plain, shared_by, apart_by, new_inv}
 
 -- the peer where a record for a reset that is in doubt has settled
 abbrev forgotten : EpochPeer → EpochPeer
