@@ -7,6 +7,8 @@ mod handing;
 mod laws;
 mod saying;
 mod source;
+#[cfg(test)]
+mod tests;
 
 pub use carrying::carry_out;
 pub use ending::Ending;
