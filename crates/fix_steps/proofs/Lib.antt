@@ -6,3 +6,6 @@ pub mod CompleteLemmas
 pub mod NoteLemmas
 pub mod ReadLemmas
 pub mod StepLeads
+pub mod ToldLemmas
+pub mod TableLemmas
+pub mod DecideLemmas
