@@ -1,13 +1,12 @@
 -- What a session message says, and a BusinessMessageReject, may stand after the header of a frame.
-use Rattle.std.proofs.Common.{◌≡◌, ◌≢◌, ℕ, zero, suc, ◌+◌, ◌*◌, ◌/◌, ◌%◌, ◌<◌, ◌≤◌, ◌==◌, ◌&&◌, nat_lt, nat_le, Bool, true, false, if◌then◌else◌, List, [], ◌∷◌, ◌++◌, length, length-append, get_or, take, codes, Option, Some, None, refl, sym, ap, subst, ◌∙◌, append_assoc, lit≤, lit<, arith}
+use Rattle.std.proofs.Common.{◌≡◌, ◌≢◌, ℕ, zero, suc, ◌+◌, ◌/◌, ◌%◌, ◌≤◌, ◌==◌, nat_lt, nat_le, Bool, true, false, if◌then◌else◌, List, [], ◌∷◌, ◌++◌, length, length-append, take, codes, Option, Some, None, refl, sym, ap, subst, ◌∙◌, append_assoc, lit≤, lit<, arith}
 use Rattle.std.specs.Prelude.{IfOk, Result, Ok, Err}
 use Rattle.std.specs.List.{AllByRecursion, list_all}
 use Rattle.std.proofs.lemmas.Bool.{leb-true}
 use Rattle.std.specs.Fmt.{decimal, digits, digits_onto, digit_glyph}
 use Rattle.std.proofs.lemmas.Fmt.{length-decimal-le}
-use Rattle.std.proofs.lemmas.List.{length-take-le, get_or-take, length-take}
+use Rattle.std.proofs.lemmas.List.{get_or-take, length-take}
 use Rattle.fix_base.specs.declared.identity.Begin.{Begin}
-use Rattle.fix_base.specs.declared.fault.Fault.{Fault}
 use Rattle.fix_base.specs.Tags.{data_tag, is_session_tag}
 use Rattle.fix_base.specs.Frame.{HasNoSoh}
 use Rattle.fix_base.specs.Fields.{Field, FieldsAfter, data_after}

@@ -1,7 +1,7 @@
 -- Every close has one of the stated causes.
-use Rattle.std.proofs.Common.{◌≡◌, ◌⊎◌, ℕ, ◌<◌, ◌≤◌, ◌+◌, ◌==◌, nat_lt, nat_le, codes, ◌&&◌, Bool, true, false, if◌then◌else◌, List, [], ◌∷◌, ◌++◌, Option, Some, None, refl, sym, ap, ◌∙◌, subst, inl, inr, arith}
+use Rattle.std.proofs.Common.{◌≡◌, ◌⊎◌, ℕ, ◌<◌, ◌≤◌, ◌+◌, ◌==◌, nat_lt, nat_le, codes, ◌&&◌, Bool, true, false, if◌then◌else◌, List, [], ◌∷◌, Option, Some, None, refl, sym, ap, ◌∙◌, subst, inl, inr, arith}
 use Rattle.std.specs.Prelude.{not, is_none, ℤ, bytes_eq}
-use Rattle.std.proofs.lemmas.Bool.{ltb-true, eqb-true, eqb-false}
+use Rattle.std.proofs.lemmas.Bool.{ltb-true, eqb-false}
 use Rattle.std.proofs.lemmas.Bool.Decides.{nat_tests}
 use Rattle.fix_base.specs.declared.fault.Fault.{Fault}
 use Rattle.fix_admin.specs.Admin as admin
@@ -20,8 +20,8 @@ use Rattle.fix_machine.specs.declared.state.Role.TheVariants.{Acceptor, Initiato
 use Rattle.fix_machine.specs.declared.state.Requested.{Requested}
 use Rattle.fix_machine.specs.declared.clock.Due.{Due}
 use Rattle.fix_machine.specs.declared.clock.Due.TheVariants as due
-use Rattle.fix_machine.specs.State.{Options, MachineState, heard, counted, emptied, up, expecting, sent, closed, read_clock}
-use Rattle.fix_machine.specs.Event.{Inbound, VerdictSeen, App, Admin, Bad, EventSeen, Begin, First, Frame, Moved, Clock, Leave, Ended, Wrote, StepSeen, Send, Serve, Hand, Stash, Expect, Reset, Confirm, Close}
+use Rattle.fix_machine.specs.State.{Options, MachineState, heard, counted, emptied, up, expecting, sent, read_clock}
+use Rattle.fix_machine.specs.Event.{Inbound, VerdictSeen, App, Admin, Bad, EventSeen, Begin, First, Frame, Moved, Clock, Leave, Ended, Wrote, StepSeen, Serve, Stash, Expect, Confirm}
 use Rattle.fix_machine.specs.Answer.{Answered, answer, silent, names, refuse, refuse_with, reject, type_in, number_or_0, is_of_session, ask_step, asked}
 use Rattle.fix_machine.specs.Checks as found
 use Rattle.fix_machine.specs.Checks.{FindingSeen, checked, comp_ids, sending_time, is_timely, is_later, poss_dup, orig_sending_time, content, marks, times, else_look, wrong_comp_id, wrong_time}

@@ -1,5 +1,5 @@
 -- First readings: of one sum, and of two.
-use Rattle.std.proofs.Common.{◌≡◌, ◌+◌, ◌*◌, ◌-◌, ◌<◌, ◌≤◌, ◌||◌, ℕ, Bool, true, false, min, is_some, Option, Some, None, nat_le, nat_eq, unwrap_or, cond, refl, sym, ◌∙◌, ap, inl, inr, arith}
+use Rattle.std.proofs.Common.{◌≡◌, ◌+◌, ◌*◌, ◌<◌, ◌≤◌, ◌||◌, ℕ, Bool, true, false, min, is_some, Option, Some, None, nat_le, nat_eq, unwrap_or, cond, refl, ◌∙◌, ap, inl, inr, arith}
 use Rattle.std.proofs.lemmas.Bool.{cases_lt, leb-true}
 use Rattle.std.proofs.lemmas.Bool.Decides.{nat_tests}
 use Rattle.fix_base.specs.Payload.{LAST_TIME}
@@ -7,8 +7,8 @@ use Rattle.fix_machine.specs.declared.state.Phase.TheVariants.{Down, AwaitLogon,
 use Rattle.fix_machine.specs.declared.clock.Due.{Due}
 use Rattle.fix_machine.specs.declared.clock.Due.TheVariants as due
 use Rattle.fix_machine.specs.State.{Options, MachineState}
-use Rattle.fix_machine.specs.Clock.{has_gone, is_silent, due_if, heartbeat_at, listened, due_up, due_in, due_at}
-use Rattle.fix_machine.specs.Deadline.{IsAhead, IsFirst, IsDeadline, first, never, has_passed, earlier, capped}
+use Rattle.fix_machine.specs.Clock.{has_gone, is_silent, due_if, listened, due_in, due_at}
+use Rattle.fix_machine.specs.Deadline.{IsFirst, IsDeadline, first, never, has_passed, earlier, capped}
 
 pub passed : (after since now : ℕ) → since + after ≤ now → has_passed after since now ≡ true
 passed after since now h = grind (arith, nat_tests)

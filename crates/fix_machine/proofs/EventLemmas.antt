@@ -6,7 +6,6 @@ use Rattle.fix_fields.specs.declared.header.Envelope.{Envelope}
 use Rattle.fix_fields.specs.Header.{header_of}
 use Rattle.fix_machine.specs.declared.state.Role.{Role}
 use Rattle.fix_machine.specs.declared.event.Verdict.{Verdict}
-use Rattle.fix_machine.specs.declared.event.Event.{Event}
 use Rattle.fix_machine.specs.declared.event.Event.TheVariants as event
 use Rattle.fix_machine.specs.Event.{Inbound, EventSeen, Begin, First, Frame, Moved, Clock, Leave, Ended, Wrote, IsTimeOf, IsSaid, IsEvent, begins, is_first, reads, moves, looks, leaves, ends, wrote, verdict_seen}
 

@@ -1,5 +1,5 @@
 -- What moves the expected number.
-use Rattle.std.proofs.Common.{◌≡◌, ℕ, ◌<◌, ◌≤◌, ◌+◌, ◌==◌, nat_lt, nat_le, codes, ◌&&◌, Bool, true, false, if◌then◌else◌, List, [], ◌∷◌, Option, Some, None, refl, sym, ap, ◌∙◌, arith}
+use Rattle.std.proofs.Common.{◌≡◌, ℕ, ◌+◌, ◌==◌, nat_lt, codes, ◌&&◌, Bool, true, false, if◌then◌else◌, [], ◌∷◌, Option, Some, None, refl, ap, ◌∙◌, arith}
 use Rattle.std.specs.Prelude.{not}
 use Rattle.std.proofs.lemmas.Bool.Decides.{nat_tests}
 use Rattle.fix_admin.specs.declared.say.LogoutText.TheVariants as text
@@ -8,9 +8,9 @@ use Rattle.fix_machine.specs.declared.state.Phase.{Phase}
 use Rattle.fix_machine.specs.declared.state.Phase.TheVariants.{Down, AwaitLogon, Up, LogoutSent}
 use Rattle.fix_machine.specs.declared.state.Role.{Role}
 use Rattle.fix_machine.specs.declared.state.Role.TheVariants.{Acceptor, Initiator}
-use Rattle.fix_machine.specs.State.{Options, MachineState, heard, counted, emptied, up}
+use Rattle.fix_machine.specs.State.{Options, MachineState, heard, counted, up}
 use Rattle.fix_machine.specs.Event.{Inbound, EventSeen, Begin, First, Frame, Moved, Clock, Leave, Ended, Wrote, Expect, Confirm}
-use Rattle.fix_machine.specs.Answer.{Answered, answer, silent, names, refuse, refuse_with, number_or_0, is_of_session, ask_step, asked}
+use Rattle.fix_machine.specs.Answer.{Answered, answer, names, refuse, refuse_with, number_or_0, is_of_session, asked}
 use Rattle.fix_machine.specs.Checks.{checked}
 use Rattle.fix_machine.specs.AwaitLogon as await
 use Rattle.fix_machine.specs.LoggedOn as on

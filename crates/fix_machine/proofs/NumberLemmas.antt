@@ -1,7 +1,6 @@
 -- The steps of an answer say what its state says of the numbers.
-use Rattle.std.proofs.Common.{◌≡◌, ℕ, ◌≤◌, ◌+◌, ◌==◌, ◌&&◌, Bool, true, false, nat_lt, nat_le, if◌then◌else◌, List, [], ◌∷◌, ◌++◌, codes, Option, Some, None, refl}
+use Rattle.std.proofs.Common.{◌≡◌, ℕ, ◌+◌, ◌==◌, ◌&&◌, Bool, true, false, nat_lt, nat_le, if◌then◌else◌, [], ◌∷◌, codes, Option, Some, None, refl}
 use Rattle.std.specs.Prelude.{not, is_none}
-use Rattle.fix_base.specs.declared.fault.Fault.{Fault}
 use Rattle.fix_admin.specs.Values.{fault_of}
 use Rattle.fix_admin.specs.declared.say.LogoutText.TheVariants as text
 use Rattle.fix_machine.specs.declared.event.Refusal.TheVariants as refusal
@@ -14,8 +13,8 @@ use Rattle.fix_machine.specs.declared.state.Role.TheVariants.{Acceptor, Initiato
 use Rattle.fix_machine.specs.declared.state.Requested.{Requested}
 use Rattle.fix_machine.specs.declared.clock.Due.{Due}
 use Rattle.fix_machine.specs.declared.clock.Due.TheVariants as due
-use Rattle.fix_machine.specs.State.{Options, MachineState, sent, counted, closed, emptied, up, expecting, read_clock, begun_as, heard}
-use Rattle.fix_machine.specs.Event.{Inbound, VerdictSeen, App, Admin, Bad, StepSeen, Serve, Stash, Expect, Confirm, Reset, EventSeen, Begin, First, Frame, Moved, Clock, Leave, Ended, Wrote}
+use Rattle.fix_machine.specs.State.{Options, MachineState, sent, counted, emptied, up, expecting, read_clock, heard}
+use Rattle.fix_machine.specs.Event.{Inbound, VerdictSeen, App, Admin, Bad, Serve, Stash, Expect, Confirm, Reset, EventSeen, Begin, First, Frame, Moved, Clock, Leave, Ended, Wrote}
 use Rattle.fix_machine.specs.Answer.{Answered, answer, asked, ask_step, refuse, refuse_with, reject, silent, names, is_of_session, number_or_0, type_in}
 use Rattle.fix_machine.specs.Checks as found
 use Rattle.fix_machine.specs.Checks.{FindingSeen, checked}

@@ -1,14 +1,13 @@
 -- A message of the expected number, and one above it.
-use Rattle.std.proofs.Common.{◌≡◌, ℕ, ◌<◌, ◌+◌, nat_lt, codes, ◌&&◌, Bool, true, false, if◌then◌else◌, List, [], ◌∷◌, ◌++◌, Option, Some, None, refl, ap, ◌∙◌, sym, subst, inl, inr, arith}
+use Rattle.std.proofs.Common.{◌≡◌, ℕ, ◌<◌, ◌+◌, nat_lt, codes, ◌&&◌, Bool, true, false, if◌then◌else◌, [], ◌∷◌, Option, Some, None, refl, ap, ◌∙◌, sym, subst, inl, inr, arith}
 use Rattle.std.specs.Prelude.{not, is_none}
-use Rattle.std.specs.List.{AllByRecursion}
 use Rattle.std.proofs.lemmas.Bool.{lt-ltb, cases_lt}
 use Rattle.std.proofs.lemmas.Bool.Decides.{nat_tests}
 use Rattle.fix_admin.specs.Admin as admin
 use Rattle.fix_admin.specs.Admin.{AdminSeen}
 use Rattle.fix_machine.specs.declared.state.Phase.{Phase}
 use Rattle.fix_machine.specs.declared.state.Phase.TheVariants.{Down, AwaitLogon, Up, LogoutSent}
-use Rattle.fix_machine.specs.State.{Options, MachineState, heard, counted, read_clock, sent}
+use Rattle.fix_machine.specs.State.{Options, MachineState, heard, counted, read_clock}
 use Rattle.fix_machine.specs.Event.{Inbound, VerdictSeen, App, Admin, Bad, EventSeen, Begin, First, Moved, Clock, Leave, Ended, Wrote, StepSeen, Frame, Hand, Expect, Serve, Stash}
 use Rattle.fix_machine.specs.Answer.{Answered, answer, silent, names, refuse_with, is_of_session, ask_step, asked}
 use Rattle.fix_machine.specs.declared.event.Refusal.TheVariants as refusal

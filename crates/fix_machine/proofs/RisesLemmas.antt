@@ -1,5 +1,5 @@
 -- The expected number never falls, but where a reset by Logon is answered.
-use Rattle.std.proofs.Common.{◌≡◌, ℕ, ◌<◌, ◌≤◌, ◌+◌, ◌==◌, nat_lt, nat_le, codes, ◌&&◌, Bool, true, false, if◌then◌else◌, List, [], ◌∷◌, Option, Some, None, refl, arith}
+use Rattle.std.proofs.Common.{◌≡◌, ℕ, ◌≤◌, ◌+◌, ◌==◌, nat_lt, nat_le, codes, ◌&&◌, Bool, true, false, if◌then◌else◌, [], ◌∷◌, Option, Some, None, refl, arith}
 use Rattle.std.specs.Prelude.{not}
 use Rattle.std.proofs.lemmas.Bool.{leb-true, ltb-true}
 use Rattle.std.proofs.lemmas.Bool.Decides.{nat_tests}
@@ -12,9 +12,9 @@ use Rattle.fix_machine.specs.declared.state.Phase.{Phase}
 use Rattle.fix_machine.specs.declared.state.Phase.TheVariants.{Down, AwaitLogon, Up, LogoutSent}
 use Rattle.fix_machine.specs.declared.state.Role.{Role}
 use Rattle.fix_machine.specs.declared.state.Role.TheVariants.{Acceptor, Initiator}
-use Rattle.fix_machine.specs.State.{Options, MachineState, heard, counted, emptied, up, expecting, sent}
-use Rattle.fix_machine.specs.Event.{Inbound, VerdictSeen, App, Admin, Bad, EventSeen, Begin, First, Frame, Moved, Clock, Leave, Ended, Wrote, StepSeen, Hand, Expect, Reset, Confirm}
-use Rattle.fix_machine.specs.Answer.{Answered, answer, silent, names, refuse, refuse_with, reject, type_in, number_or_0, is_of_session, ask_step, asked}
+use Rattle.fix_machine.specs.State.{Options, MachineState, heard, counted, up, expecting, sent}
+use Rattle.fix_machine.specs.Event.{Inbound, VerdictSeen, App, Admin, Bad, EventSeen, Begin, First, Frame, Moved, Clock, Leave, Ended, Wrote, Expect, Confirm}
+use Rattle.fix_machine.specs.Answer.{Answered, answer, names, refuse, refuse_with, reject, type_in, number_or_0, is_of_session, asked}
 use Rattle.fix_machine.specs.Checks as found
 use Rattle.fix_machine.specs.Checks.{FindingSeen, checked}
 use Rattle.fix_machine.specs.AwaitLogon as await

@@ -1,11 +1,9 @@
 -- Behind every answer the times of a state are readings of the clock.
-use Rattle.std.proofs.Common.{◌≡◌, ℕ, ◌≤◌, ◌+◌, ◌==◌, ◌&&◌, Bool, true, false, nat_lt, nat_le, if◌then◌else◌, List, [], ◌∷◌, ◌++◌, codes, Option, Some, None, sym, ap, subst, arith}
+use Rattle.std.proofs.Common.{◌≡◌, ℕ, ◌+◌, ◌==◌, ◌&&◌, Bool, true, false, nat_lt, nat_le, if◌then◌else◌, List, [], ◌∷◌, ◌++◌, codes, Option, Some, None, sym, ap, subst, arith}
 use Rattle.std.specs.Prelude.{not, is_none}
-use Rattle.fix_base.specs.declared.fault.Fault.{Fault}
 use Rattle.fix_admin.specs.Values.{fault_of}
 use Rattle.fix_admin.specs.declared.say.LogoutText.TheVariants as text
 use Rattle.fix_machine.specs.declared.event.Refusal.TheVariants as refusal
-use Rattle.fix_base.specs.Payload.{LAST_TIME}
 use Rattle.fix_admin.specs.Admin as admin
 use Rattle.fix_admin.specs.Admin.{AdminSeen}
 use Rattle.fix_machine.specs.declared.state.Phase.{Phase}
@@ -15,7 +13,7 @@ use Rattle.fix_machine.specs.declared.state.Role.TheVariants.{Acceptor, Initiato
 use Rattle.fix_machine.specs.declared.state.Requested.{Requested}
 use Rattle.fix_machine.specs.declared.clock.Due.{Due}
 use Rattle.fix_machine.specs.declared.clock.Due.TheVariants as due
-use Rattle.fix_machine.specs.State.{Options, MachineState, IsTimed, AreReadings, sent, counted, closed, emptied, up, expecting, read_clock, begun_as, heard}
+use Rattle.fix_machine.specs.State.{Options, MachineState, IsTimed, sent, counted, emptied, up, expecting, read_clock, begun_as, heard}
 use Rattle.fix_machine.specs.Event.{Inbound, VerdictSeen, App, Admin, Bad, StepSeen, Serve, Stash, Expect, Confirm}
 use Rattle.fix_machine.specs.declared.answer.Answer.{Answer}
 use Rattle.fix_machine.specs.Answer.{Answered, Texts, answer, answered_by, asked, ask_step, refuse, refuse_with, reject, silent, names, is_of_session, number_or_0, type_in}

@@ -1,6 +1,6 @@
 -- Answers to an event: the steps, and the state after them.
-use Rattle.std.specs.Prelude.{◌≡◌, ℕ, ◌+◌, ◌-◌, min, ◌==◌, nat_le, if◌then◌else◌, List, [], ◌∷◌, ◌++◌, take, Bool}
-use Rattle.std.specs.Prelude.{true, false, not, ◌&&◌, Option, Some, None, bytes_eq, codes}
+use Rattle.std.specs.Prelude.{ℕ, ◌+◌, ◌-◌, min, ◌==◌, nat_le, if◌then◌else◌, List, [], ◌∷◌, ◌++◌, take, Bool}
+use Rattle.std.specs.Prelude.{false, ◌&&◌, Option, Some, None, bytes_eq}
 use Rattle.fix_base.specs.declared.fault.Fault.{Fault}
 use Rattle.fix_base.specs.declared.identity.Identity.{Identity}
 use Rattle.fix_base.specs.Session.{begin_string_of}
@@ -16,11 +16,10 @@ use Rattle.fix_machine.specs.declared.answer.Task.{Task}
 use Rattle.fix_machine.specs.declared.answer.Task.TheVariants as task
 use Rattle.fix_machine.specs.declared.event.Decision.{Decision}
 use Rattle.fix_machine.specs.declared.event.Refusal.{Refusal}
-use Rattle.fix_machine.specs.declared.event.Why.{Why}
 use Rattle.fix_machine.specs.declared.event.Why.TheVariants.{Refused}
 use Rattle.fix_machine.specs.Event.{Inbound, VerdictSeen, App, Admin, Bad, StepSeen, Send, Serve, Hand, Stash}
 use Rattle.fix_machine.specs.Event.{Expect, Reset, Confirm, Close, Nothing, step_seen}
-use Rattle.fix_machine.specs.State.{Options, MachineState, sent, counted, closed, requested}
+use Rattle.fix_machine.specs.State.{Options, MachineState, sent, closed, requested}
 
 -- four steps: those that are not used are nothing, and stand last
 pub record Answered : Type 0 where

@@ -1,6 +1,6 @@
 -- The first message on a connection. The first line that applies is the answer.
-use Rattle.std.specs.Prelude.{ℕ, ◌+◌, ◌==◌, nat_lt, if◌then◌else◌, List, [], ◌∷◌, Bool, true, false, not, ◌&&◌}
-use Rattle.std.specs.Prelude.{◌||◌, Option, Some, None, codes, ℤ}
+use Rattle.std.specs.Prelude.{ℕ, ◌+◌, ◌==◌, nat_lt, if◌then◌else◌, [], ◌∷◌, Bool, true, false, not, ◌&&◌}
+use Rattle.std.specs.Prelude.{Option, Some, None, codes, ℤ}
 use Rattle.fix_base.specs.declared.identity.Identity.{Identity}
 use Rattle.fix_fields.specs.Header.{Header}
 use Rattle.fix_admin.specs.Admin as admin

@@ -1,8 +1,7 @@
 -- Why a connection is closed, and what moves the expected number: each cause in the terms of the tables.
-use Rattle.std.specs.Prelude.{◌≡◌, ◌≢◌, ◌⊎◌, ℕ, ◌<◌, ◌≤◌, Bool, true, false, not, List, ◌∷◌, codes, bytes_eq}
+use Rattle.std.specs.Prelude.{◌≡◌, ◌≢◌, ℕ, ◌<◌, ◌≤◌, Bool, true, false, not, List, ◌∷◌, codes, bytes_eq}
 use Rattle.std.specs.Prelude.{Option, Some, None, ℤ}
 use Rattle.std.specs.List.{AllByRecursion}
-use Rattle.fix_fields.specs.Header.{Header}
 use Rattle.fix_admin.specs.Admin as admin
 use Rattle.fix_machine.specs.declared.state.Phase.{Phase}
 use Rattle.fix_machine.specs.declared.state.Phase.TheVariants.{Down, AwaitLogon, Up, LogoutSent}

@@ -1,5 +1,5 @@
 -- A reading of the clock. The first line that applies is the answer.
-use Rattle.std.specs.Prelude.{ℕ, ◌-◌, ◌*◌, ◌==◌, nat_lt, nat_le, if◌then◌else◌, List, [], ◌∷◌, Bool, true, false}
+use Rattle.std.specs.Prelude.{ℕ, ◌-◌, ◌*◌, ◌==◌, nat_le, if◌then◌else◌, [], ◌∷◌, Bool, true, false}
 use Rattle.std.specs.Prelude.{Option, Some, None}
 use Rattle.fix_admin.specs.Say.{Heartbeat, TestRequest, Logout}
 use Rattle.fix_admin.specs.declared.say.LogoutText.TheVariants as text
@@ -9,8 +9,8 @@ use Rattle.fix_machine.specs.declared.clock.Due.{Due}
 use Rattle.fix_machine.specs.declared.clock.Due.TheVariants as due
 use Rattle.fix_machine.specs.declared.event.Why.{Why}
 use Rattle.fix_machine.specs.declared.event.Why.TheVariants.{Silent, LogonLate, LogoutLate, OutOfWindow}
-use Rattle.fix_machine.specs.Event.{StepSeen, Send, Close}
-use Rattle.fix_machine.specs.State.{Options, MachineState, read_clock, sent, closed}
+use Rattle.fix_machine.specs.Event.{Send, Close}
+use Rattle.fix_machine.specs.State.{Options, MachineState, sent, closed}
 use Rattle.fix_machine.specs.Answer.{Answered, answer, silent}
 
 -- from a to b, or 0

@@ -1,5 +1,5 @@
 -- The answer of a session to an event.
-use Rattle.std.specs.Prelude.{ℕ, ◌&&◌, nat_lt, if◌then◌else◌, List, [], ◌∷◌, Bool, Option, Some, None}
+use Rattle.std.specs.Prelude.{◌&&◌, nat_lt, if◌then◌else◌, [], ◌∷◌, Option, Some, None}
 use Rattle.fix_admin.specs.Say.{Logon, Logout}
 use Rattle.fix_admin.specs.declared.say.LogoutText.TheVariants as text
 use Rattle.fix_machine.specs.declared.state.Phase.{Phase}

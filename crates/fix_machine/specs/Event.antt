@@ -1,5 +1,5 @@
 -- What happens to a session, and the steps of its answer, as contracts see them.
-use Rattle.std.specs.Prelude.{◌≡◌, ℕ, Bool, List, Option, Some, None, IfSome, IfNone, ℤ, codes, bytes_eq, false}
+use Rattle.std.specs.Prelude.{◌≡◌, ℕ, Bool, List, Option, Some, None, IfSome, ℤ}
 use Rattle.std.specs.Borrow.{Bor}
 use Rattle.fix_base.specs.declared.fault.Fault.{Fault}
 use Rattle.fix_base.specs.Times.{IsUtcTimestamp}

@@ -1,7 +1,7 @@
 -- What the steps of an answer do to the numbers, one step after the other. Where an answer ends at one
 -- of its steps, since no number is left, a write or a hand-over failed, or out of memory, the
 -- steps before it stand, a count among them, and no later one is done.
-use Rattle.std.specs.Prelude.{◌≡◌, ◌≤◌, ℕ, ◌+◌, List, [], ◌∷◌, take, Bool, true, false}
+use Rattle.std.specs.Prelude.{◌≡◌, ◌≤◌, ℕ, List, [], ◌∷◌, take, Bool, true, false}
 use Rattle.std.specs.List.{list_any, AllByRecursion}
 use Rattle.fix_admin.specs.Say.{SaySeen, Heartbeat, TestRequest, ResendRequest, Reject, GapFill, Logout, Logon}
 use Rattle.fix_machine.specs.declared.state.Phase.{Phase}

@@ -1,30 +1,24 @@
 -- Worked rows: what comes after the Logon, and all rows.
-use Rattle.std.specs.Prelude.{◌≡◌, ℕ, ◌+◌, ◌-◌, List, [], ◌∷◌, codes, Bool, true, false, Option, Some, None, ℤ, pos}
+use Rattle.std.specs.Prelude.{◌+◌, ◌-◌, List, [], ◌∷◌, codes, true, false, Some, None}
 use Rattle.std.specs.List.{AllByRecursion}
-use Rattle.fix_fields.specs.Header.{Header}
 use Rattle.fix_admin.specs.Values.{fault_of}
 use Rattle.fix_admin.specs.Admin as admin
 use Rattle.fix_admin.specs.Say as say
 use Rattle.fix_admin.specs.declared.say.LogoutText.TheVariants as text
-use Rattle.fix_machine.specs.declared.state.Phase.TheVariants as phase
-use Rattle.fix_machine.specs.declared.state.Role.{Role}
-use Rattle.fix_machine.specs.declared.state.Role.TheVariants.{Acceptor, Initiator}
+use Rattle.fix_machine.specs.declared.state.Role.TheVariants.{Initiator}
 use Rattle.fix_machine.specs.declared.event.Refusal.TheVariants as refusal
 use Rattle.fix_machine.specs.declared.event.Why.TheVariants.{Refused, LoggedOut, Silent, LogonLate, LogoutLate}
 use Rattle.fix_machine.specs.declared.event.Why.TheVariants.{OutOfWindow}
-use Rattle.fix_machine.specs.Event.{Inbound, VerdictSeen, App, Admin, Bad, EventSeen, Begin, First, Frame, Moved}
-use Rattle.fix_machine.specs.Event.{Clock, Leave, Ended, Wrote, StepSeen, Send, Serve, Hand, Stash, Expect, Reset}
-use Rattle.fix_machine.specs.Event.{Confirm, Close}
-use Rattle.fix_machine.specs.State.{Options, MachineState, read_clock, sent, counted, expecting, emptied, requested}
-use Rattle.fix_machine.specs.State.{up, closed}
-use Rattle.fix_machine.specs.Answer.{answer}
-use Rattle.fix_machine.specs.AwaitLogon.{answered}
-use Rattle.fix_machine.specs.Decide.{answer_to}
-use Rattle.fix_machine.specs.Worked.{Row, row, IsAnswered, T, own, chunked, lenient, resetting, fixt, idle, waits}
-use Rattle.fix_machine.specs.Worked.{on, left, asks, testing, unbeaten, head, of_version, from_nobody, to_nobody}
-use Rattle.fix_machine.specs.Worked.{from_whom, to_whom, untimed, flagged, marked, again, inbound, of, reads}
+use Rattle.fix_machine.specs.Event.{App, Admin, Bad, Begin, Moved}
+use Rattle.fix_machine.specs.Event.{Clock, Leave, Ended, Wrote, Send, Serve, Hand, Stash, Expect}
+use Rattle.fix_machine.specs.Event.{Close}
+use Rattle.fix_machine.specs.State.{read_clock, sent, counted, expecting, requested}
+use Rattle.fix_machine.specs.State.{closed}
+use Rattle.fix_machine.specs.Worked.{Row, row, IsAnswered, T, own, chunked, idle, waits}
+use Rattle.fix_machine.specs.Worked.{on, left, testing, unbeaten, head, of_version, from_nobody, to_nobody}
+use Rattle.fix_machine.specs.Worked.{from_whom, to_whom, untimed, flagged, marked, again, of, reads}
 use Rattle.fix_machine.specs.Worked.{cramped, fills, resets, unread, dated, dated_first, plain, resetting_logon}
-use Rattle.fix_machine.specs.Worked.{rejects, a1, a5, a9, i1, i5, u2}
+use Rattle.fix_machine.specs.Worked.{rejects, a1, u2}
 use Rattle.fix_machine.specs.RowsOfLogon.{FIRST_MESSAGES}
 
 -- ---- later messages: version and number

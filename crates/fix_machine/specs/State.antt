@@ -1,11 +1,9 @@
 -- The state of a session, as contracts see it, and how it changes.
-use Rattle.std.specs.Prelude.{ℕ, ◌+◌, ◌≤◌, min, nat_lt, if◌then◌else◌, false, Option, Some, None, IfSome}
+use Rattle.std.specs.Prelude.{ℕ, ◌+◌, ◌≤◌, min, nat_lt, if◌then◌else◌, Option, Some, None, IfSome}
 use Rattle.fix_base.specs.Payload.{LAST_TIME}
 use Rattle.fix_base.specs.declared.entry.Stored.{Stored}
 pub use Rattle.fix_machine.specs.declared.state.MachineState.{MachineState}
 pub use Rattle.fix_machine.specs.declared.state.Options.{Options}
-use Rattle.fix_machine.specs.declared.state.Requested.{Requested}
-use Rattle.fix_machine.specs.declared.state.Phase.{Phase}
 use Rattle.fix_machine.specs.declared.state.Phase.TheVariants as phase
 use Rattle.fix_machine.specs.declared.state.Role.{Role}
 use Rattle.fix_machine.specs.declared.state.Role.TheVariants as role

@@ -1,27 +1,19 @@
 -- The words of worked rows: what a session does in a state at an event, by hand from the rules of the FIX session
 -- layer. The session is FIX.4.2, SELL to BUY, with HeartBtInt 30, LogonTimeout 10 and LogoutTimeout 2,
 -- and its clock stands at 2024-01-02 10:00:00.
-use Rattle.std.specs.Prelude.{◌≡◌, ℕ, ◌+◌, ◌-◌, List, [], ◌∷◌, codes, Bool, true, false, Option, Some, None, ℤ, pos}
-use Rattle.std.specs.List.{AllByRecursion}
+use Rattle.std.specs.Prelude.{◌≡◌, ℕ, List, codes, Bool, true, false, Option, Some, None, ℤ, pos}
 use Rattle.fix_base.specs.declared.identity.Begin.TheVariants.{Fix42}
 use Rattle.fix_fields.specs.Header.{Header}
 use Rattle.fix_admin.specs.Values.{fault_of}
 use Rattle.fix_admin.specs.Admin as admin
 use Rattle.fix_admin.specs.Say as say
-use Rattle.fix_admin.specs.declared.say.LogoutText.TheVariants as text
 use Rattle.fix_machine.specs.declared.state.Phase.TheVariants as phase
 use Rattle.fix_machine.specs.declared.state.Role.{Role}
 use Rattle.fix_machine.specs.declared.state.Role.TheVariants.{Acceptor, Initiator}
-use Rattle.fix_machine.specs.declared.event.Refusal.TheVariants as refusal
-use Rattle.fix_machine.specs.declared.event.Why.TheVariants.{Refused, LoggedOut, Silent, LogonLate, LogoutLate}
-use Rattle.fix_machine.specs.declared.event.Why.TheVariants.{OutOfWindow}
-use Rattle.fix_machine.specs.Event.{Inbound, VerdictSeen, App, Admin, Bad, EventSeen, Begin, First, Frame, Moved}
-use Rattle.fix_machine.specs.Event.{Clock, Leave, Ended, Wrote, StepSeen, Send, Serve, Hand, Stash, Expect, Reset}
-use Rattle.fix_machine.specs.Event.{Confirm, Close}
-use Rattle.fix_machine.specs.State.{Options, MachineState, read_clock, sent, counted, expecting, emptied, requested}
-use Rattle.fix_machine.specs.State.{up, closed}
+use Rattle.fix_machine.specs.Event.{Inbound, VerdictSeen, Admin, EventSeen, Frame}
+use Rattle.fix_machine.specs.Event.{StepSeen, Send}
+use Rattle.fix_machine.specs.State.{Options, MachineState, sent}
 use Rattle.fix_machine.specs.Answer.{answer}
-use Rattle.fix_machine.specs.AwaitLogon.{answered}
 use Rattle.fix_machine.specs.Decide.{answer_to}
 
 pub record Row : Type 0 where

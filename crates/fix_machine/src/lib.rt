@@ -18,9 +18,23 @@ mod inbound;
 mod laws;
 mod logged_on;
 mod machine;
+#[cfg(test)]
+mod rows_of_clock;
+#[cfg(test)]
+mod rows_of_logon;
+#[cfg(test)]
+mod rows_of_numbers;
+#[cfg(test)]
+mod rows_of_types;
 mod state;
 #[cfg(test)]
 mod tests;
+#[cfg(test)]
+mod worked;
+#[cfg(test)]
+mod worked_run;
+#[cfg(test)]
+mod worked_text;
 
 pub use event::{Decision, Event, Refusal, Step, Verdict, Why};
 pub use machine::Machine;

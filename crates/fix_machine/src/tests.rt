@@ -1,182 +1,284 @@
-//! Sessions that go through several events: an acceptor that takes a Logon, beats and leaves, with the deadline
-//! after each; a counterparty that falls silent; a gap that is asked for two messages at a time.
-use crate::{Decision, Event, Machine, Options, Phase, Refusal, Role, Step, Verdict, Why};
-use fix_admin::{Admin, LogoutText, Say};
-use fix_base::{Begin, Bytes, Identity, OutOfMemory, SeqNum, Stored};
-use fix_fields::Envelope;
-use std::alloc::Global;
-
-// 2024-01-02 10:00:00
-const T: u64 = 1_704_189_600_000_000;
-
-fn session(alloc: Global, chunk: u32) -> Result<Machine, OutOfMemory> {
-    let identity = Identity {
-        begin: Begin::Fix42,
-        sender: Bytes::copy(alloc, b"SELL")?,
-        target: Bytes::copy(alloc, b"BUY")?,
-    };
-    let options = Options {
-        identity,
-        heart: 30,
-        chunk,
-        latency: Some(120),
-        logon_timeout: 10,
-        logout_timeout: 2,
-        persist: true,
-        reset_on_logon: false,
-        version: None,
-    };
-    let stored = Stored {
-        last: 0,
-        expected: 1,
-        since: None,
-        asked: false,
-    };
-    Ok(Machine::new(options, stored))
-}
-
-fn header<'a>(kind: &'a [u8], number: u32) -> Envelope<'a> {
-    Envelope {
-        begin: b"FIX.4.2",
-        kind,
-        number: SeqNum::new(number),
-        dup: None,
-        sender: Some(b"BUY"),
-        target: Some(b"SELL"),
-        sent: Some(b"20240102-10:00:00"),
-        first_sent: None,
-    }
-}
-
-#[test]
-fn a_session_logs_on_beats_and_leaves(rt: HostRuntime) -> Result<(), OutOfMemory> {
-    let mut machine = session(rt.alloc(), 0)?;
-    machine.decide(&Event::Begin {
-        role: Role::Acceptor,
-        now: T,
-    });
-    let head = header(b"A", 1);
-    let logon = machine.decide(&Event::Frame {
-        head: &head,
-        verdict: Verdict::Admin(Admin::Logon {
-            heart: 30,
-            reset: false,
-            version: None,
-        }),
-        full: false,
-        gap: false,
-        reset: false,
-    });
-    assert!(rt; logon.second == Step::Expect(2));
-    assert!(rt; machine.deadline() == Some(T + 30_000_000));
-    let beat = machine.decide(&Event::Clock {
-        now: T + 30_000_000,
-        inside: true,
-    });
-    assert!(rt; beat.first == Step::Send(Say::Heartbeat { id: None }));
-    assert!(rt; machine.deadline() == Some(T + 36_000_000));
-    machine.decide(&Event::Leave {
-        now: T + 31_000_000,
-    });
-    assert!(rt; machine.state().phase == Phase::LogoutSent);
-    assert!(rt; machine.deadline() == Some(T + 33_000_000));
-    Ok(())
-}
+//! Worked sessions: several events one after another, with the steps, the state and the deadline after each.
+use crate::Role;
+use crate::worked::What::{Begin, Clock, Ended, First, In, InOdd, Leave, Moved, Wrote};
+use crate::worked::{Odd, Part, Says, T, Way, With, asking, at, under};
+use crate::worked_run::follow;
+use std::test::Fail;
 
 const SECOND: u64 = 1_000_000;
 
-// A session whose Logon was answered: it expects 2, and has sent 1.
-fn up(alloc: Global, chunk: u32) -> Result<Machine, OutOfMemory> {
-    let mut machine = session(alloc, chunk)?;
-    machine.decide(&Event::Begin {
-        role: Role::Acceptor,
-        now: T,
-    });
-    let head = header(b"A", 1);
-    machine.decide(&Event::Frame {
-        head: &head,
-        verdict: Verdict::Admin(Admin::Logon {
-            heart: 30,
-            reset: false,
-            version: None,
-        }),
-        full: false,
-        gap: false,
-        reset: false,
-    });
-    Ok(machine)
+#[test]
+fn a_silent_counterparty_is_asked_and_left(rt: HostRuntime) -> Result<(), Fail> {
+    let parts: [Part; 7] = [
+        (Begin(Role::Acceptor, T), "", "AwaitLogon 1 0", 10),
+        (In(1, Says::Logon(30)), "Logon 30, Expect 2", "Up 2 1", 30),
+        (
+            Clock(T + 30 * SECOND, true),
+            "Heartbeat",
+            "Up 2 2 at 30 sent 30",
+            36,
+        ),
+        (
+            Clock(T + 36 * SECOND, true),
+            "TestRequest",
+            "Up 2 3 at 36 sent 36 test 36",
+            66,
+        ),
+        (
+            Clock(T - SECOND, true),
+            "",
+            "Up 2 3 at -1 sent 36 test 36",
+            66,
+        ),
+        (
+            Clock(T + 66 * SECOND, true),
+            "Heartbeat",
+            "Up 2 4 at 66 sent 66 test 36",
+            72,
+        ),
+        (
+            Clock(T + 72 * SECOND, true),
+            "Close Silent 36 72",
+            "Down 2 4 at 72 sent 66 test 36",
+            0,
+        ),
+    ];
+    follow(&rt, rt.alloc(), at(Way::Down, 1, 0), &parts)
 }
 
 #[test]
-fn a_silent_counterparty_is_asked_and_left(rt: HostRuntime) -> Result<(), OutOfMemory> {
-    let mut machine = up(rt.alloc(), 0)?;
-    // A message that is heard at once: the silence begins with it.
-    let head = header(b"D", 2);
-    let order = machine.decide(&Event::Frame {
-        head: &head,
-        verdict: Verdict::App,
-        full: false,
-        gap: false,
-        reset: false,
-    });
-    assert!(rt; order.first == Step::Hand);
-    let asked = machine.decide(&Event::Clock {
-        now: T + 36 * SECOND,
-        inside: true,
-    });
-    assert!(rt; asked.first == Step::Send(Say::TestRequest));
-    assert!(rt; machine.deadline() == Some(T + 66 * SECOND));
-    let beat = machine.decide(&Event::Clock {
-        now: T + 66 * SECOND,
-        inside: true,
-    });
-    assert!(rt; beat.first == Step::Send(Say::Heartbeat { id: None }));
-    assert!(rt; machine.deadline() == Some(T + 72 * SECOND));
-    let end = machine.decide(&Event::Clock {
-        now: T + 72 * SECOND,
-        inside: true,
-    });
-    let silent = Why::Silent {
-        since: T + 36 * SECOND,
-        now: T + 72 * SECOND,
-    };
-    assert!(rt; end.first == Step::Close(silent));
-    Ok(())
-}
-
-// Whether the order of this number is handed over and counted.
-fn is_handed(machine: &mut Machine, number: u32) -> bool {
-    let head = header(b"D", number);
-    let found = machine.decide(&Event::Frame {
-        head: &head,
-        verdict: Verdict::App,
-        full: false,
-        gap: false,
-        reset: false,
-    });
-    found.first == Step::Hand
+fn a_message_ends_the_silence(rt: HostRuntime) -> Result<(), Fail> {
+    let parts: [Part; 4] = [
+        (
+            Clock(T + 36 * SECOND, true),
+            "TestRequest",
+            "Up 2 2 at 36 sent 36 test 36",
+            66,
+        ),
+        (
+            In(2, Says::Heartbeat),
+            "Expect 3",
+            "Up 3 2 at 36 sent 36 read 36",
+            66,
+        ),
+        (
+            Wrote(T + 60 * SECOND),
+            "",
+            "Up 3 3 at 60 sent 60 read 36",
+            72,
+        ),
+        // A message that is dropped ends it too.
+        (
+            InOdd(1, Odd::Marked, Says::Reject),
+            "",
+            "Up 3 3 at 60 sent 60 read 60",
+            90,
+        ),
+    ];
+    follow(&rt, rt.alloc(), at(Way::Up, 2, 1), &parts)
 }
 
 #[test]
-fn a_gap_is_asked_for_two_at_a_time(rt: HostRuntime) -> Result<(), OutOfMemory> {
-    let mut machine = up(rt.alloc(), 2)?;
-    let head = header(b"D", 7);
-    let gap = machine.decide(&Event::Frame {
-        head: &head,
-        verdict: Verdict::App,
-        full: false,
-        gap: false,
-        reset: false,
-    });
-    assert!(rt; gap.first == Step::Stash);
-    assert!(rt; gap.second == Step::Send(Say::ResendRequest { from: 2, to: 3 }));
-    assert!(rt; is_handed(&mut machine, 2));
-    assert!(rt; is_handed(&mut machine, 3));
-    let next = machine.decide(&Event::Moved { waiting: false });
-    assert!(rt; next.first == Step::Send(Say::ResendRequest { from: 4, to: 5 }));
-    assert!(rt; is_handed(&mut machine, 4));
-    assert!(rt; is_handed(&mut machine, 5));
-    let last = machine.decide(&Event::Moved { waiting: false });
-    assert!(rt; last.first == Step::Send(Say::ResendRequest { from: 6, to: 7 }));
-    Ok(())
+fn a_resend_does_not_put_the_heartbeat_off(rt: HostRuntime) -> Result<(), Fail> {
+    let parts: [Part; 4] = [
+        (Clock(T + 20 * SECOND, true), "", "Up 2 1 gap 4 0 at 20", 30),
+        (
+            In(5, Says::ResendRequest),
+            "Serve 1 0",
+            "Up 2 1 gap 4 0 at 20 read 20",
+            30,
+        ),
+        (
+            In(2, Says::ResendRequest),
+            "Expect 3, Serve 1 0",
+            "Up 3 1 gap 4 0 at 20 read 20",
+            30,
+        ),
+        (
+            Clock(T + 30 * SECOND, true),
+            "Heartbeat",
+            "Up 3 2 gap 4 0 at 30 sent 30 read 20",
+            56,
+        ),
+    ];
+    follow(&rt, rt.alloc(), at(Way::Gap(4), 2, 1), &parts)
+}
+
+#[test]
+fn a_session_leaves_and_is_not_answered(rt: HostRuntime) -> Result<(), Fail> {
+    let parts: [Part; 4] = [
+        (
+            Leave(T + SECOND),
+            "Logout Empty",
+            "LogoutSent 2 2 at 1 sent 1 left 1",
+            3,
+        ),
+        (
+            Leave(T + 2 * SECOND),
+            "",
+            "LogoutSent 2 2 at 2 sent 1 left 1",
+            3,
+        ),
+        (
+            Clock(T + 3 * SECOND, true),
+            "Close LogoutLate 1 3",
+            "Down 2 2 at 3 sent 1 left 1",
+            0,
+        ),
+        (Leave(T + 4 * SECOND), "", "Down 2 2 at 4 sent 1 left 1", 0),
+    ];
+    follow(&rt, rt.alloc(), at(Way::Up, 2, 1), &parts)
+}
+
+#[test]
+fn an_initiator_logs_on(rt: HostRuntime) -> Result<(), Fail> {
+    let parts: [Part; 4] = [
+        (
+            Begin(Role::Initiator, T),
+            "",
+            "AwaitLogon 1 0 initiator",
+            10,
+        ),
+        (First, "Logon 30", "AwaitLogon 1 1 initiator", 10),
+        (Leave(T), "", "AwaitLogon 1 1 initiator", 10),
+        (In(1, Says::Logon(30)), "Expect 2", "Up 2 1 initiator", 30),
+    ];
+    follow(&rt, rt.alloc(), at(Way::Down, 1, 0), &parts)
+}
+
+#[test]
+fn a_reset_is_asked_for_and_answered(rt: HostRuntime) -> Result<(), Fail> {
+    let parts: [Part; 2] = [
+        (First, "Logon 30 Y", "AwaitLogon 1 1 initiator asks", 10),
+        (
+            In(1, Says::ResetLogon(30)),
+            "Confirm, Expect 2",
+            "Up 2 1 initiator",
+            30,
+        ),
+    ];
+    follow(&rt, rt.alloc(), asking(Way::Opens, 1, 0), &parts)
+}
+
+#[test]
+fn a_gap_is_filled_and_a_reset_may_not_go_back(rt: HostRuntime) -> Result<(), Fail> {
+    let parts: [Part; 3] = [
+        (In(2, Says::Fill(6)), "Expect 6", "Up 6 1", 30),
+        (In(1, Says::Reset(3)), "Reject 1 35=4 5 36", "Up 6 2", 30),
+        (In(1, Says::Reset(9)), "Expect 9", "Up 9 2", 30),
+    ];
+    follow(&rt, rt.alloc(), at(Way::Up, 2, 1), &parts)
+}
+
+#[test]
+fn a_gap_is_asked_for_two_at_a_time(rt: HostRuntime) -> Result<(), Fail> {
+    let parts: [Part; 12] = [
+        (
+            In(7, Says::App(b'D')),
+            "Stash, ResendRequest 2 3",
+            "Up 2 2 gap 7 3",
+            30,
+        ),
+        (
+            InOdd(2, Odd::Again, Says::App(b'D')),
+            "Hand, Expect 3",
+            "Up 3 2 gap 7 3",
+            30,
+        ),
+        (Moved(false), "", "Up 3 2 gap 7 3", 30),
+        (
+            InOdd(3, Odd::Again, Says::App(b'D')),
+            "Hand, Expect 4",
+            "Up 4 2 gap 7 3",
+            30,
+        ),
+        (Moved(false), "ResendRequest 4 5", "Up 4 3 gap 7 5", 30),
+        (
+            InOdd(4, Odd::Again, Says::Fill(6)),
+            "Expect 6",
+            "Up 6 3 gap 7 5",
+            30,
+        ),
+        (Moved(false), "ResendRequest 6 7", "Up 6 4 gap 7 7", 30),
+        (
+            InOdd(6, Odd::Again, Says::App(b'D')),
+            "Hand, Expect 7",
+            "Up 7 4 gap 7 7",
+            30,
+        ),
+        // The message that waited is handled.
+        (Moved(true), "", "Up 7 4 gap 7 7", 30),
+        (
+            In(7, Says::App(b'D')),
+            "Hand, Expect 8",
+            "Up 8 4 gap 7 7",
+            30,
+        ),
+        (Moved(false), "", "Up 8 4", 30),
+        (Moved(false), "", "Up 8 4", 30),
+    ];
+    follow(&rt, rt.alloc(), under(With::Chunks, Way::Up, 2, 1), &parts)
+}
+
+#[test]
+fn a_gap_is_asked_for_once(rt: HostRuntime) -> Result<(), Fail> {
+    let parts: [Part; 10] = [
+        (
+            In(4, Says::App(b'D')),
+            "Stash, ResendRequest 2 0",
+            "Up 2 2 gap 4 0",
+            30,
+        ),
+        (In(4, Says::App(b'D')), "Stash", "Up 2 2 gap 4 0", 30),
+        (In(5, Says::App(b'D')), "Stash", "Up 2 2 gap 4 0", 30),
+        (
+            InOdd(2, Odd::Again, Says::App(b'D')),
+            "Hand, Expect 3",
+            "Up 3 2 gap 4 0",
+            30,
+        ),
+        (Moved(false), "", "Up 3 2 gap 4 0", 30),
+        (
+            InOdd(3, Odd::Again, Says::App(b'D')),
+            "Hand, Expect 4",
+            "Up 4 2 gap 4 0",
+            30,
+        ),
+        (Moved(true), "", "Up 4 2 gap 4 0", 30),
+        (
+            In(4, Says::App(b'D')),
+            "Hand, Expect 5",
+            "Up 5 2 gap 4 0",
+            30,
+        ),
+        (Moved(true), "", "Up 5 2", 30),
+        (In(5, Says::App(b'D')), "Hand, Expect 6", "Up 6 2", 30),
+    ];
+    follow(&rt, rt.alloc(), at(Way::Up, 2, 1), &parts)
+}
+
+#[test]
+fn a_new_connection_begins_anew(rt: HostRuntime) -> Result<(), Fail> {
+    let parts: [Part; 4] = [
+        (
+            In(4, Says::App(b'D')),
+            "Stash, ResendRequest 2 0",
+            "Up 2 2 heart 0 gap 4 0",
+            0,
+        ),
+        (Ended, "", "Down 2 2 heart 0 gap 4 0", 0),
+        (
+            Begin(Role::Initiator, T + 5 * SECOND),
+            "",
+            "AwaitLogon 2 2 initiator at 5 begun 5 sent 5 read 5 left 5",
+            15,
+        ),
+        (
+            Clock(T + 15 * SECOND, true),
+            "Close LogonLate 5 15",
+            "Down 2 2 initiator at 15 begun 5 sent 5 read 5 left 5",
+            0,
+        ),
+    ];
+    follow(&rt, rt.alloc(), at(Way::Quiet, 2, 1), &parts)
 }

@@ -1,4 +1,4 @@
-use Rattle.std.proofs.Common.{◌≡◌, arith}
+use Rattle.std.proofs.Common.{arith}
 use Rattle.fix_machine.proofs.DeadlineLemmas.{when_down, when_waiting, when_leaving, when_quiet, when_up}
 use Rattle.fix_machine.proofs.deadline.deadline.Goals as goal
 

@@ -1,10 +1,10 @@
-use Rattle.std.proofs.Common.{◌≡◌, ◌∙◌, ap, sym}
-use Rattle.fix_machine.specs.State.{MachineState, begun_as, read_clock, sent, closed, heard}
+use Rattle.std.proofs.Common.{◌≡◌, ◌∙◌, ap}
+use Rattle.fix_machine.specs.State.{MachineState, begun_as, read_clock, sent, closed}
 use Rattle.fix_machine.specs.Answer.{silent, answered_by}
 use Rattle.fix_machine.specs.Decide as table
 use Rattle.fix_machine.specs.Clock as clocks
 use Rattle.fix_machine.proofs.EventLemmas.{begin_is, first_is, moved_is, clock_is, leave_is, ended_is, wrote_is, frame_of}
-use Rattle.fix_machine.proofs.TimedLemmas.{next_timed, no_texts, begun_timed, clock_timed, sent_timed, heard_timed, looked_timed, moved_timed, left_timed}
+use Rattle.fix_machine.proofs.TimedLemmas.{next_timed, no_texts, begun_timed, clock_timed, sent_timed, looked_timed, moved_timed, left_timed}
 use Rattle.fix_machine.proofs.machine.answer_to.Goals as goal
 
 pub returns-in-Begin : goal.returns-in-Begin

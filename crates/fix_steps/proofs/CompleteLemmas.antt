@@ -1,0 +1,166 @@
+-- Each answer has an end, and goes on where it was out of memory.
+use Rattle.std.proofs.Common.{◌≡◌, List, [], ◌∷◌, Option, Some, None, Result, Ok, Err, refl, ℕ, Bool, true, false}
+use Rattle.std.specs.Prelude.{⊤}
+use Rattle.std.specs.List.{AllByRecursion}
+use Rattle.fix_base.specs.declared.identity.Identity.{Identity}
+use Rattle.fix_base.specs.Trace.{Note, Did}
+use Rattle.fix_admin.specs.Say.{SaySeen}
+use Rattle.fix_machine.specs.Event.{StepSeen}
+use Rattle.fix_machine.specs.Event as event
+use Rattle.fix_machine.specs.Numbers.{begins_with_a_flush}
+use Rattle.fix_stage.specs.declared.sender.Sender.{Sender}
+use Rattle.fix_stage.specs.declared.fault.StageFault.{StageFault}
+use Rattle.fix_stage.specs.declared.fault.StageFault.TheVariants as fault
+use Rattle.fix_stage.specs.Flush.{Flushed}
+use Rattle.fix_stage.specs.Outgoing.{Outgoing}
+use Rattle.fix_stage.specs.Staging.{MakesAndStages}
+use Rattle.fix_stage.specs.Stated.{Onward, Total, Resumes, Stays, IsTimely}
+use Rattle.fix_stage.proofs.CombineLemmas.{went_well, onward_as, each_total, each_resumes, then_total, then_resumes, lifted_total, lifted_resumes, lifted_stays}
+use Rattle.fix_stage.proofs.SendingLemmas.{flushed_total, flushed_resumes, Flushed-stays, makes_total, makes_resumes, MakesAndStages-stays}
+use Rattle.fix_steps.specs.Said.{said_outgoing, IsSayable}
+use Rattle.fix_steps.specs.declared.ending.Ending.{Ending}
+use Rattle.fix_steps.specs.Ending.{ending_of}
+use Rattle.fix_steps.specs.declared.ending.Ending.TheVariants as ending
+use Rattle.fix_steps.specs.Steps as steps
+use Rattle.fix_steps.specs.Steps.{itself, instead, IsCarried, InAnswer, Saying, Handing, Performed, Begins, Done, Carried}
+use Rattle.fix_steps.specs.Stated.{IsRead}
+use Rattle.fix_steps.proofs.FrameLemmas.{fields_in, frame_has}
+use Rattle.fix_steps.proofs.SaidLemmas.{said_is_outgoing}
+
+abbrev OM : Ending
+OM = ending.OutOfMemory
+
+only_memory : (e : StageFault) → ending_of e ≡ OM → e ≡ fault.OutOfMemory
+only_memory fault.NumbersSpent h = cc
+only_memory fault.OutOfMemory h = refl
+only_memory fault.StoreFault h = cc
+only_memory fault.LinkFault h = cc
+
+-- ---- something of sending
+
+module _ (R : Sender → List Note → Result ⊤ StageFault → Sender → Type 0) where
+  answer_total : Total fault.OutOfMemory IsTimely R → Total OM IsTimely (InAnswer R)
+  answer_total h = lifted_total itself instead ending_of fault.OutOfMemory OM IsTimely IsTimely R only_memory (λ t s ok g. g) (λ t ok. ok) h
+
+  answer_resumes : Resumes fault.OutOfMemory IsTimely R → Resumes OM IsTimely (InAnswer R)
+  answer_resumes h = lifted_resumes itself instead ending_of fault.OutOfMemory OM IsTimely IsTimely R only_memory (λ t s ok g. g) (λ t ok. ok) h
+
+  answer_stays : Stays IsTimely R → Stays IsTimely (InAnswer R)
+  answer_stays h = lifted_stays itself instead ending_of fault.OutOfMemory OM IsTimely IsTimely R (λ t s ok g. g) (λ t ok. ok) h
+
+module _ (id : Identity) (say : SaySeen) where
+  abbrev said_at : Sender → Outgoing
+  said_at b = said_outgoing id.begin b.numbers.reading say
+
+  saying_total : IsSayable say → Total OM IsTimely (Saying id say)
+  saying_total fit b ok =
+      onward_as OM IsTimely (InAnswer (MakesAndStages id (said_at b))) (Saying id say) b b [] (λ more r to d. d)
+      (answer_total (MakesAndStages id (said_at b)) (makes_total id (said_at b) (said_is_outgoing id.begin b.numbers.reading say ok.reading fit)) b ok)
+
+  saying_resumes : IsSayable say → Resumes OM IsTimely (Saying id say)
+  saying_resumes fit b notes to ok d =
+      λ hold. answer_resumes (MakesAndStages id (said_at b)) (makes_resumes id (said_at b) (said_is_outgoing id.begin b.numbers.reading say ok.reading fit)) b notes to ok d
+      (λ g. hold (onward_as OM IsTimely (InAnswer (MakesAndStages id (said_at b))) (Saying id say) b b notes (λ more r to d. d) g))
+
+  saying_stays : Stays IsTimely (Saying id say)
+  saying_stays b notes r to ok d = answer_stays (MakesAndStages id (said_at b)) (MakesAndStages-stays id (said_at b)) b notes r to ok d
+
+-- ---- a hand-over
+
+handing_total : (frame : Option (List ℕ)) → IsRead frame → steps.IsThere frame → Total OM IsTimely (Handing frame)
+handing_total None read there b ok = absurd there
+handing_total (Some text) read there b ok = record {
+  more = Did _ ∷ [];
+  faultless = tt;
+  r = Ok tt;
+  to = b;
+  good = ok;
+  whole = steps.taken text (fields_in read) refl (frame_has read);
+  no_want = λ h. cc;
+}
+
+handing_resumes : (frame : Option (List ℕ)) → IsRead frame → steps.IsThere frame → Resumes OM IsTimely (Handing frame)
+handing_resumes frame read there b notes to ok steps.hand_memory = λ hold. hold (handing_total frame read there b ok)
+
+handing_stays : (frame : Option (List ℕ)) → Stays IsTimely (Handing frame)
+handing_stays frame b notes r to ok (steps.taken text fields is has) = ok
+handing_stays frame b notes r to ok (steps.hand_lost text fields is has) = ok
+handing_stays frame b notes r to ok steps.hand_memory = ok
+
+-- ---- a step
+
+pub step_stays : (id : Identity) (frame : Option (List ℕ)) (x : StepSeen) → Stays IsTimely (λ b. Performed id frame b x)
+step_stays id frame x b notes r to ok (steps.says say d) = saying_stays id say b notes r to ok d
+step_stays id frame x b notes r to ok (steps.hands d) = handing_stays frame b notes r to ok d
+step_stays id frame x b notes r to ok (steps.expects number) = record { reading = ok.reading; draft = ok.draft }
+step_stays id frame x b notes r to ok (steps.closes why) = ok
+step_stays id frame x b notes r to ok steps.nothing = ok
+
+module _ (id : Identity) (frame : Option (List ℕ)) (read : IsRead frame) where
+  abbrev One : StepSeen → Sender → List Note → Result ⊤ Ending → Sender → Type 0
+  One x b = Performed id frame b x
+
+  step_total : (x : StepSeen) → IsCarried frame x → Total OM IsTimely (One x)
+  step_total (event.Send say) fit b ok = onward_as OM IsTimely (Saying id say) (One (event.Send say)) b b [] (λ more r to d. steps.says say d) (saying_total id say fit b ok)
+  step_total (event.Serve from to) fit b ok = absurd fit
+  step_total event.Hand fit b ok = onward_as OM IsTimely (Handing frame) (One event.Hand) b b [] (λ more r to d. steps.hands d) (handing_total frame read fit b ok)
+  step_total event.Stash fit b ok = absurd fit
+  step_total (event.Expect number) fit b ok = record {
+    more = [];
+    faultless = tt;
+    r = Ok tt;
+    to = _;
+    good = record { reading = ok.reading; draft = ok.draft };
+    whole = steps.expects number;
+    no_want = λ h. cc;
+  }
+  step_total event.Reset fit b ok = absurd fit
+  step_total event.Confirm fit b ok = absurd fit
+  step_total (event.Close why) fit b ok = record {
+    more = [];
+    faultless = tt;
+    r = Err (ending.Closed why);
+    to = b;
+    good = ok;
+    whole = steps.closes why;
+    no_want = λ h. cc;
+  }
+  step_total event.Nothing fit b ok = went_well OM IsTimely (One event.Nothing) b b ok steps.nothing
+
+  step_resumes : (x : StepSeen) → IsCarried frame x → Resumes OM IsTimely (One x)
+  step_resumes x fit b notes to ok (steps.says say d) =
+      λ hold. saying_resumes id say fit b notes to ok d (λ g. hold (onward_as OM IsTimely (Saying id say) (One (event.Send say)) b b notes (λ more r to d. steps.says say d) g))
+  step_resumes x fit b notes to ok (steps.hands d) =
+      λ hold. handing_resumes frame read fit b notes to ok d (λ g. hold (onward_as OM IsTimely (Handing frame) (One event.Hand) b b notes (λ more r to d. steps.hands d) g))
+
+-- ---- what an answer begins with
+
+begins_total : (xs : List StepSeen) → Total OM IsTimely (Begins xs)
+begins_total xs b ok = by (begins_with_a_flush xs) refl
+  where
+    by : (t : Bool) → begins_with_a_flush xs ≡ t → Onward OM IsTimely (Begins xs) b []
+    by true h = onward_as OM IsTimely (InAnswer (Flushed 0)) (Begins xs) b b [] (λ more r to d. steps.flushes h d) (answer_total (Flushed 0) (flushed_total 0) b ok)
+    by false h = went_well OM IsTimely (Begins xs) b b ok (steps.at_once h)
+
+begins_resumes : (xs : List StepSeen) → Resumes OM IsTimely (Begins xs)
+begins_resumes xs b notes to ok (steps.flushes h d) =
+    λ hold. answer_resumes (Flushed 0) (flushed_resumes 0) b notes to ok d (λ g. hold (onward_as OM IsTimely (InAnswer (Flushed 0)) (Begins xs) b b notes (λ more r to d. steps.flushes h d) g))
+
+pub begins_stays : (xs : List StepSeen) → Stays IsTimely (Begins xs)
+begins_stays xs b notes r to ok (steps.flushes h d) = answer_stays (Flushed 0) (Flushed-stays 0) b notes r to ok d
+begins_stays xs b notes r to ok (steps.at_once h) = ok
+
+-- ---- the answer
+
+module _ (id : Identity) (frame : Option (List ℕ)) (read : IsRead frame) where
+  done_total : (xs : List StepSeen) → AllByRecursion (IsCarried frame) xs → Total OM IsTimely (Done id frame xs)
+  done_total xs fit = each_total OM IsTimely (Performed id frame) (IsCarried frame) (step_total id frame read) xs fit
+
+  done_resumes : (xs : List StepSeen) → AllByRecursion (IsCarried frame) xs → Resumes OM IsTimely (Done id frame xs)
+  done_resumes xs fit = each_resumes OM IsTimely (Performed id frame) (IsCarried frame) (step_total id frame read) (step_resumes id frame read) (step_stays id frame) xs fit
+
+  pub carried_total : (xs : List StepSeen) → AllByRecursion (IsCarried frame) xs → Total OM IsTimely (Carried id frame xs)
+  carried_total xs fit = then_total OM IsTimely (Begins xs) (Done id frame xs) (begins_total xs) (done_total xs fit)
+
+  pub carried_resumes : (xs : List StepSeen) → AllByRecursion (IsCarried frame) xs → Resumes OM IsTimely (Carried id frame xs)
+  carried_resumes xs fit = then_resumes OM IsTimely (Begins xs) (Done id frame xs) (done_total xs fit) (begins_resumes xs) (done_resumes xs fit) (begins_stays xs)

@@ -1,0 +1,7 @@
+pub mod Said
+pub mod Ending
+pub mod Steps
+pub mod Causes
+pub mod Notes
+pub mod Stated
+pub mod Lawful

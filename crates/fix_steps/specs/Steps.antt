@@ -1,0 +1,118 @@
+-- The steps of an answer, done in order until one ends it.
+use Rattle.std.specs.Prelude.{◌≡◌, ◌≤◌, ℕ, List, [], ◌∷◌, true, false, Option, Some, None, Result, Ok, Err, ⊤}
+use Rattle.fix_base.specs.declared.identity.Identity.{Identity}
+use Rattle.fix_base.specs.declared.act.Act.TheVariants as act
+use Rattle.fix_base.specs.Fields.{Field}
+use Rattle.fix_base.specs.Shape.{IsFrame}
+use Rattle.fix_base.specs.Says.{HasFields, value_of, seq_num_of, is_yes, body_of}
+use Rattle.fix_base.specs.Trace.{Note, Did, Failed, AppPart}
+use Rattle.fix_fields.specs.declared.header.Envelope.{Envelope}
+use Rattle.fix_fields.specs.Header.{header_of, header_of_fields}
+use Rattle.fix_admin.specs.Say.{SaySeen}
+use Rattle.fix_machine.specs.declared.event.Why.{Why}
+use Rattle.fix_machine.specs.Event.{StepSeen, Send, Serve, Hand, Stash, Expect, Reset, Confirm, Close, Nothing}
+use Rattle.fix_machine.specs.Answer.{number_or_0}
+use Rattle.fix_machine.specs.Numbers.{begins_with_a_flush}
+use Rattle.fix_stage.specs.Combine.{Each, AndThen, Lifted}
+use Rattle.fix_stage.specs.declared.sender.Sender.{Sender}
+use Rattle.fix_stage.specs.declared.fault.StageFault.{StageFault}
+use Rattle.fix_stage.specs.Sender.{with_numbers, with_expected}
+use Rattle.fix_stage.specs.Flush.{Flushed}
+use Rattle.fix_stage.specs.Staging.{MakesAndStages}
+use Rattle.fix_steps.specs.Said.{said_outgoing, IsSayable}
+use Rattle.fix_steps.specs.declared.ending.Ending.{Ending}
+use Rattle.fix_steps.specs.Ending.{ending_of}
+use Rattle.fix_steps.specs.declared.ending.Ending.TheVariants as ending
+use Rattle.fix_steps.specs.declared.source.Source.{Source}
+use Rattle.fix_steps.specs.declared.source.Source.TheVariants as source
+
+-- ---- what is answered
+
+-- a frame, and the header that it says
+pub record IsMessage (frame : List ℕ) (head : Envelope) : Type 0 where
+  pub is : IsFrame frame
+  pub header : (fields : List Field) → HasFields frame fields
+      → header_of head ≡ header_of_fields head.begin.now fields
+
+abbrev pub IsSource : Source → Type 0
+IsSource (source.Message frame head) = IsMessage frame.now head.now
+IsSource source.Other = Unit {0}
+
+-- the frame of the message, where one is answered
+abbrev pub frame_in : Source → Option (List ℕ)
+frame_in (source.Message frame head) = Some frame.now
+frame_in source.Other = None
+
+abbrev pub IsThere : Option (List ℕ) → Type 0
+IsThere None = ⊥
+IsThere (Some text) = Unit {0}
+
+-- A step that is carried out here. Nothing is handed over where no message is answered, and a number that is
+-- expected is one. Serving a ResendRequest, letting a message wait and what is kept of resets have no part here yet
+abbrev pub IsCarried : Option (List ℕ) → StepSeen → Type 0
+IsCarried frame (Send say) = IsSayable say
+IsCarried frame (Serve from to) = ⊥
+IsCarried frame Hand = IsThere frame
+IsCarried frame Stash = ⊥
+IsCarried frame (Expect number) = (1 ≤ number) × (number ≤ 1000000000)
+IsCarried frame Reset = ⊥
+IsCarried frame Confirm = ⊥
+IsCarried frame (Close why) = Unit {0}
+IsCarried frame Nothing = Unit {0}
+
+-- ---- what the steps come to
+
+abbrev pub itself : Sender → Sender
+itself b = b
+
+abbrev pub instead : Sender → Sender → Sender
+instead b to = to
+
+-- something of sending is done in an answer: its fault ends the answer
+abbrev pub InAnswer : (Sender → List Note → Result ⊤ StageFault → Sender → Type 0) → Sender → List Note
+    → Result ⊤ Ending → Sender → Type 0
+InAnswer R = Lifted itself instead ending_of R
+
+-- a message is said at the time of the last reading
+abbrev pub Saying : Identity → SaySeen → Sender → List Note → Result ⊤ Ending → Sender → Type 0
+Saying id say b = InAnswer (MakesAndStages id (said_outgoing id.begin b.numbers.reading say)) b
+
+-- the message is handed over: with its number, its mark and its body
+pub data Handing (frame : Option (List ℕ)) (b : Sender) : List Note → Result ⊤ Ending → Sender → Type 0 where
+  taken : (text : List ℕ) (fields : List Field) → frame ≡ Some text → HasFields text fields
+      → Handing frame b
+      (Did (act.Handed (number_or_0 (seq_num_of fields)) (is_yes (value_of 43 fields)) (body_of fields)) ∷ []) (Ok tt) b
+  hand_lost : (text : List ℕ) (fields : List Field) → frame ≡ Some text → HasFields text fields
+      → Handing frame b
+      (Did (act.HandLost (number_or_0 (seq_num_of fields)) (is_yes (value_of 43 fields)) (body_of fields))
+      ∷ Failed AppPart ∷ []) (Err ending.AppFault) b
+  hand_memory : Handing frame b [] (Err ending.OutOfMemory) b
+
+-- One step. A message that finds no number left ends the answer: what was counted before it stays counted, and
+-- nothing after it is done. After a close nothing more is done either; what is staged is kept and written at the end of
+-- the turn
+pub data Performed (id : Identity) (frame : Option (List ℕ)) (b : Sender) : StepSeen → List Note → Result ⊤ Ending
+    → Sender → Type 0 where
+  says : (say : SaySeen) {notes : List Note} {r : Result ⊤ Ending} {to : Sender} → Saying id say b notes r to
+      → Performed id frame b (Send say) notes r to
+  hands : {notes : List Note} {r : Result ⊤ Ending} {to : Sender} → Handing frame b notes r to
+      → Performed id frame b Hand notes r to
+  expects : (number : ℕ)
+      → Performed id frame b (Expect number) [] (Ok tt) (with_numbers b (with_expected b.numbers number))
+  closes : (why : Why) → Performed id frame b (Close why) [] (Err (ending.Closed why)) b
+  nothing : Performed id frame b Nothing [] (Ok tt) b
+
+-- what is staged is kept and written first, where one of the steps is one that this is done before. So nothing of the
+-- answer is counted where that failed
+pub data Begins (steps : List StepSeen) (b : Sender) : List Note → Result ⊤ Ending → Sender → Type 0 where
+  flushes : {notes : List Note} {r : Result ⊤ Ending} {to : Sender} → begins_with_a_flush steps ≡ true
+      → InAnswer (Flushed 0) b notes r to → Begins steps b notes r to
+  at_once : begins_with_a_flush steps ≡ false → Begins steps b [] (Ok tt) b
+
+-- the steps in order
+abbrev pub Done : Identity → Option (List ℕ) → List StepSeen → Sender → List Note → Result ⊤ Ending → Sender → Type 0
+Done id frame steps b = Each (Performed id frame) b steps
+
+-- the answer
+abbrev pub Carried : Identity → Option (List ℕ) → List StepSeen → Sender → List Note → Result ⊤ Ending → Sender → Type 0
+Carried id frame steps = AndThen (Begins steps) (Done id frame steps)

@@ -1,0 +1,18 @@
+//! Carries out a decision of `fix_machine`: its steps in order, over the sending of `fix_stage`.
+#![tactic(auto)]
+
+mod carrying;
+mod ending;
+mod handing;
+mod laws;
+mod saying;
+mod source;
+#[cfg(test)]
+mod tests;
+
+pub use carrying::carry_out;
+pub use ending::Ending;
+pub use laws::{
+    an_answer_is_lawful, an_answer_sends_and_hands_over, what_is_out_of_memory_would_have_gone_on,
+};
+pub use source::Source;
