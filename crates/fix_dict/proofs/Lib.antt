@@ -5,3 +5,4 @@ pub mod RoomLemmas
 pub mod AllowedLemmas
 pub mod JsonLemmas
 pub mod TwiceLemmas
+mod NoteLemmas

@@ -20,6 +20,8 @@ use Rattle.fix_dict.specs.declared.fault.DictFault.{DictFault}
 use Rattle.fix_dict.specs.Parts.{list_at, text_at}
 use Rattle.fix_dict.specs.Faults.{and_then, need}
 use Rattle.fix_dict.specs.Fields.{FieldTable, fields_in}
+use Rattle.fix_dict.specs.declared.note.TagNote.{TagNote}
+use Rattle.fix_dict.specs.Notes.{note_of}
 use Rattle.fix_dict.specs.Members.{judged_members, members_in}
 use Rattle.fix_dict.specs.Messages.{MessageTable, most_groups, messages_in}
 
@@ -44,6 +46,10 @@ dictionary_code =
 
 abbrev pub kind_of : DictionarySeen → ℕ → Option ValueKind
 kind_of dictionary tag = option_map (λ r. r.kind) (table.get dictionary.fields tag)
+
+-- what it says of a tag alone
+abbrev pub note_in : DictionarySeen → ℕ → TagNote
+note_in dictionary tag = note_of dictionary.fields dictionary.header dictionary.trailer tag
 
 abbrev pub layout_of : DictionarySeen → List ℕ → Option Shapes
 layout_of dictionary type = table.get dictionary.messages type

@@ -6,5 +6,6 @@ pub mod Fields
 pub mod Members
 pub mod Keyed
 pub mod Messages
+pub mod Notes
 pub mod Dictionary
 pub mod Allowed

@@ -5,7 +5,7 @@ ghost use Rattle.serde_json.specs.Data.{Data};
 ghost use Rattle.serde_json.specs.View.{view};
 ghost use Rattle.fix_dict.specs.Parts.{text_at};
 ghost use Rattle.fix_dict.specs.Faults.{Tells, IsMemory};
-ghost use Rattle.fix_dict.specs.Dictionary.{dictionary_in, version, kind_of, layout_of, IsJson, Says, IsTold};
+ghost use Rattle.fix_dict.specs.Dictionary.{dictionary_in, version, kind_of, note_in, layout_of, IsJson, Says, IsTold};
 ghost use Rattle.fix_dict.specs.Allowed.{allows};
 ghost use Rattle.fix_dict.specs.declared.fault.DictFault.TheVariants.{NotJson};
 
@@ -17,6 +17,7 @@ use crate::fields::Fields;
 use crate::members::judge_members;
 use crate::message::{MOST_GROUPS, read_messages};
 use crate::messages::Messages;
+use crate::note::{TagNote, note_of, notes_of};
 use crate::parts::{list_at, text_at};
 use crate::paths::bad_shape;
 use crate::tags::Tags;
@@ -35,10 +36,12 @@ pub struct Dictionary {
     header: Layout,
     trailer: Layout,
     messages: Messages,
+    notes: Vec<TagNote>,
 }
 
 impl Model for Dictionary {
     ghost use Rattle.fix_dict.specs.Dictionary.{DictionarySeen, dictionary_code};
+    ghost use Rattle.fix_dict.specs.Notes.{AreNotes};
 
     ghost Value = { DictionarySeen };
 
@@ -46,6 +49,8 @@ impl Model for Dictionary {
 
     ghost view = { λ d.
         record { begin = d.begin; fields = d.fields; header = d.header; trailer = d.trailer; messages = d.messages } };
+
+    ghost invariant = { λ d. AreNotes d.fields d.header d.trailer d.notes.items };
 }
 
 impl Dictionary {
@@ -73,10 +78,19 @@ impl Dictionary {
     pub fn kind_of(&self, tag: Tag) -> Option<ValueKind>
         ensures { result ≡ kind_of self.now tag }
     {
-        match self.fields.get(tag) {
-            Some(rule) => Some(rule.kind),
-            None => None,
+        self.fields.kind_of(tag)
+    }
+
+    /// What the dictionary says of the tag alone. Of tags up to 1,024 it costs one step, and else the
+    /// logarithm of the number of fields, and the members of header and trailer.
+    pub fn note(&self, tag: Tag) -> TagNote
+        ensures { result ≡ note_in self.now tag }
+    {
+        let place = (tag.get() - 1) as usize;
+        if place < self.notes.len() {
+            return self.notes[place];
         }
+        note_of(&self.fields, &self.header, &self.trailer, tag)
     }
 
     /// Whether the dictionary lists no values for the tag, or this one. Of a `MultipleValueString` each
@@ -207,11 +221,13 @@ fn dictionary_of(alloc: Global, value: &Value) -> Result<Dictionary, DictFault>
     let trailer = Layout {
         members: members_of(alloc, MOST_GROUPS, trailer_items)?,
     };
+    let notes = notes_of(alloc, &fields, &header, &trailer)?;
     Ok(Dictionary {
         begin,
         fields,
         header,
         trailer,
         messages,
+        notes,
     })
 }

@@ -12,6 +12,7 @@ mod kinds;
 mod members;
 mod message;
 mod messages;
+mod note;
 mod parts;
 mod paths;
 #[cfg(test)]
@@ -24,4 +25,5 @@ mod tags;
 
 pub use dictionary::Dictionary;
 pub use fault::DictFault;
+pub use note::{Standing, TagNote};
 pub use samples::{SAMPLE_42, SAMPLE_44};

@@ -5,3 +5,4 @@ pub mod GroupLemmas
 pub mod RequiredLemmas
 pub mod ReadingLemmas
 pub mod FrameLemmas
+mod NoteLemmas

@@ -5,7 +5,7 @@ use Rattle.fix_base.specs.Says.{value_of, HasFields}
 use Rattle.fix_base.specs.declared.fault.Fault.{Fault}
 use Rattle.fix_fields.specs.Shapes.{Shapes}
 use Rattle.fix_groups.specs.Joined.{joined}
-use Rattle.fix_groups.specs.Tagged.{all_tagged}
+use Rattle.fix_groups.specs.Tagged.{Tagged, all_tagged}
 use Rattle.fix_dict.specs.Dictionary.{DictionarySeen, layout_of}
 use Rattle.fix_validate.specs.Rows.{Row, Finds}
 use Rattle.fix_validate.specs.Table.{fields_rows}
@@ -24,15 +24,18 @@ invalid_type = record { holds = ⊤; fault = record { reason = 11; tag = None } 
 abbrev pub layout_for : DictionarySeen → List Field → Option Shapes
 layout_for dictionary fs = option_and_then (layout_of dictionary) (value_of 35 fs)
 
+-- the required tags of header, message and trailer
+abbrev pub required_of_all : DictionarySeen → Shapes → List Tagged → List Row
+required_of_all dictionary message fs =
+    required_rows dictionary.header fs ++ (required_rows message fs ++ required_rows dictionary.trailer fs)
+
 -- the table of a message with this layout: field by field, then the groups, then the required tags
--- of header, message and trailer
 abbrev pub rows_by : DictionarySeen → Bool → List Field → Option Shapes → List Row
 rows_by dictionary order fs None = invalid_type ∷ []
 rows_by dictionary order fs (Some message) =
     fields_rows dictionary (whole dictionary message) order [] fs
     ++ (groups_rows (whole dictionary message) (all_tagged fs)
-    ++ (required_rows dictionary.header (all_tagged fs)
-    ++ (required_rows message (all_tagged fs) ++ required_rows dictionary.trailer (all_tagged fs))))
+    ++ required_of_all dictionary message (all_tagged fs))
 
 abbrev pub rows : DictionarySeen → Bool → List Field → List Row
 rows dictionary order fs = rows_by dictionary order fs (layout_for dictionary fs)

@@ -1,12 +1,11 @@
 //! The call of this crate, for who checks a frame. It runs `reading`, `again` and `fields`, then
 //! `first_misfit_of` of fix_groups, and then `required`.
-ghost use Rattle.std.specs.Prelude.{◌≡◌, ◌++◌, Some, IfOk};
+ghost use Rattle.std.specs.Prelude.{◌≡◌, Some, IfOk};
 ghost use Rattle.fix_base.specs.Shape.{IsFrame};
 ghost use Rattle.fix_groups.specs.Tagged.{all_tagged};
 ghost use Rattle.fix_validate.specs.Rows.{Finds};
 ghost use Rattle.fix_validate.specs.Groups.{group_fault};
-ghost use Rattle.fix_validate.specs.Required.{required_rows};
-ghost use Rattle.fix_validate.specs.Checks.{rows, rows_by, invalid_type, Checks};
+ghost use Rattle.fix_validate.specs.Checks.{rows, rows_by, required_of_all, invalid_type, Checks};
 
 use crate::again::index_of;
 use crate::fields::fields_fault;
@@ -76,7 +75,7 @@ fn fault_by(
 {
     let root = Whole::new(dict.header(), message, dict.trailer());
     let index = index_of(alloc, fields)?;
-    if let Some(fault) = fields_fault(dict, &root, order, fields, &index) {
+    if let Some(fault) = fields_fault(dict, message, &root, order, fields, &index) {
         return Ok(Some(fault));
     }
     if let Some(misfit) = first_misfit_of(alloc, fields, &root)? {
@@ -102,9 +101,7 @@ fn group_fault(misfit: Misfit) -> Fault
 
 // The first required tag that is missing, of header, message and trailer.
 fn missing_of(dict: &Dictionary, message: &Layout, fields: &[Lent<'_>]) -> Option<Fault>
-    ensures { Finds
-        (required_rows dict.now.header (all_tagged fields.now) ++ (required_rows message.now (all_tagged fields.now) ++ required_rows dict.now.trailer (all_tagged fields.now)))
-        result }
+    ensures { Finds (required_of_all dict.now message.now (all_tagged fields.now)) result }
 {
     if let Some(fault) = missing(dict.header(), fields) {
         return Some(fault);

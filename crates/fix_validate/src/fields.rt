@@ -1,44 +1,51 @@
 //! Judges each field by its tag, its place and its value. `checking` calls this before the groups are judged.
 ghost use Rattle.std.specs.Prelude.{◌≡◌, ◌||◌, ◌&&◌, not, [], nat_lt, ◌↔◌, IsTrue, is_some};
 ghost use Rattle.fix_fields.specs.NoTwice.{has_tag};
-ghost use Rattle.fix_dict.specs.Dictionary.{kind_of};
+ghost use Rattle.fix_dict.specs.Dictionary.{kind_of, note_in};
 ghost use Rattle.fix_dict.specs.Allowed.{allows};
 ghost use Rattle.fix_validate.specs.Rows.{Finds, fault_at};
-ghost use Rattle.fix_validate.specs.Table.{is_named, is_header, is_trailer, field_rows_by, fields_rows, IsNoValueOf};
+ghost use Rattle.fix_validate.specs.Table.{field_rows_by, fields_rows, IsNoValueOf};
 ghost use Rattle.fix_validate.specs.Index.{IsIndexOf};
+ghost use Rattle.fix_validate.specs.Checks.{whole};
 
 use crate::again::appears_again;
 use fix_base::{Fault, Tag};
-use fix_dict::Dictionary;
-use fix_fields::{ValueKind, is_header_tag, is_kind, is_trailer_tag};
+use fix_dict::{Dictionary, TagNote};
+use fix_fields::{Layout, ValueKind, is_kind};
 use fix_groups::{Lent, Whole, has_tag};
 
 /// Tags from here on are agreed on between counterparties.
 const FIRST_USER_TAG: u32 = 5000;
 
-/// The first fault of a field, in the order of the fields.
+/// The first fault of a field, in the order of the fields. `root` is the message's layout with those of
+/// header and trailer.
 pub fn fields_fault(
     dict: &Dictionary,
+    message: &Layout,
     root: &Whole<'_>,
     order: bool,
     fields: &[Lent<'_>],
     index: &[u128],
 ) -> Option<Fault>
-    requires { IsIndexOf fields.now index.now }
-    ensures { Finds (fields_rows dict.now root.now order [] fields.now) result }
+    requires root { root.now ≡ whole dict.now message.now }
+    requires index { IsIndexOf fields.now index.now }
+    ensures { Finds (fields_rows dict.now (whole dict.now message.now) order [] fields.now) result }
 {
     let mut left_header = false;
     let mut in_trailer = false;
     for i in 0..fields.len() {
         let field = &fields[i];
         let tag = field.tag();
+        let note = dict.note(tag);
         let again = appears_again(root, fields, index, i, tag);
-        let misplaced = is_misplaced(dict, tag, left_header, in_trailer);
-        if let Some(fault) = field_fault(dict, root, field, again, misplaced) {
+        let of_header = note.header.is_any();
+        let of_trailer = note.trailer.is_any();
+        let misplaced = is_misplaced(of_header, of_trailer, left_header, in_trailer);
+        if let Some(fault) = field_fault(dict, message, &note, field, again, misplaced) {
             return Some(fault);
         }
-        left_header = leaves_header(dict, order, tag, left_header);
-        in_trailer = begins_trailer(dict, order, tag, in_trailer);
+        left_header = leaves_header(order, of_header, left_header);
+        in_trailer = begins_trailer(order, of_trailer, in_trailer);
     }
     None
 }
@@ -47,22 +54,24 @@ pub fn fields_fault(
 // out of the order that is asked for.
 fn field_fault(
     dict: &Dictionary,
-    root: &Whole<'_>,
+    message: &Layout,
+    note: &TagNote,
     field: &Lent<'_>,
     again: bool,
     misplaced: bool,
 ) -> Option<Fault>
-    ensures { Finds (field_rows_by dict.now root.now again misplaced field.now) result }
+    requires { note.now ≡ note_in dict.now field.now.tag }
+    ensures { Finds (field_rows_by dict.now (whole dict.now message.now) again misplaced field.now) result }
 {
     let tag = field.tag();
-    let kind = dict.kind_of(tag);
+    let kind = kind_by(dict, note, tag);
     if is_invalid(tag, kind) {
         return Some(fault_at(0, tag));
     }
     if field.value().is_empty() {
         return Some(fault_at(4, tag));
     }
-    if is_foreign(root, tag, kind) {
+    if is_foreign(dict, message, note, tag, kind) {
         return Some(fault_at(2, tag));
     }
     if again {
@@ -74,7 +83,7 @@ fn field_fault(
     if is_no_value(kind, field.value()) {
         return Some(fault_at(6, tag));
     }
-    if !dict.allows(tag, field.value()) {
+    if !allows(dict, note, tag, field.value()) {
         return Some(fault_at(5, tag));
     }
     None
@@ -96,11 +105,51 @@ fn is_invalid(tag: Tag, kind: Option<ValueKind>) -> bool
     tag.get() < FIRST_USER_TAG && kind.is_none()
 }
 
-// Whether the dictionary names the tag, and neither the message nor its header or trailer has it.
-fn is_foreign(root: &Whole<'_>, tag: Tag, kind: Option<ValueKind>) -> bool
-    ensures { result ≡ (is_some kind && not (has_tag tag root.now)) }
+// The kind of the field. The dictionary is there for what is said of the note.
+fn kind_by(dict: &Dictionary, note: &TagNote, tag: Tag) -> Option<ValueKind>
+    requires { note.now ≡ note_in dict.now tag }
+    ensures { result ≡ kind_of dict.now tag }
 {
-    kind.is_some() && !root.has_tag(tag)
+    note.kind
+}
+
+// Whether the dictionary names the tag, and neither the message nor its header or trailer has it.
+fn is_foreign(
+    dict: &Dictionary,
+    message: &Layout,
+    note: &TagNote,
+    tag: Tag,
+    kind: Option<ValueKind>,
+) -> bool
+    requires { note.now ≡ note_in dict.now tag }
+    ensures { result ≡ (is_some kind && not (has_tag tag (whole dict.now message.now))) }
+{
+    kind.is_some() && !is_known(dict, message, note, tag)
+}
+
+// Whether the message, its header or its trailer has the tag.
+fn is_known(dict: &Dictionary, message: &Layout, note: &TagNote, tag: Tag) -> bool
+    requires { note.now ≡ note_in dict.now tag }
+    ensures { result ≡ has_tag tag (whole dict.now message.now) }
+{
+    if note.header.is_own() {
+        return true;
+    }
+    if note.trailer.is_own() {
+        return true;
+    }
+    has_tag(message, tag)
+}
+
+// Whether the value is listed, where values are. Few fields have any.
+fn allows(dict: &Dictionary, note: &TagNote, tag: Tag, value: &[u8]) -> bool
+    requires { note.now ≡ note_in dict.now tag }
+    ensures { result ≡ allows dict.now tag value.now }
+{
+    if !note.has_values {
+        return true;
+    }
+    dict.allows(tag, value)
 }
 
 // Whether the value isn't one of the kind.
@@ -113,62 +162,23 @@ fn is_no_value(kind: Option<ValueKind>, value: &[u8]) -> bool
     }
 }
 
-// Whether the tag is one of the header.
-fn is_header(dict: &Dictionary, tag: Tag) -> bool
-    ensures { result ≡ is_header dict.now tag }
+// Whether a field of the header or not, and of the trailer or not, may not stand after these:
+// `left_header` says that a field which isn't of the header stands before it, and `in_trailer` that
+// one of the trailer does.
+fn is_misplaced(of_header: bool, of_trailer: bool, left_header: bool, in_trailer: bool) -> bool
+    ensures { result ≡ ((of_header && left_header) || (not of_trailer && in_trailer)) }
 {
-    if is_header_tag(tag) {
-        return true;
-    }
-    has_tag(dict.header(), tag)
+    (of_header && left_header) || (!of_trailer && in_trailer)
 }
 
-// Whether the tag is one of the trailer.
-fn is_trailer(dict: &Dictionary, tag: Tag) -> bool
-    ensures { result ≡ is_trailer dict.now tag }
+fn leaves_header(order: bool, of_header: bool, left_header: bool) -> bool
+    ensures { result ≡ (left_header || (order && not of_header)) }
 {
-    if is_trailer_tag(tag) {
-        return true;
-    }
-    has_tag(dict.trailer(), tag)
+    left_header || (order && !of_header)
 }
 
-// Whether a field with the tag may not stand after these: `left_header` says that a field which
-// isn't of the header stands before it, and `in_trailer` that one of the trailer does.
-fn is_misplaced(dict: &Dictionary, tag: Tag, left_header: bool, in_trailer: bool) -> bool
-    ensures { result ≡ ((is_header dict.now tag && left_header) || (not (is_trailer dict.now tag) && in_trailer)) }
+fn begins_trailer(order: bool, of_trailer: bool, in_trailer: bool) -> bool
+    ensures { result ≡ (in_trailer || (order && of_trailer)) }
 {
-    if left_header {
-        if is_header(dict, tag) {
-            return true;
-        }
-    }
-    if in_trailer {
-        return !is_trailer(dict, tag);
-    }
-    false
-}
-
-fn leaves_header(dict: &Dictionary, order: bool, tag: Tag, left_header: bool) -> bool
-    ensures { result ≡ (left_header || (order && not (is_header dict.now tag))) }
-{
-    if left_header {
-        return true;
-    }
-    if !order {
-        return false;
-    }
-    !is_header(dict, tag)
-}
-
-fn begins_trailer(dict: &Dictionary, order: bool, tag: Tag, in_trailer: bool) -> bool
-    ensures { result ≡ (in_trailer || (order && is_trailer dict.now tag)) }
-{
-    if in_trailer {
-        return true;
-    }
-    if !order {
-        return false;
-    }
-    is_trailer(dict, tag)
+    in_trailer || (order && of_trailer)
 }

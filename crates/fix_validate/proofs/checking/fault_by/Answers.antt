@@ -1,19 +1,19 @@
-use Rattle.std.proofs.Common.{◌≡◌, ◌∙◌, [], Some, None, option_map, refl, sym, ap, subst}
+use Rattle.std.proofs.Common.{◌≡◌, ◌∙◌, Some, None, option_map, refl, sym, ap}
 use Rattle.fix_fields.specs.Shapes.{Shapes}
 use Rattle.fix_groups.specs.Tagged.{all_tagged}
 use Rattle.fix_groups.specs.Misfits.{first_misfit}
-use Rattle.fix_validate.specs.Rows.{Finds}
-use Rattle.fix_validate.specs.Table.{fields_rows}
 use Rattle.fix_validate.specs.Groups.{group_fault, groups_rows}
 use Rattle.fix_validate.specs.Checks.{whole}
 use Rattle.fix_validate.proofs.GroupLemmas.{groups_finds}
 use Rattle.fix_validate.proofs.RowLemmas.{ends_front, finds_behind}
 use Rattle.fix_validate.proofs.checking.fault_by.Goals as goal
 
+pub fields_fault-requires-clause-root : goal.fields_fault-requires-clause-root
+fields_fault-requires-clause-root c = c.new-root.ensures ∙ rw (c.header.ensures, c.trailer.ensures) refl
+
 pub returns-in-Some : goal.returns-in-Some
 returns-in-Some c =
-    let e : c.new-root.result ≡ whole c.args.dict.now c.args.message.now = c.new-root.ensures ∙ rw (c.header.ensures, c.trailer.ensures) refl in
-    ends_front _ _ c.fields_fault.result c.in-Some.fault c.in-Some.is (subst (λ (r : Shapes). Finds (fields_rows c.args.dict.now r c.args.order [] c.args.fields.now) c.fields_fault.result) e c.fields_fault.ensures)
+    ends_front _ _ c.fields_fault.result c.in-Some.fault c.in-Some.is c.fields_fault.ensures
 
 pub returns-in-Some-2 : goal.returns-in-Some-2
 returns-in-Some-2 c =
@@ -21,7 +21,7 @@ returns-in-Some-2 c =
     let fs = all_tagged c.args.fields.now in
     let e : c.new-root.result ≡ root = c.new-root.ensures ∙ rw (c.header.ensures, c.trailer.ensures) refl in
     let n : first_misfit root fs ≡ Some c.in-Some-2.misfit = ap (λ (r : Shapes). first_misfit r fs) (sym e) ∙ sym c.in_ok-misfit.ensures ∙ c.in-Some-2.is in
-    finds_behind _ _ _ c.fields_fault.result c.in_default.is (subst (λ (r : Shapes). Finds (fields_rows c.args.dict.now r c.args.order [] c.args.fields.now) c.fields_fault.result) e c.fields_fault.ensures)
+    finds_behind _ _ _ c.fields_fault.result c.in_default.is c.fields_fault.ensures
     (ends_front (groups_rows root fs) _ (option_map group_fault (first_misfit root fs)) c.group_fault.result (ap (option_map group_fault) n ∙ ap (λ x. Some x) (sym c.group_fault.ensures)) (groups_finds root fs))
 
 pub returns : goal.returns
@@ -30,5 +30,5 @@ returns c =
     let fs = all_tagged c.args.fields.now in
     let e : c.new-root.result ≡ root = c.new-root.ensures ∙ rw (c.header.ensures, c.trailer.ensures) refl in
     let n : first_misfit root fs ≡ None = ap (λ (r : Shapes). first_misfit r fs) (sym e) ∙ sym c.in_ok-misfit.ensures ∙ c.in_default-2.is in
-    finds_behind _ _ _ c.fields_fault.result c.in_default.is (subst (λ (r : Shapes). Finds (fields_rows c.args.dict.now r c.args.order [] c.args.fields.now) c.fields_fault.result) e c.fields_fault.ensures)
+    finds_behind _ _ _ c.fields_fault.result c.in_default.is c.fields_fault.ensures
     (finds_behind (groups_rows root fs) _ _ (option_map group_fault (first_misfit root fs)) (ap (option_map group_fault) n) (groups_finds root fs) c.missing_of.ensures)
