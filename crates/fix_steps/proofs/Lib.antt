@@ -7,5 +7,7 @@ pub mod NoteLemmas
 pub mod ReadLemmas
 pub mod StepLeads
 pub mod ToldLemmas
+pub mod ClearLemmas
 pub mod TableLemmas
 pub mod DecideLemmas
+pub mod PossibleLemmas

@@ -19,7 +19,7 @@ use Rattle.fix_admin.specs.Admin.{AdminSeen, heartbeat_of, test_request_of, rang
 abbrev TOP : ℕ
 TOP = 1000000000
 
-abbrev fine : {A : Type 0} → A → Result A Fault
+abbrev pub fine : {A : Type 0} → A → Result A Fault
 fine a = Ok a
 
 same_ok : (a b : ℕ) → fine a ≡ fine b → a ≡ b
@@ -44,14 +44,14 @@ signed_number : (minus : Bool) (b : ℕ) (bs : List ℕ) (next : ℕ) → within
 signed_number true b bs next h = absurd (minus_number (size_in bs) next h)
 signed_number false b bs next h = plain_number (all_ascii_digits (b ∷ bs)) (nat_lt 0 (length (b ∷ bs))) (nat_lt (digits_value 10 (b ∷ bs)) 1000000000000000) (digits_value 10 (b ∷ bs)) next h
 
-given_number : (o : Option (List ℕ)) (next : ℕ) → and_then (need 36 o) (λ v. within 36 1 TOP (int_in v)) ≡ Ok next → new_seq_no_in o ≡ Some next
+pub given_number : (o : Option (List ℕ)) (next : ℕ) → and_then (need 36 o) (λ v. within 36 1 TOP (int_in v)) ≡ Ok next → new_seq_no_in o ≡ Some next
 given_number None next h = cc
 given_number (Some []) next h = cc
 given_number (Some (b ∷ bs)) next h = signed_number (b == 45) b bs next h
 
 -- ---- a SequenceReset (4)
 
-and_ok : {A B : Type 0} (r : Result A Fault) (f : A → Result B Fault) (y : B) → and_then r f ≡ Ok y → (a : A) × (r ≡ Ok a) × (f a ≡ Ok y)
+pub and_ok : {A B : Type 0} (r : Result A Fault) (f : A → Result B Fault) (y : B) → and_then r f ≡ Ok y → (a : A) × (r ≡ Ok a) × (f a ≡ Ok y)
 and_ok (Ok a) f y h = (a, refl, h)
 and_ok (Err e) f y h = cc
 

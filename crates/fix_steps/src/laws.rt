@@ -12,7 +12,7 @@ ghost use Rattle.fix_machine.specs.declared.state.MachineState.{MachineState};
 ghost use Rattle.fix_machine.specs.declared.state.Options.{Options};
 ghost use Rattle.fix_machine.specs.Event.{Inbound, StepSeen, EventSeen, Frame};
 ghost use Rattle.fix_machine.specs.Decide.{answer_to};
-ghost use Rattle.fix_machine.specs.Numbers.{expected_after};
+ghost use Rattle.fix_machine.specs.Numbers.{expected_after, IsNoMessage};
 ghost use Rattle.fix_stage.specs.declared.sender.Sender.{Sender};
 ghost use Rattle.fix_stage.specs.Stated.{Total, Resumes, IsTimely};
 ghost use Rattle.fix_stage.specs.Lawful.{LeadsFrom};
@@ -23,7 +23,7 @@ ghost use Rattle.fix_steps.specs.Notes.{AnswersOnly};
 ghost use Rattle.fix_steps.specs.Stated.{IsRead};
 ghost use Rattle.fix_steps.specs.Lawful.{Standing, MayAnswer, BeginsPlainly, WasReadIn, IsAnswered, InStep};
 ghost use Rattle.fix_steps.specs.Lawful.{Stands, AfterEnding};
-ghost use Rattle.fix_steps.specs.Told.{IsTold, IsOther, MayBeDone};
+ghost use Rattle.fix_steps.specs.Told.{IsTold, IsOther, MayBeDone, IsBounded, IsPossibleAnswer};
 
 /// What is out of memory would have gone on, and what is not has an end: no answer is left without one.
 pub fn what_is_out_of_memory_would_have_gone_on()
@@ -76,4 +76,14 @@ pub fn what_is_decided_is_lawful()
         → IsValidIdentity id → IsOther s e → AllByRecursion (IsCarried None) (answer_to o s e).steps
         → LeadsFrom id (AfterEnding id read) (InStep id read s.expected) (Carried id None (answer_to o s e).steps)
         (InStep id read (expected_after (answer_to o s e).steps s.expected)) }
+{}
+
+/// What the machine decides is carried out here, or is a step that has no part here yet, where it names no application
+/// version; and its numbers stay within their bounds.
+pub fn what_is_decided_is_possible()
+    ensures message { (text : List ℕ) (fields : List Field) → HasFields text fields → (i : Inbound) → IsTold fields i
+        → (o : Options) (s : MachineState) → o.version ≡ None → IsBounded s
+        → IsPossibleAnswer (Some text) (answer_to o s (Frame i)) }
+    ensures other { (o : Options) (s : MachineState) (e : EventSeen) → IsNoMessage e → o.version ≡ None → IsBounded s
+        → IsPossibleAnswer None (answer_to o s e) }
 {}
