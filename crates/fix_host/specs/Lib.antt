@@ -8,3 +8,4 @@ pub mod Steps
 pub mod Made
 pub mod World
 pub mod Damaged
+pub mod Posting
