@@ -17,7 +17,7 @@ use Rattle.fix_journal.proofs.SoundLemmas.{some_same}
 use Rattle.fix_store.specs.declared.fault.StoreFault.{StoreFault}
 use Rattle.fix_store.specs.declared.fault.StoreFault.TheVariants as fault
 use Rattle.fix_store.specs.Reading.{HasEnd, IsBrokenAt}
-use Rattle.fix_store.specs.Store.{StoreSeen, IsTold, IsInRange, stored_of, withheld_of, HoldsEnd, LastsEnd, IsEitherEnd, HasNoNumber, KeepAnswers, StoreKeeps}
+use Rattle.fix_store.specs.Store.{StoreSeen, IsTold, IsInRange, TellsEnd, stored_of, withheld_of, HoldsEnd, LastsEnd, IsEitherEnd, HasNoNumber, KeepAnswers, StoreKeeps}
 use Rattle.fix_store.specs.Opening.{IsOpened, IsLeftByOpening, HasSameEnd, StoreOpens}
 use Rattle.fix_store.proofs.Ends.{one_end, not_broken}
 use Rattle.fix_outside.specs.declared.outside.KeepFault.{KeepFault}
@@ -104,7 +104,7 @@ module _ (old new : DiskSeen) (r : Record) (answer : Option StoreFault) (keeps :
 pub told_end : {D : Type 0} (disk : D → DiskSeen) (store : StoreSeen D) → IsTold disk store → store.stopped ≡ false → IsSome (disk store.disk).bytes → (e : End) × HoldsEnd (disk store.disk) e
 told_end disk store told still some =
     let file = at_told (disk store.disk).bytes some in
-    let got = subst (λ o. IfSome o (λ f. (e : End) × HasEnd f e × (store.stored ≡ stored_of e))) file.1 (told still) in
+    let got = subst (λ o. IfSome o (λ f. (e : End) × HasEnd f e × TellsEnd store.stored store.withheld e)) file.1 (told still) in
     (got.0, (file.0, file.1, got.1))
 
 -- a store that failed wasn't stopped before, nor was one that had no memory
@@ -123,8 +123,8 @@ still_then old new r fault.DiskFault is same going answers = answers.0
 -- ---- a store that is opened
 
 module _ {D : Type 0} (disk : D → DiskSeen) (old : DiskSeen) (store : StoreSeen D) (opened : IsOpened disk old store) (tells : IsSome (disk store.disk).bytes ↔ IsSome old.bytes) where
-  found : (file : List ℕ) → old.bytes ≡ Some file → (e : End) × HasEnd file e × (store.stored ≡ stored_of e) × HoldsEnd (disk store.disk) e × LastsEnd (disk store.disk) e
-  found file is = subst (λ o. IfSome o (λ f. (e : End) × HasEnd f e × (store.stored ≡ stored_of e) × HoldsEnd (disk store.disk) e × LastsEnd (disk store.disk) e)) is opened.end
+  found : (file : List ℕ) → old.bytes ≡ Some file → (e : End) × HasEnd file e × TellsEnd store.stored store.withheld e × HoldsEnd (disk store.disk) e × LastsEnd (disk store.disk) e
+  found file is = subst (λ o. IfSome o (λ f. (e : End) × HasEnd f e × TellsEnd store.stored store.withheld e × HoldsEnd (disk store.disk) e × LastsEnd (disk store.disk) e)) is opened.end
 
   before : IsSome old.bytes → (e : End) × HoldsEnd old e
   before some = let file = at_told old.bytes some in let e = found file.0 file.1 in (e.0, (file.0, file.1, e.1))
@@ -155,7 +155,7 @@ module _ {D : Type 0} (disk : D → DiskSeen) (old : DiskSeen) (store : StoreSee
       subst (LastsEnd (disk store.disk)) (one_held (disk store.disk) f.0 e f.3 h) f.4
 
   numbers : (e : End) → HoldsEnd old e → store.stored ≡ stored_of e
-  numbers e h = let f = found h.0 h.1 in f.2 ∙ ap stored_of (one_end h.0 f.0 e f.1 h.2)
+  numbers e h = let f = found h.0 h.1 in f.2.stored ∙ ap stored_of (one_end h.0 f.0 e f.1 h.2)
 
   pub opened_gives : (stored : Stored) → stored ≡ store.stored → IsInRange store.stored → IsLoadedFrom stored old
   opened_gives stored is range = subst (λ s. IsLoadedFrom s old) (sym is) (record {
@@ -302,6 +302,12 @@ by_first false c n k ks same is rest = there (rest is)
 any_among : (n : ℕ) (ks : List ℕ) → list_any (λ y. nat_eq y n) ks ≡ true → Among n ks
 any_among n [] is = absurd (true≢false (sym is))
 any_among n (k ∷ ks) is = by_first (nat_eq k n) (list_any (λ y. nat_eq y n) ks) n k ks refl is (any_among n ks)
+
+-- what a store tells as withheld is so in the end that its disk tells
+pub tells_held : {D : Type 0} (disk : D → DiskSeen) (store : StoreSeen D) → IsTold disk store → store.stopped ≡ false → (n : ℕ) (b : Bool) → b ≡ set.contains store.withheld n → (e : End) → HoldsEnd (disk store.disk) e → b ≡ set.contains (withheld_of e) n
+tells_held disk store told still n b is e h =
+    let got = subst (λ o. IfSome o (λ f. (x : End) × HasEnd f x × TellsEnd store.stored store.withheld x)) h.1 (told still) in
+    is ∙ ap (λ w. set.contains w n) (got.2.withheld ∙ ap withheld_of (one_end h.0 got.0 e got.1 h.2))
 
 -- what the store tells is what the end withholds
 pub held_as : (seen : DiskSeen) (n : ℕ) (b : Bool) → ((e : End) → HoldsEnd seen e → b ≡ set.contains (withheld_of e) n) → (k : Kind) → IsToldHeld k b → (e : End) → HoldsEnd seen e → IsHeldAs k n e

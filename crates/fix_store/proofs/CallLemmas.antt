@@ -1,7 +1,6 @@
 -- What a call that keeps a record answers, and what a store tells.
 use Rattle.std.proofs.Common.{◌≡◌, ◌∙◌, ℕ, ◌≤◌, Bool, true, false, List, [], ◌∷◌, length, Some, None, Err, refl, sym, ap, subst, true≢false}
 use Rattle.std.specs.Prelude.{map, IfSome, is_some}
-use Rattle.std.specs.FinSet as set
 use Rattle.fix_base.specs.declared.entry.Record.{Record}
 use Rattle.fix_base.specs.End.{End}
 use Rattle.fix_disk.specs.Disk.{DiskSeen}
@@ -12,25 +11,25 @@ use Rattle.fix_store.specs.declared.fault.StoreFault.{StoreFault}
 use Rattle.fix_store.specs.declared.fault.StoreFault.TheVariants as fault
 use Rattle.fix_store.specs.Spelling.{keeps, spelled_item}
 use Rattle.fix_store.specs.Reading.{LAST_NUMBER, new_content, taken_all, HasEnd}
-use Rattle.fix_store.specs.Store.{StoreSeen, stored_of, withheld_of, HoldsEnd, IsTold, KeepAnswers}
+use Rattle.fix_store.specs.Store.{StoreSeen, TellsEnd, IsTold, KeepAnswers}
 use Rattle.fix_store.specs.Keeping.{AppendAnswers}
 use Rattle.fix_store.specs.Folding.{Fold, fold_with, stored_in, change_of, MayTake, HasPlaceIn, IsSound}
-use Rattle.fix_store.proofs.Places.{fold_goes_on, has_number, has_none}
-use Rattle.fix_store.proofs.KeepLemmas.{end_of, this_end}
+use Rattle.fix_store.proofs.Places.{fold_goes_on, set_goes_on, has_number, has_none}
+use Rattle.fix_store.proofs.KeepLemmas.{end_of}
 
 -- what is seen of a store
 abbrev pub seen_by : {D : Type 0} → D → Fold → Bool → StoreSeen D
-seen_by d f stopped = record { disk = d; stored = stored_in f; stopped = stopped }
+seen_by d f stopped = record { disk = d; stored = stored_in f; withheld = f.withheld; stopped = stopped }
 
 -- what it tells is its end
 pub told_of : {D : Type 0} (disk : D → DiskSeen) (journal : JournalSeen D) (f : Fold) (stopped : Bool) → IsSound disk journal f stopped → IsTold disk (seen_by journal.disk f stopped)
 told_of disk journal f stopped sound = λ still.
-    told_case (disk journal.disk).bytes (λ file. (e : End) × HasEnd file e × (stored_in f ≡ stored_of e)) (λ file is.
+    told_case (disk journal.disk).bytes (λ file. (e : End) × HasEnd file e × TellsEnd (stored_in f) f.withheld e) (λ file is.
     let k = sound.kept still (ap is_some is) in
     let same : k.1.holds.0 ≡ file = some_same k.1.holds.0 file (sym k.1.holds.1 ∙ is) in (
       (taken_all new_content k.0).end,
       end_of k.0 k.1.folds.each file (subst (λ x. IsJournal x (map spelled_item k.0)) same k.1.holds.2),
-      k.1.folds.stored,
+      record { stored = k.1.folds.stored; withheld = k.1.folds.withheld },
     ))
 
 module _ {D : Type 0} (d d' : D) (f h : Fold) (r : Record) (stopped : Bool) (still : stopped ≡ false) where
@@ -41,6 +40,7 @@ module _ {D : Type 0} (d d' : D) (f h : Fold) (r : Record) (stopped : Bool) (sti
     has_number f r may,
     ap stored_in is ∙ fold_goes_on index f r,
     then_still,
+    ap (λ g. g.withheld) is ∙ set_goes_on index f r,
   )
 
   -- every number is spent
@@ -63,10 +63,5 @@ answers_failed journal new f h r stopped then_stopped still calm is may same fau
   has_number f r may,
   ap stored_in same,
   is ∙ answers.1,
+  ap (λ g. g.withheld) same,
 )
-
--- what it tells as withheld is so at its end
-pub held_of : {D : Type 0} (disk : D → DiskSeen) (journal : JournalSeen D) (f : Fold) (stopped : Bool) → IsSound disk journal f stopped → (n : ℕ) (b : Bool) → b ≡ set.contains f.withheld n → stopped ≡ false → (e : End) → HoldsEnd (disk journal.disk) e → b ≡ set.contains (withheld_of e) n
-held_of disk journal f stopped sound n b is still e holds =
-    let k = sound.kept still (ap is_some holds.1) in
-    is ∙ ap (λ w. set.contains w n) (k.1.folds.withheld ∙ ap withheld_of (sym (this_end (disk journal.disk) journal.count k.0 f k.1 e holds)))

@@ -219,7 +219,7 @@ this_entry part entry other fits is (inl found) = one_entry entry other found.0 
 this_entry part entry other fits is (inr none) = absurd (none.0 other fits is)
 
 -- the entries of an item that fits may be kept
-each_at : (es : List Entry) → AllByRecursion HasPayload es → (n : ℕ) (e : Entry) → slice_get es n ≡ Some e → HasPayload e
+pub each_at : (es : List Entry) → AllByRecursion HasPayload es → (n : ℕ) (e : Entry) → slice_get es n ≡ Some e → HasPayload e
 each_at [] all n e is = absurd (subst (λ o. IfSome o (λ z. ⊥)) is tt)
 each_at (x ∷ es) all zero e is = subst (λ o. IfSome o HasPayload) is all.0
 each_at (x ∷ es) all (suc n) e is = each_at es all.1 n e is

@@ -23,7 +23,7 @@ use Rattle.fix_store.specs.declared.folding.Folded.{Folded}
 use Rattle.fix_store.specs.declared.changing.Change.TheVariants as change
 use Rattle.fix_store.specs.Spelling.{Item, marks, spelled_item, MARK}
 use Rattle.fix_store.specs.Reading.{new_content, taken, taken_all, MayFollow, IsStoreOf, HasEnd}
-use Rattle.fix_store.specs.Store.{stored_of, HoldsEnd, LastsEnd, store_failures, fault_of}
+use Rattle.fix_store.specs.Store.{stored_of, withheld_of, TellsEnd, HoldsEnd, LastsEnd, store_failures, fault_of}
 use Rattle.fix_store.specs.Keeping.{AppendAnswers, Appends}
 use Rattle.fix_store.specs.Opening.{marked_items, HoldsItems, IsCause, IsLeftByOpening, HasSameEnd, StaysWhereRefused, StoreOpens}
 use Rattle.fix_store.specs.Folding.{Fold, fold_of, fold_with, stored_in, IsFoldOf, IsWithin, IsKeptOf, IsSound, GoesOn, Reads, Folds}
@@ -392,14 +392,14 @@ module _ {D : Type 0} (disk : D → DiskSeen) (old : DiskSeen) (mid walked new :
     store_of : (file : List ℕ) (is : old.bytes ≡ Some file) → IsStoreOf file (walk_found file is).items
     store_of file is = record { is = (walk_found file is).has; each = (walk_found file is).kept.folds.each }
 
-    pub end_found : IfSome old.bytes (λ file. (e : End) × HasEnd file e × (stored_in g ≡ stored_of e) × HoldsEnd (disk new.disk) e × LastsEnd (disk new.disk) e)
-    end_found = told_case old.bytes (λ file. (e : End) × HasEnd file e × (stored_in g ≡ stored_of e) × HoldsEnd (disk new.disk) e × LastsEnd (disk new.disk) e) (λ file is.
+    pub end_found : IfSome old.bytes (λ file. (e : End) × HasEnd file e × TellsEnd (stored_in g) g.withheld e × HoldsEnd (disk new.disk) e × LastsEnd (disk new.disk) e)
+    end_found = told_case old.bytes (λ file. (e : End) × HasEnd file e × TellsEnd (stored_in g) g.withheld e × HoldsEnd (disk new.disk) e × LastsEnd (disk new.disk) e) (λ file is.
         let items = (walk_found file is).items in
         let k = kept_new file is in
         let same = same_end items in (
           (taken_all new_content items).end,
           record { items = items; is = store_of file is; folds = refl },
-          k.folds.stored ∙ ap stored_of same,
+          record { stored = k.folds.stored ∙ ap stored_of same; withheld = k.folds.withheld ∙ ap withheld_of same },
           subst (HoldsEnd (disk new.disk)) same (k.holds.0, k.holds.1, end_of (marked_items items) k.folds.each k.holds.0 k.holds.2),
           subst (LastsEnd (disk new.disk)) same (λ told c left. end_of (marked_items items) k.folds.each c (k.lasts told c left)),
         ))

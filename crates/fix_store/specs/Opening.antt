@@ -11,7 +11,7 @@ use Rattle.fix_journal.specs.Format.{IsMade}
 use Rattle.fix_journal.specs.Opening.{open_failures}
 use Rattle.fix_store.specs.Spelling.{Item, marks}
 use Rattle.fix_store.specs.Reading.{new_content, taken_all, IsStoreOf, HasEnd, IsBrokenAt}
-use Rattle.fix_store.specs.Store.{StoreSeen, stored_of, HoldsEnd, LastsEnd}
+use Rattle.fix_store.specs.Store.{StoreSeen, TellsEnd, HoldsEnd, LastsEnd}
 
 -- with the mark of version 2, at the end of a file that has none
 abbrev pub marked_items : List Item → List Item
@@ -26,7 +26,7 @@ HoldsItems seen items = (file : List ℕ) × (seen.bytes ≡ Some file) × IsSto
 pub record IsOpened {D : Type 0} (disk : D → DiskSeen) (old : DiskSeen) (store : StoreSeen D) : Type 0 where
   pub goes_on : store.stopped ≡ false
   pub end : IfSome old.bytes
-      (λ file. (e : End) × HasEnd file e × (store.stored ≡ stored_of e) × HoldsEnd (disk store.disk) e
+      (λ file. (e : End) × HasEnd file e × TellsEnd store.stored store.withheld e × HoldsEnd (disk store.disk) e
       × LastsEnd (disk store.disk) e)
   pub marked : IfSome old.bytes
       (λ file. (items : List Item) × IsStoreOf file items × HoldsItems (disk store.disk) (marked_items items))

@@ -1,7 +1,8 @@
 -- What is seen of a store, and what its calls do.
-use Rattle.std.specs.Prelude.{◌≡◌, ◌⊎◌, ◌↔◌, ℕ, ◌+◌, ◌<◌, ◌≤◌, ◌==◌, if◌then◌else◌, Bool, true, false, List, length}
+use Rattle.std.specs.Prelude.{◌≡◌, refl, ◌⊎◌, ◌↔◌, ℕ, ◌+◌, ◌<◌, ◌≤◌, ◌==◌, if◌then◌else◌, Bool, true, false, List, length}
 use Rattle.std.specs.Prelude.{Option, Some, None, IsSome, IfSome, Result, Ok, Err, IfOk, ⊤}
 use Rattle.std.specs.FinSet as set
+use Rattle.std.specs.Coded.{Coded, code_by, coded×, coded_bool, coded_ℕ}
 use Rattle.std.specs.Ordering.{nat_cmp}
 use Rattle.fix_base.specs.declared.entry.Entry.{Entry}
 use Rattle.fix_base.specs.declared.entry.Record.{Record}
@@ -11,6 +12,7 @@ use Rattle.fix_base.specs.End.{End, folded, IsEntry}
 use Rattle.fix_base.specs.Payload.{HasPayload, IsKeepable, IsKeepableAt, LAST_TIME}
 use Rattle.fix_base.specs.Trace.{Rises}
 use Rattle.fix_base.specs.declared.entry.Stored.{Stored}
+use Rattle.fix_base.specs.contracts.entry.Stored as stored_type
 use Rattle.fix_disk.specs.Disk.{DiskSeen, LeavesAsIs}
 use Rattle.fix_disk.specs.Moments.{LeavesOnly}
 use Rattle.fix_store.specs.declared.fault.StoreFault.{StoreFault}
@@ -26,7 +28,16 @@ NumberSet = set.FinSet nat_cmp
 pub record StoreSeen (D : Type 0) : Type 0 where
   pub disk : D
   pub stored : Stored
+  pub withheld : NumberSet  -- the messages that aren't to be sent again
   pub stopped : Bool  -- the disk failed at some call
+
+abbrev pub store_code : {D : Type 0} → Coded D → Coded (StoreSeen D)
+store_code {D} disk =
+    code_by (D × (Stored × (NumberSet × Bool)))
+    (coded× disk (coded× stored_type.the_row.coded (coded× (set.code coded_ℕ) coded_bool)))
+    (λ s. (s.disk, (s.stored, (s.withheld, s.stopped))))
+    (λ p. record { disk = p.0; stored = p.1.0; withheld = p.1.1.0; stopped = p.1.1.1 })
+    (λ _. refl)
 
 -- what a store tells of an end
 abbrev pub stored_of : End → Stored
@@ -76,10 +87,15 @@ LastsEnd seen e = seen.TellsImages → (c : List ℕ) → seen.image c → HasEn
 abbrev pub IsEitherEnd : End → Record → List ℕ → Type 0
 IsEitherEnd e r file = HasEnd file e ⊎ HasEnd file (folded e r)
 
+-- these are the numbers of the end
+pub record TellsEnd (told : Stored) (held : NumberSet) (e : End) : Type 0 where
+  pub stored : told ≡ stored_of e
+  pub withheld : held ≡ withheld_of e
+
 -- what a store that isn't stopped tells is its end, where the disk tells its file
 abbrev pub IsTold : {D : Type 0} → (D → DiskSeen) → StoreSeen D → Type 0
 IsTold disk store = store.stopped ≡ false
-    → IfSome (disk store.disk).bytes (λ file. (e : End) × HasEnd file e × (store.stored ≡ stored_of e))
+    → IfSome (disk store.disk).bytes (λ file. (e : End) × HasEnd file e × TellsEnd store.stored store.withheld e)
 
 -- the record may be kept at the end that the disk tells
 abbrev pub MayKeep : DiskSeen → Record → Type 0
@@ -113,12 +129,12 @@ fault_of (Err fault) = Some fault
 -- when each answer of a call that keeps a record comes, and what the store is then
 abbrev pub KeepAnswers : {D : Type 0} → Option StoreFault → Record → StoreSeen D → StoreSeen D → Type 0
 KeepAnswers None r old new = (old.stopped ≡ false) × HasNumber r old.stored
-    × (new.stored ≡ stored_with old.stored r) × (new.stopped ≡ false)
+    × (new.stored ≡ stored_with old.stored r) × (new.stopped ≡ false) × (new.withheld ≡ withheld_with old.withheld r)
 KeepAnswers (Some Stopped) r old new = (old.stopped ≡ true) × (new ≡ old)
 KeepAnswers (Some NumbersSpent) r old new = (old.stopped ≡ false) × HasNoNumber r old.stored × (new ≡ old)
 KeepAnswers (Some OutOfMemory) r old new = (old.stopped ≡ false) × HasNumber r old.stored × (new ≡ old)
 KeepAnswers (Some DiskFault) r old new = (old.stopped ≡ false) × HasNumber r old.stored × (new.stored ≡ old.stored)
-    × (new.stopped ≡ true)
+    × (new.stopped ≡ true) × (new.withheld ≡ old.withheld)
 
 -- how often the disk failed in a call
 abbrev pub store_failures : Option StoreFault → ℕ
@@ -146,11 +162,12 @@ pub record StoreKeeps (fault : Option StoreFault) (r : Record) (old new : DiskSe
 -- when each answer of a read comes, and what the store is then
 abbrev pub ReadAnswers : {D : Type 0} → Option StoreFault → StoreSeen D → StoreSeen D → Type 0
 ReadAnswers None old new = (old.stopped ≡ false) × (new.stored ≡ old.stored) × (new.stopped ≡ false)
+    × (new.withheld ≡ old.withheld)
 ReadAnswers (Some Stopped) old new = (old.stopped ≡ true) × (new ≡ old)
 ReadAnswers (Some NumbersSpent) old new = ⊥
 ReadAnswers (Some OutOfMemory) old new = (old.stopped ≡ false) × (new ≡ old)
 ReadAnswers (Some DiskFault) old new = (old.stopped ≡ false) × (new.stored ≡ old.stored)
-    × (new.stopped ≡ true)
+    × (new.stopped ≡ true) × (new.withheld ≡ old.withheld)
 
 -- what stands for an entry where a disk that doesn't tell its bytes gave back none
 abbrev pub NO_ENTRY : Entry

@@ -1,6 +1,6 @@
 //! Writes a record as a payload of the journal, which `reading` reads back. `store` calls this before each
 //! append.
-ghost use Rattle.std.specs.Prelude.{◌≡◌, ◌++◌, ◌∷◌, ◌<◌, ◌≤◌, ◌^◌, OnOk, length};
+ghost use Rattle.std.specs.Prelude.{◌≡◌, ◌++◌, ◌∷◌, ◌<◌, OnOk, Some, length, slice_get};
 ghost use Rattle.std.specs.Int.{w32, w64, to_be_bytes};
 ghost use Rattle.std.specs.List.{AllByRecursion};
 ghost use Rattle.fix_base.specs.Payload.{HasPayload, IsKeepable};
@@ -64,11 +64,21 @@ fn add_entries(into: &mut Vec<u8>, entries: &[Entry]) -> Result<(), AllocError>
     requires { AllByRecursion HasPayload entries.now }
     ensures { OnOk result (into.new.items ≡ into.old.items ++ spelled_entries entries.now) }
 {
-    for entry in entries {
+    let count = entries.len();
+    for nth in 0..count {
+        let entry = nth_of(entries, nth);
         into.extend_from_slice(&size(entry).to_be_bytes())?;
         add_entry(into, entry)?;
     }
     Ok(())
+}
+
+// The entry that has so many before it.
+fn nth_of(entries: &[Entry], nth: usize) -> &Entry
+    requires { nth < length entries.now }
+    ensures { slice_get entries.now nth ≡ Some result.now }
+{
+    &entries[nth]
 }
 
 // How long the payload of an entry is.

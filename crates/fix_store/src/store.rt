@@ -8,7 +8,7 @@ ghost use Rattle.fix_base.specs.declared.entry.Record.TheVariants.{Withhold, Res
 ghost use Rattle.fix_base.specs.End.{End, IsAppAt};
 ghost use Rattle.fix_base.specs.Payload.{HasPayload, IsManyPayload, IsKeepable, LAST_TIME};
 ghost use Rattle.fix_store.specs.Store.{IsTold, IsInRange, MayKeep, HoldsEnd, KeepAnswers, StoreKeeps, ReadAnswers};
-ghost use Rattle.fix_store.specs.Store.{StoreReads, withheld_of, fault_of};
+ghost use Rattle.fix_store.specs.Store.{StoreReads, fault_of};
 ghost use Rattle.fix_store.specs.Rooms.{OpenRoom, KeepRoom, ReadRoom};
 ghost use Rattle.fix_store.specs.Opening.{IsOpened, IsCause, StoreOpens};
 ghost use Rattle.fix_store.specs.Spelling.{spelled};
@@ -41,12 +41,19 @@ pub struct Store<D: Disk> {
 }
 
 impl<D: Disk> Model for Store<D> {
-    ghost use Rattle.fix_store.specs.Store.{StoreSeen};
-    ghost use Rattle.fix_store.specs.Folding.{IsSound, fold_of, stored_in};
+    ghost use Rattle.fix_store.specs.Store.{StoreSeen, store_code};
+    ghost use Rattle.fix_store.specs.Folding.{IsSound, fold_of, stored_in, withheld_in};
 
     ghost Value = { StoreSeen D };
 
-    ghost view = { λ s. record { disk = s.journal.disk; stored = stored_in (fold_of s.folded); stopped = s.stopped } };
+    ghost coded = { store_code D.code };
+
+    ghost view = { λ s. record {
+      disk = s.journal.disk;
+      stored = stored_in (fold_of s.folded);
+      withheld = withheld_in s.folded.withheld;
+      stopped = s.stopped;
+    } };
 
     ghost invariant = { λ s. IsSound D.disk s.journal (fold_of s.folded) s.stopped };
 }
@@ -215,8 +222,8 @@ impl<D: Disk> Store<D> {
 
     /// Whether the message of this number isn't to be sent again. It costs the logarithm of how many aren't.
     pub fn withheld(&self, n: SeqNum) -> bool
-        ensures { self.now.stopped ≡ false → (e : End) → HoldsEnd (D.disk self.now.disk) e
-            → result ≡ set.contains (withheld_of e) n }
+        ensures is { result ≡ set.contains self.now.withheld n }
+        ensures told { IsTold D.disk self.now }
     {
         self.folded.withheld.has(n.get())
     }
