@@ -3,7 +3,7 @@
 ghost use Rattle.std.specs.Prelude.{◌≡◌, ◌+◌, ◌*◌, ◌^◌, ◌<◌, ◌≤◌, ◌++◌, ◌∷◌, [], false, List, ℕ, take, length, vec_len};
 ghost use Rattle.std.specs.Prelude.{vec_capacity, IfOk, IfErr, IfSome, OnOk, OnErr, Some, None};
 ghost use Rattle.fix_disk.specs.Moments.{NeedsRoom};
-ghost use Rattle.fix_journal.specs.Format.{body_of, front, file_size};
+ghost use Rattle.fix_journal.specs.Format.{MOST_PAYLOAD, body_of, file_size};
 ghost use Rattle.fix_journal.specs.Journal.{Holds, AppendAnswers, JournalAppends, append_failures, ReadAnswers};
 ghost use Rattle.fix_journal.specs.Journal.{JournalReads, read_failures};
 ghost use Rattle.fix_journal.specs.Cursors.{CursorSeen, Stands, IsPeek, Gives, ReadsFile, IsShortRead, TakesNoMemory};
@@ -153,6 +153,7 @@ impl<D: Disk> Journal<D> {
         requires stands { Stands D.disk self.old c.now }
         ensures answers { ReadAnswers result self.old self.new }
         ensures shows { IfOk result (λ p. IsPeek D.disk self.new c.now p) }
+        ensures few { IfOk result (λ p. p.length ≤ MOST_PAYLOAD) }
         ensures stands { Stands D.disk self.new c.now }
         ensures moves { ReadsFile (read_failures result) 1 (D.disk self.old.disk) (D.disk self.new.disk) }
         ensures memory { TakesNoMemory result }

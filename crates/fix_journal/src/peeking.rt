@@ -4,6 +4,7 @@ ghost use Rattle.std.specs.Prelude.{◌≡◌, ◌+◌, ◌-◌, ◌≤◌, min,
 ghost use Rattle.std.specs.Prelude.{OnOk, slice_index, IsSome};
 ghost use Rattle.fix_disk.specs.Disk.{HasRange, failures};
 ghost use Rattle.fix_disk.specs.Moments.{NeedsRoom};
+ghost use Rattle.fix_journal.specs.Format.{MOST_PAYLOAD};
 ghost use Rattle.fix_journal.specs.Journal.{Holds};
 ghost use Rattle.fix_journal.specs.Index.{IsUnderMark};
 ghost use Rattle.fix_journal.specs.Cursors.{Shows, Gives, ReadsFile, MOST_AT_ONCE, Lies, Begins};
@@ -22,6 +23,7 @@ pub(crate) fn look<D: Disk>(disk: &mut D, place: u64, limit: u64) -> Result<Peek
     requires { HasRange (D.disk disk.old).bytes place (limit - place) }
     ensures shows { (file payload : List ℕ) → (D.disk disk.old).bytes ≡ Some file → Lies file place limit payload
         → IfOk result (λ p. Shows p payload) }
+    ensures few { IfOk result (λ p. p.length ≤ MOST_PAYLOAD) }
     ensures moves { ReadsFile (failures result) 1 (D.disk disk.old) (D.disk disk.new) }
     ensures room { NeedsRoom (failures result) 0 (D.disk disk.old) (D.disk disk.new) }
 {
@@ -110,7 +112,8 @@ pub(crate) fn take_room(into: &mut Vec<u8>, place: u64, limit: u64) -> Result<()
 
 // What the first bytes from a gate on show.
 fn peek_in(head: &[u8], most: u64) -> Peek
-    ensures { (payload : List ℕ) → Begins head.now payload → length payload ≤ 1114112 → length payload ≤ most
+    ensures few { result.length ≤ MOST_PAYLOAD }
+    ensures shows { (payload : List ℕ) → Begins head.now payload → length payload ≤ 1114112 → length payload ≤ most
         → Shows result payload }
 {
     let size = size_in(head, most);
