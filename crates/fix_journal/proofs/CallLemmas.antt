@@ -1,16 +1,18 @@
 -- What the calls of a journal do to its disk.
 use Rattle.std.proofs.Common.{◌≡◌, ℕ, ◌+◌, ◌-◌, ◌<◌, ◌≤◌, suc, Bool, false, List, [], ◌∷◌, ◌++◌, length, take, drop, get_or, Some, Result, Ok, Err, refl, sym, ◌∙◌, ap, subst, arith, length-append, true≢false}
-use Rattle.std.specs.Prelude.{IfSome, IfOk, is_err}
+use Rattle.std.specs.Prelude.{IfSome, IfOk, is_err, is_some}
+use Rattle.std.proofs.lemmas.List.{take-append-le}
 use Rattle.fix_disk.specs.Disk.{DiskSeen, IsLawfulDisk, DiskReads}
 use Rattle.fix_disk.specs.Moments.{LeavesOnly}
 use Rattle.fix_disk.specs.declared.disk.DiskFailed.{DiskFailed}
 use Rattle.fix_journal.specs.declared.fault.AppendFault.TheVariants.{DiskFault}
-use Rattle.fix_journal.specs.Format.{IsPayload, body_of, IsJournal}
+use Rattle.fix_journal.specs.Format.{IsPayload, body_of, front, IsJournal}
 use Rattle.fix_journal.specs.AtRest.{IsAtRest, Appends}
-use Rattle.fix_journal.specs.Journal.{gates_from, IsSound, Lasts, JournalAppends, JournalReads}
+use Rattle.fix_journal.specs.Journal.{gates_from, IsSound, Holds, Lasts, JournalAppends, JournalReads}
 use Rattle.fix_journal.proofs.Moments.{started, goes_on}
-use Rattle.fix_journal.proofs.Gates.{length-front, gates-push}
-use Rattle.fix_journal.proofs.SoundLemmas.{at_gate, read_there}
+use Rattle.fix_journal.proofs.Gates.{length-front, length-gates, gates-push}
+use Rattle.fix_journal.proofs.SoundLemmas.{some_same, at_gate, read_there}
+use Rattle.fix_journal.proofs.Unique.{unique}
 
 -- what holds of an Ok, behind a test of the answer
 pub when_ok : {T E : Type 0} (answer : Result T E) {P : Type 0} → false ≡ is_err answer → IfOk answer (λ x. P) → P
@@ -63,6 +65,18 @@ module _ (old new : DiskSeen) (gates : List ℕ) (sound : IsSound old gates fals
                 ∙ gates-push 9 got.0 payload,
           );
     }
+
+    -- a cursor stays at its record, or at the closed gate, where the new one comes to stand
+    pub stays : (index place : ℕ) → index ≤ length gates - 1 → ((payloads : List (List ℕ)) → Holds old payloads → place ≡ length (front (take index payloads)))
+        → (payloads : List (List ℕ)) → Holds new payloads → place ≡ length (front (take index payloads))
+    stays index place few stood payloads holds =
+        let got = sound.rests refl (done.tells_bytes.0 (ap is_some holds.1)) in
+        let was : Holds old got.0 = (got.1.file, got.1.is, got.1.journal) in
+        let rests = done.kept got.0 payload (at_gate old gates sound gate gate_is got.0 was) fits is in
+        let same : holds.0 ≡ rests.file = some_same holds.0 rests.file (sym holds.1 ∙ rests.is) in
+        let list : got.0 ++ payload ∷ [] ≡ payloads = unique rests.file (got.0 ++ payload ∷ []) payloads rests.journal (subst (λ f. IsJournal f payloads) same holds.2) in
+        stood got.0 was
+        ∙ ap (λ l. length (front l)) (sym (take-append-le index got.0 (payload ∷ []) (omega (arith, few, ap length got.2, length-gates 9 got.0))) ∙ ap (take index) list)
 
 module _ (old new : DiskSeen) (laws : IsLawfulDisk old) where
   read_moment : {T : Type 0} (answer : Result T DiskFailed) (at : ℕ) (room : List ℕ) → DiskReads answer at room old new → LeavesOnly old new old.image

@@ -9,6 +9,8 @@ pub mod SoundLemmas
 pub mod AsRead
 mod CallLemmas
 mod HeadLemmas
+mod CursorLemmas
+mod ReadLemmas
 mod ScanLemmas
 pub mod RoomLemmas
 mod WindowLemmas

@@ -1,6 +1,8 @@
 -- What the gates of a journal say of its file.
-use Rattle.std.proofs.Common.{◌≡◌, ℕ, ◌+◌, ◌-◌, ◌<◌, ◌≤◌, suc, Bool, false, List, ◌∷◌, length, take, get_or, Option, Some, None, refl, sym, ◌∙◌, ap, subst, arith, length-append}
+use Rattle.std.proofs.Common.{◌≡◌, inl, inr, ℕ, ◌+◌, ◌-◌, ◌<◌, ◌≤◌, suc, Bool, false, List, [], ◌∷◌, length, take, get_or, Option, Some, None, refl, sym, ◌∙◌, ap, subst, arith, length-append}
 use Rattle.std.specs.Prelude.{IfSome, is_some}
+use Rattle.std.proofs.lemmas.Bool.{cases_eq}
+use Rattle.std.proofs.lemmas.List.{append-nil, take_at}
 use Rattle.fix_disk.specs.Disk.{DiskSeen, HasRange}
 use Rattle.fix_journal.specs.Format.{OPEN, NAME, front, IsJournal}
 use Rattle.fix_journal.specs.AtRest.{IsAtRest}
@@ -17,6 +19,9 @@ told_case (Some file) P each = each file refl
 
 pub calm : (seen : DiskSeen) (gates : List ℕ) (stopped : Bool) → stopped ≡ false → IsSound seen gates stopped → IsSound seen gates false
 calm seen gates stopped is sound = subst (λ b. IsSound seen gates b) is sound
+
+take_whole : {A : Type 0} (l : List A) (n : ℕ) → length l ≡ n → take n l ≡ l
+take_whole l n long = ap (take n) (sym (append-nil l)) ∙ take_at l [] n long
 
 last_is : (gates : List ℕ) (ps : List (List ℕ)) (d : ℕ) → gates ≡ gates_from 9 ps → get_or gates (length gates - 1) d ≡ length (front ps)
 last_is gates ps d is =
@@ -45,6 +50,19 @@ module _ (seen : DiskSeen) (gates : List ℕ) (sound : IsSound seen gates false)
       ap (λ l. get_or l index d) r.1
       ∙ gate_is 9 payloads index d (omega (arith, lt, ap length r.1, length-gates 9 payloads))
       ∙ sym (length-front (take index payloads))
+
+  -- and so is the closed one
+  pub gate_up_to : (payloads : List (List ℕ)) → Holds seen payloads → (index d : ℕ) → index + 1 ≤ length gates → get_or gates index d ≡ length (front (take index payloads))
+  gate_up_to payloads holds index d le =
+      let r = rested payloads holds in
+      let long : length gates ≡ length payloads + 1 = ap length r.1 ∙ length-gates 9 payloads in
+      elim (cases_eq index (length payloads)) [
+        | inl end ↦
+            ap (λ n. get_or gates n d) (omega (arith, end, long))
+            ∙ last_is gates payloads d r.1
+            ∙ ap (λ l. length (front l)) (sym (take_whole payloads index (sym end)))
+        | inr other ↦ gate_at payloads holds index d (omega (arith, le, long, other))
+      ]
 
   module _ (gate : ℕ) (gate_is : gate ≡ get_or gates (length gates - 1) gate) where
     -- the last gate is the closed one

@@ -1,18 +1,21 @@
 //! The calls of a journal, for `fix_store`. `open` runs the stage `opening`, `append` runs `appending`, and
 //! `read` is one read of the disk.
-ghost use Rattle.std.specs.Prelude.{◌≡◌, ◌+◌, ◌^◌, ◌<◌, ◌≤◌, ◌++◌, ◌∷◌, [], false, List, ℕ, take, length, vec_len};
-ghost use Rattle.std.specs.Prelude.{vec_capacity, IfOk, IfErr, IfSome, Some, None};
+ghost use Rattle.std.specs.Prelude.{◌≡◌, ◌+◌, ◌*◌, ◌^◌, ◌<◌, ◌≤◌, ◌++◌, ◌∷◌, [], false, List, ℕ, take, length, vec_len};
+ghost use Rattle.std.specs.Prelude.{vec_capacity, IfOk, IfErr, IfSome, OnOk, OnErr, Some, None};
 ghost use Rattle.fix_disk.specs.Moments.{NeedsRoom};
 ghost use Rattle.fix_journal.specs.Format.{body_of, front, file_size};
 ghost use Rattle.fix_journal.specs.Journal.{Holds, AppendAnswers, JournalAppends, append_failures, ReadAnswers};
 ghost use Rattle.fix_journal.specs.Journal.{JournalReads, read_failures};
+ghost use Rattle.fix_journal.specs.Cursors.{CursorSeen, Stands, IsPeek, Gives, ReadsFile, IsShortRead, TakesNoMemory};
+ghost use Rattle.fix_journal.specs.Cursors.{IsLimit};
 ghost use Rattle.fix_journal.specs.Opening.{IsOpened, IsCause, Opens, OpenRoom};
 ghost use Rattle.fix_journal.specs.Window.{OpenCalls};
 
 use crate::appending::append_at;
 use crate::heads::MOST_PAYLOAD;
 use crate::opening::find;
-use crate::{AppendFault, OpenFault, ReadFault};
+use crate::peeking::{look, past, read_record, take_room};
+use crate::{AppendFault, Cursor, OpenFault, Peek, ReadFault};
 use fix_disk::{Disk, DiskFailed, put};
 use std::alloc::{AllocError, Global};
 use std::marker::Model;
@@ -71,7 +74,8 @@ impl<D: Disk> Journal<D> {
         }
     }
 
-    /// Appends a record of at least one byte, and answers its index. At Ok it is on the disk.
+    /// Appends a record of at least one byte, and answers its index. At Ok it is on the disk. A cursor stays where it
+    /// stands.
     pub fn append(&mut self, payload: &[u8]) -> Result<u64, AppendFault>
         requires { 1 ≤ length payload.now }
         ensures answers { AppendAnswers result (length payload.now) self.old self.new }
@@ -81,6 +85,8 @@ impl<D: Disk> Journal<D> {
         ensures need { (payloads : List (List ℕ)) → Holds (D.disk self.old.disk) payloads
             → NeedsRoom (append_failures result) (file_size (payloads ++ payload.now ∷ [])) (D.disk self.old.disk)
             (D.disk self.new.disk) }
+        ensures cursors { (c : CursorSeen) → c.index ≤ self.old.count → Stands D.disk self.old c
+            → Stands D.disk self.new c }
     {
         if self.stopped {
             return Err(AppendFault::Stopped);
@@ -129,6 +135,122 @@ impl<D: Disk> Journal<D> {
         }
     }
 
+    /// A cursor at the record with the index 64 times k.
+    pub fn at_mark(&self, k: u64) -> Cursor
+        requires { 64 * k < self.now.count }
+        ensures index { result.index ≡ 64 * k }
+        ensures stands { Stands D.disk self.now result }
+    {
+        let index = self.count().min(64 * k);
+        Cursor {
+            index,
+            place: self.gates[index as usize],
+        }
+    }
+
+    /// Looks at the record at a cursor.
+    pub fn peek(&mut self, c: &Cursor) -> Result<Peek, ReadFault>
+        requires record { c.now.index < self.old.count }
+        requires stands { Stands D.disk self.old c.now }
+        ensures answers { ReadAnswers result self.old self.new }
+        ensures shows { IfOk result (λ p. IsPeek D.disk self.new c.now p) }
+        ensures stands { Stands D.disk self.new c.now }
+        ensures moves { ReadsFile (read_failures result) 1 (D.disk self.old.disk) (D.disk self.new.disk) }
+        ensures memory { TakesNoMemory result }
+        ensures room { NeedsRoom (read_failures result) 0 (D.disk self.old.disk) (D.disk self.new.disk) }
+    {
+        if self.stopped {
+            return Err(ReadFault::Stopped);
+        }
+        let limit = self.limit(c.index());
+        match look(&mut self.disk, c.place(), limit) {
+            Ok(peek) => Ok(peek),
+            Err(DiskFailed) => {
+                self.stopped = true;
+                Err(ReadFault::DiskFault)
+            }
+        }
+    }
+
+    /// Moves a cursor past its record, by what was seen of that one.
+    pub fn skip(&self, c: &mut Cursor, p: &Peek)
+        requires record { c.old.index < self.now.count }
+        requires stands { Stands D.disk self.now c.old }
+        requires peek { IsPeek D.disk self.now c.old p.now }
+        ensures index { c.new.index ≡ c.old.index + 1 }
+        ensures stands { Stands D.disk self.now c.new }
+    {
+        let limit = self.limit(c.index());
+        *c = Cursor {
+            index: c.index() + 1,
+            place: past(c.place(), 5 + p.length as u64, limit),
+        };
+    }
+
+    /// Gives the payload of the record at a cursor, by what was seen of it.
+    pub fn take(&mut self, c: &Cursor, p: &Peek, into: &mut Vec<u8>) -> Result<(), ReadFault>
+        requires record { c.now.index < self.old.count }
+        requires stands { Stands D.disk self.old c.now }
+        requires peek { IsPeek D.disk self.old c.now p.now }
+        ensures answers { ReadAnswers result self.old self.new }
+        ensures read { OnOk result (Gives (D.disk self.old.disk) c.now.index into.new.items) }
+        ensures stands { Stands D.disk self.new c.now }
+        ensures moves { ReadsFile (read_failures result) 1 (D.disk self.old.disk) (D.disk self.new.disk) }
+        ensures room { NeedsRoom (read_failures result) 0 (D.disk self.old.disk) (D.disk self.new.disk) }
+    {
+        if self.stopped {
+            return Err(ReadFault::Stopped);
+        }
+        let limit = self.limit(c.index());
+        let start = past(c.place(), 5, limit);
+        if fill_up(into, (p.length as u64).min(limit - start)).is_err() {
+            return Err(ReadFault::OutOfMemory);
+        }
+        match self.disk.read_at(start, into) {
+            Ok(()) => Ok(()),
+            Err(DiskFailed) => {
+                self.stopped = true;
+                Err(ReadFault::DiskFault)
+            }
+        }
+    }
+
+    /// Gives the payload of the record at a cursor, and moves the cursor past it. It is for a walk over all records:
+    /// a short payload takes one call of the disk.
+    pub fn next(&mut self, c: &mut Cursor, into: &mut Vec<u8>) -> Result<(), ReadFault>
+        requires record { c.old.index < self.old.count }
+        requires stands { Stands D.disk self.old c.old }
+        ensures answers { ReadAnswers result self.old self.new }
+        ensures read { OnOk result (Gives (D.disk self.old.disk) c.old.index into.new.items) }
+        ensures index { OnOk result (c.new.index ≡ c.old.index + 1) }
+        ensures same { OnErr result (c.new ≡ c.old) }
+        ensures stands { Stands D.disk self.new c.new }
+        ensures moves { ReadsFile (read_failures result) 2 (D.disk self.old.disk) (D.disk self.new.disk) }
+        ensures short { IsShortRead c.old.index (D.disk self.old.disk) (D.disk self.new.disk) }
+        ensures room { NeedsRoom (read_failures result) 0 (D.disk self.old.disk) (D.disk self.new.disk) }
+    {
+        if self.stopped {
+            return Err(ReadFault::Stopped);
+        }
+        let limit = self.limit(c.index());
+        if take_room(into, c.place(), limit).is_err() {
+            return Err(ReadFault::OutOfMemory);
+        }
+        match read_record(&mut self.disk, c.place(), limit, into) {
+            Ok(()) => {
+                *c = Cursor {
+                    index: c.index() + 1,
+                    place: past(c.place(), 5 + into.len() as u64, limit),
+                };
+                Ok(())
+            }
+            Err(DiskFailed) => {
+                self.stopped = true;
+                Err(ReadFault::DiskFault)
+            }
+        }
+    }
+
     /// How many records there are.
     pub fn count(&self) -> u64
         ensures { result ≡ self.now.count }
@@ -150,6 +272,16 @@ impl<D: Disk> Journal<D> {
         ensures { result ≡ self.disk }
     {
         self.disk
+    }
+
+    // The place of a gate after the record with this index.
+    fn limit(&self, index: u64) -> u64
+        requires { index < self.now.count }
+        ensures few { index + 1 < 2 ^ 64 }
+        ensures is { self.now.stopped ≡ false → (payloads : List (List ℕ)) → Holds (D.disk self.now.disk) payloads
+            → IsLimit payloads index result }
+    {
+        self.gates[index as usize + 1]
     }
 }
 

@@ -2,12 +2,16 @@
 #![tactic(auto)]
 
 mod appending;
+mod cursor;
+#[cfg(test)]
+mod cursor_tests;
 mod fault;
 mod heads;
 mod journal;
 mod laws;
 mod making;
 mod opening;
+mod peeking;
 mod scanning;
 mod surveying;
 mod synced;
@@ -15,6 +19,7 @@ mod synced;
 mod tests;
 mod window;
 
+pub use cursor::{Cursor, Peek};
 pub use fault::{AppendFault, OpenFault, ReadFault};
 pub use journal::{Journal, OpenRefused};
 pub use laws::a_file_has_one_meaning;

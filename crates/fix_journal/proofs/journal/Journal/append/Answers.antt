@@ -2,7 +2,7 @@ use Rattle.std.proofs.Common.{◌≡◌, ◌+◌, ◌-◌, ◌++◌, ◌∷◌, 
 use Rattle.fix_journal.specs.Journal.{IsSound}
 use Rattle.fix_journal.proofs.SoundLemmas.{calm, place, at_gate}
 use Rattle.fix_journal.proofs.RoomLemmas.{needs_record}
-use Rattle.fix_journal.proofs.CallLemmas.{when_ok, append_failed, appended, sound_after}
+use Rattle.fix_journal.proofs.CallLemmas.{when_ok, append_failed, appended, sound_after, stays}
 use Rattle.fix_journal.proofs.journal.Journal.append.Goals as goal
 
 pub append_at-requires-clause-place : goal.append_at-requires-clause-place
@@ -50,3 +50,12 @@ returns-in-Err-clause-need g c = λ payloads holds.
     let rests = at_gate (disk s.disk) s.gates.items (calm (disk s.disk) s.gates.items s.stopped c.if-self.false c.self.invariant) gate (c.index-gate.ensures ∙ ap (λ n. get_or s.gates.items (n - 1) gate) long) payloads (rw (← c.self.view_is) at holds) in
     rw (← c.self.view_is)
     (needs_record 1 gate payloads c.args.payload.now c.deref.result.now (disk s.disk) (disk c.append_at.new.disk) rests.at (c.deref.ensures.value ∙ when_ok c.stage.result c.if-is_err.ensures.value c.stage.ensures.staged) c.in-Err.ensures.room)
+
+pub returns-in-Ok-clause-cursors : goal.returns-in-Ok-clause-cursors
+returns-in-Ok-clause-cursors g c =
+    let s = c.self.inside in
+    let disk = g.D.Disk.disk in
+    let gate = c.index-gate.result.now in
+    let long : c.len-index.result ≡ length s.gates.items = search rules in
+    rw (← c.self.view_is)
+    (λ cursor few stands still. stays (disk s.disk) (disk c.append_at.new.disk) s.gates.items (calm (disk s.disk) s.gates.items s.stopped c.if-self.false c.self.invariant) gate (c.index-gate.ensures ∙ ap (λ n. get_or s.gates.items (n - 1) gate) long) c.args.payload.now c.deref.result.now (c.requires, omega (arith, c.if-payload-gt-MOST_PAYLOAD.false)) (c.deref.ensures.value ∙ when_ok c.stage.result c.if-is_err.ensures.value c.stage.ensures.staged) c.in-Ok.field-0 c.in-Ok.ensures.appends cursor.index cursor.place few (stands c.if-self.false))
