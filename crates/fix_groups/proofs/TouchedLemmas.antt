@@ -7,7 +7,7 @@ use Rattle.fix_groups.specs.Tagged.{Tagged}
 use Rattle.fix_groups.specs.Joined.{joined}
 use Rattle.fix_groups.specs.Looked.{or_else, group_at, at_level, owner}
 use Rattle.fix_groups.specs.Misfits.{judged_at, count_misfit, stray_at, outside_group, first_misfit}
-use Rattle.fix_groups.specs.Touched.{touches, touched}
+use Rattle.fix_groups.specs.Touched.{touches, touched, has_field, has_some}
 
 neither : (a b : Bool) → (a || b) ≡ false → (a ≡ false) × (b ≡ false)
 neither true b e = cc
@@ -133,3 +133,35 @@ touched_third fs a b c root r v off none h =
 
 pub no_misfit : (b : Bool) (s : Shapes) (fs : List Tagged) → b ≡ false → b ≡ touched s fs → None ≡ first_misfit s fs
 no_misfit b s fs e is = sym (untouched s fs (sym is ∙ e))
+
+-- ---- one group, tag by tag
+
+swapped : (a b c d : Bool) → ((a || b) || (c || d)) ≡ ((a || c) || (b || d))
+swapped true b c d = refl
+swapped false true true d = refl
+swapped false true false d = refl
+swapped false false c d = refl
+
+any_none : (fs : List Tagged) → list_any (λ (f : Tagged). false) fs ≡ false
+any_none [] = refl
+any_none (f ∷ fs) = any_none fs
+
+any_or : (p q : Tagged → Bool) (fs : List Tagged) → list_any (λ f. p f || q f) fs ≡ (list_any p fs || list_any q fs)
+any_or p q [] = refl
+any_or p q (f ∷ fs) = ap (λ b. (p f || q f) || b) (any_or p q fs) ∙ swapped (p f) (q f) (list_any p fs) (list_any q fs)
+
+some_is : (s : Shapes) (fs : List Tagged) → has_some s fs ≡ list_any (λ f. has_tag f.tag s) fs
+some_is no_more fs = sym (any_none fs)
+some_is (plain u r ms) fs = ap (λ b. has_field u fs || b) (some_is ms fs) ∙ sym (any_or (λ f. f.tag == u) (λ f. has_tag f.tag ms) fs)
+some_is (group c r inner ms) fs =
+    ap (λ b. has_field c fs || (b || has_some ms fs)) (some_is inner fs) ∙ ap (λ b. has_field c fs || (list_any (λ f. has_tag f.tag inner) fs || b)) (some_is ms fs)
+    ∙ ap (λ b. has_field c fs || b) (sym (any_or (λ f. has_tag f.tag inner) (λ f. has_tag f.tag ms) fs)) ∙ sym (any_or (λ f. f.tag == c) (λ f. has_tag f.tag inner || has_tag f.tag ms) fs)
+
+touches_is : (c : ℕ) (inner : Shapes) (fs : List Tagged) → (has_field c fs || has_some inner fs) ≡ touches c inner fs
+touches_is c inner fs = ap (λ b. has_field c fs || b) (some_is inner fs) ∙ sym (any_or (λ f. f.tag == c) (λ f. has_tag f.tag inner) fs)
+
+pub touches_count : (c : ℕ) (inner : Shapes) (fs : List Tagged) → has_field c fs ≡ true → true ≡ touches c inner fs
+touches_count c inner fs h = sym (ap (λ b. b || has_some inner fs) h) ∙ touches_is c inner fs
+
+pub touches_inner : (c : ℕ) (inner : Shapes) (fs : List Tagged) (r : Bool) → has_field c fs ≡ false → r ≡ has_some inner fs → r ≡ touches c inner fs
+touches_inner c inner fs r h is = is ∙ sym (ap (λ b. b || has_some inner fs) h) ∙ touches_is c inner fs

@@ -14,3 +14,13 @@ abbrev pub touched : Shapes → List Tagged → Bool
 touched no_more fs = false
 touched (plain t r more) fs = touched more fs
 touched (group c r inner more) fs = touches c inner fs || touched more fs
+
+-- a field has this tag
+abbrev pub has_field : ℕ → List Tagged → Bool
+has_field tag fs = list_any (λ f. f.tag == tag) fs
+
+-- a field has a tag of the layout
+abbrev pub has_some : Shapes → List Tagged → Bool
+has_some no_more fs = false
+has_some (plain tag r more) fs = has_field tag fs || has_some more fs
+has_some (group count r inner more) fs = has_field count fs || (has_some inner fs || has_some more fs)

@@ -6,7 +6,7 @@ ghost use Rattle.fix_fields.specs.Members.{shapes_of};
 ghost use Rattle.fix_fields.specs.NoTwice.{has_tag};
 ghost use Rattle.fix_groups.specs.Runs.{lead};
 ghost use Rattle.fix_groups.specs.Tagged.{all_tagged};
-ghost use Rattle.fix_groups.specs.Touched.{touches, touched};
+ghost use Rattle.fix_groups.specs.Touched.{touches, touched, has_some, has_field};
 ghost use Rattle.fix_groups.specs.Looked.{group_at, at_level, owner, is_in};
 
 use crate::lent::Lent;
@@ -53,21 +53,43 @@ pub fn is_touched(layout: &Layout, fields: &[Lent<'_>]) -> bool
 fn touches(count: Tag, inner: &Layout, fields: &[Lent<'_>]) -> bool
     ensures { result ≡ touches count inner.now (all_tagged fields.now) }
 {
-    for field in fields {
-        if is_of(count, inner, field.tag()) {
-            return true;
+    // The fields are looked at for each tag of the group, since calls nest then by groups, and not by fields.
+    if has_field(fields, count) {
+        return true;
+    }
+    has_some(inner, fields)
+}
+
+/// Whether a field has a tag of the layout.
+fn has_some(layout: &Layout, fields: &[Lent<'_>]) -> bool
+    ensures { result ≡ has_some layout.now (all_tagged fields.now) }
+{
+    for member in &layout.members {
+        match member {
+            Member::Plain { tag, .. } => {
+                if has_field(fields, *tag) {
+                    return true;
+                }
+            }
+            Member::Group { count, inner, .. } => {
+                if has_field(fields, *count) || has_some(inner, fields) {
+                    return true;
+                }
+            }
         }
     }
     false
 }
 
-fn is_of(count: Tag, inner: &Layout, tag: Tag) -> bool
-    ensures { result ≡ (tag == count || has_tag tag inner.now) }
+fn has_field(fields: &[Lent<'_>], tag: Tag) -> bool
+    ensures { result ≡ has_field tag (all_tagged fields.now) }
 {
-    if tag == count {
-        return true;
+    for field in fields {
+        if field.tag() == tag {
+            return true;
+        }
     }
-    has_tag(inner, tag)
+    false
 }
 
 /// The members of the group whose count has the tag, however deep it stands.
