@@ -3,3 +3,4 @@ pub mod LookLemmas
 pub mod KnownLemmas
 pub mod GreetLemmas
 mod PostLemmas
+mod SendLemmas

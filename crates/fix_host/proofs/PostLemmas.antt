@@ -37,25 +37,7 @@ posted_on i j before mid new xs ys k d lt size is same first second =
 pub gone_on : (xs : List (Option DraftText)) (k : ℕ) (new : Option DraftText) → k < length xs → new ≡ None → take k xs ≡ replicate k None → take (k + 1) (slice_set xs k new) ≡ replicate (k + 1) None
 gone_on xs k new lt none gone = rw none (take_more_set xs k None lt ∙ (ap (λ l. l ++ None ∷ []) gone ∙ replicate_more k None))
 
-joined : {X : Type 0} (k : ℕ) (xs : List X) → take k xs ++ drop k xs ≡ xs
-joined zero xs = refl
-joined (suc k) [] = refl
-joined (suc k) (x ∷ xs) = ap (λ l. x ∷ l) (joined k xs)
-
--- the first ones are gone, the others as before
-pub left_is : (xs ys : List (Option DraftText)) (k : ℕ) → take k xs ≡ replicate k None → drop k xs ≡ drop k ys → xs ≡ left_of k ys
-left_is xs ys k gone is = sym (joined k xs) ∙ (ap (λ l. l ++ drop k xs) gone ∙ ap (λ l. replicate k None ++ l) is)
-
--- one that was put back
-pub left_back : (xs ys : List (Option DraftText)) (k : ℕ) (d new : Option DraftText) → k < length xs → take k xs ≡ replicate k None → drop k xs ≡ drop k ys → new ≡ slice_index_or xs k d → slice_set xs k new ≡ left_of k ys
-left_back xs ys k d new lt gone is back =
-    left_is (slice_set xs k new) ys k (take-set xs k new ∙ gone)
-    (drop-set xs k new lt ∙ (ap (λ x. x ∷ drop (k + 1) xs) back ∙ (sym (drop_more xs k d lt) ∙ is)))
-
 -- ---- what the loads gave
-
-pub loads_none : (a : List ℕ) → Loads a a
-loads_none a = (0, sym (append-nil a))
 
 pub loads_on : (a b c : List ℕ) → Loads a b → Loads b c → Loads a c
 loads_on a b c (m, first) (n, second) =
@@ -63,9 +45,6 @@ loads_on a b c (m, first) (n, second) =
 
 pub loads_one : (a b c : List ℕ) (n : ℕ) → Loads a b → c ≡ b ++ n ∷ [] → n ≡ 0 → Loads a c
 loads_one a b c n before more none = loads_on a b c before (1, more ∙ ap (λ x. b ++ x ∷ []) none)
-
-pub loads_last : (a b c : List ℕ) (n : ℕ) → Loads a b → c ≡ b ++ n ∷ [] → n ≡ 1 → LoadsClosed a c
-loads_last a b c n (m, first) more shut = (m, more ∙ (ap (λ x. b ++ x ∷ []) shut ∙ ap (λ l. l ++ 1 ∷ []) first))
 
 pub loads_end : (a b c : List ℕ) → Loads a b → LoadsClosed b c → LoadsClosed a c
 loads_end a b c before (n, second) =

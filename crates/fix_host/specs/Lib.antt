@@ -9,3 +9,5 @@ pub mod Made
 pub mod World
 pub mod Damaged
 pub mod Posting
+pub mod DraftFile
+pub mod Sending

@@ -11,6 +11,7 @@ mod looking;
 mod posting;
 #[cfg(test)]
 mod posting_tests;
+mod sending;
 mod slot;
 mod spawner;
 #[cfg(test)]
@@ -21,6 +22,7 @@ pub use greeting::greet;
 pub use held::Held;
 pub use known::Greeted;
 pub use posting::post_all;
+pub use sending::{OfSender, SenderEnd, send_file};
 pub use slot::{LinkSlot, SlotState};
 pub use spawner::{Anything, FailingSpawner, Spawner, ThreadSpawner};
 pub use world::{Ear, Gate, MakeFault, World};

@@ -2,8 +2,8 @@
 //! the outbox is closed.
 ghost use Rattle.fix_outbox.specs.Passes.{IsSenderOf, IsTakerOf};
 
-use crate::{Gate, post_all};
-use fix_base::Tag;
+use crate::{Gate, post_all, send_file};
+use fix_base::{Bytes, Tag};
 use fix_fields::{Draft, DraftFields};
 use fix_outbox::{Outbox, SenderPass, TakerPass};
 use std::alloc::Global;
@@ -149,4 +149,18 @@ fn through_one<R: Threads + Wait + Sync>(rt: &R, alloc: Global) -> Option<(Optio
 fn a_full_outbox_loses_no_draft(rt: HostRuntime) {
     let seen = through_one(&rt, rt.alloc());
     assert_eq!(rt; seen, Some((Some(3), *b"abc")));
+}
+
+// What is known of a sender whose file has an empty line alone.
+fn of_no_drafts<R: Wait>(rt: &R, alloc: Global) -> Option<(u32, u32)> {
+    let (outbox, _taker, mut senders) = Outbox::new(alloc, 1, 1).ok()?;
+    let pass = senders.pop()?;
+    let file = Bytes::copy(alloc, b"\n").ok()?;
+    let end = send_file(rt, &outbox, pass, file, Vec::new(alloc), &Open);
+    Some((end.drafts, end.posted))
+}
+
+#[test]
+fn a_file_with_no_drafts_is_sent(rt: HostRuntime) {
+    assert_eq!(rt; of_no_drafts(&rt, rt.alloc()), Some((0, 0)));
 }
