@@ -8,3 +8,6 @@ pub mod Steps
 pub mod Made
 pub mod World
 pub mod Damaged
+pub mod Posting
+pub mod DraftFile
+pub mod Sending

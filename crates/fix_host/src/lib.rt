@@ -8,6 +8,10 @@ mod greeting_tests;
 mod held;
 mod known;
 mod looking;
+mod posting;
+#[cfg(test)]
+mod posting_tests;
+mod sending;
 mod slot;
 mod spawner;
 #[cfg(test)]
@@ -17,6 +21,8 @@ mod world;
 pub use greeting::greet;
 pub use held::Held;
 pub use known::Greeted;
+pub use posting::post_all;
+pub use sending::{OfSender, SenderEnd, send_file};
 pub use slot::{LinkSlot, SlotState};
 pub use spawner::{Anything, FailingSpawner, Spawner, ThreadSpawner};
 pub use world::{Ear, Gate, MakeFault, World};

@@ -1,6 +1,6 @@
 -- Where the record of an index stands in a journal's file, and what its first bytes show.
-use Rattle.std.proofs.Common.{◌≡◌, inl, inr, ℕ, ◌+◌, ◌-◌, ◌<◌, ◌≤◌, min, zero, suc, false, List, [], ◌∷◌, ◌++◌, length, take, drop, get_or, Some, refl, sym, ◌∙◌, ap, subst, arith, append_assoc, length-append, take-append-drop}
-use Rattle.std.specs.Prelude.{slice_get, IsSome, IfSome, is_some}
+use Rattle.std.proofs.Common.{◌≡◌, inl, inr, ℕ, ◌+◌, ◌-◌, ◌<◌, ◌≤◌, min, zero, suc, false, List, [], ◌∷◌, ◌++◌, length, take, drop, get_or, Some, Result, Ok, Err, refl, sym, ◌∙◌, ap, subst, arith, append_assoc, length-append, take-append-drop}
+use Rattle.std.specs.Prelude.{slice_get, IsSome, IfSome, OnOk, is_some}
 use Rattle.std.specs.Int.{w32, to_be_bytes, from_be_bytes}
 use Rattle.std.proofs.Math.Seq.{take-suc}
 use Rattle.std.proofs.lemmas.Bool.{cases_eq}
@@ -9,10 +9,13 @@ use Rattle.std.proofs.lemmas.List.{take_at, drop_at, drop_more, drop-drop, drop-
 use Rattle.std.proofs.lemmas.Option.{slice_get-get_or, slice_get_within}
 use Rattle.fix_journal.specs.Format.{OPEN, NAME, body_of, recorded, front, IsJournal}
 use Rattle.fix_disk.specs.Disk.{DiskSeen, HasRange}
+use Rattle.fix_disk.specs.declared.disk.DiskFailed.{DiskFailed}
 use Rattle.fix_journal.specs.Journal.{IsSound, Holds}
-use Rattle.fix_journal.specs.Cursors.{Gives, IsShortRead, Lies, Begins, IsLimit}
-use Rattle.fix_journal.proofs.SoundLemmas.{some_same, told_case, rested}
-use Rattle.fix_journal.proofs.Gates.{length-front, length-gates}
+use Rattle.fix_journal.specs.declared.index.Index.{Index}
+use Rattle.fix_journal.specs.Index.{IsLimit}
+use Rattle.fix_journal.specs.Cursors.{Gives, IsShortRead, Lies, Begins}
+use Rattle.fix_journal.proofs.SoundLemmas.{some_same, told_case, holds_of, rested}
+use Rattle.fix_journal.proofs.Gates.{length-front}
 use Rattle.fix_journal.proofs.HeadLemmas.{size_of}
 
 recorded-append : (ps qs : List (List ℕ)) → recorded (ps ++ qs) ≡ recorded ps ++ recorded qs
@@ -81,13 +84,13 @@ pub record IsAtRecord (seen : DiskSeen) (index place limit : ℕ) : Type 0 where
   pub there : (payloads : List (List ℕ)) → Holds seen payloads → (index < length payloads) × (place ≡ length (front (take index payloads))) × IsLimit payloads index limit
 
 -- a cursor at a record of an open journal, by what was read of it
-pub at_cursor : (seen : DiskSeen) (gates : List ℕ) → IsSound seen gates false → (index place i p limit : ℕ) → i ≡ index → p ≡ place → index < length gates - 1
+pub at_cursor : (seen : DiskSeen) (kept : Index) → IsSound seen kept false → (index place i p limit : ℕ) → i ≡ index → p ≡ place → index < kept.count
     → ((payloads : List (List ℕ)) → Holds seen payloads → place ≡ length (front (take index payloads))) → ((payloads : List (List ℕ)) → Holds seen payloads → IsLimit payloads i limit) → IsAtRecord seen index p limit
-at_cursor seen gates sound index place i p limit i_is p_is lt stands limited = record {
-  told = λ some. let got = sound.rests refl some in (got.0, (got.1.file, got.1.is, got.1.journal));
+at_cursor seen kept sound index place i p limit i_is p_is lt stands limited = record {
+  told = λ some. holds_of seen kept sound some;
   there = λ payloads holds.
-      let r = rested seen gates sound payloads holds in
-      (omega (arith, lt, ap length r.1, length-gates 9 payloads), p_is ∙ stands payloads holds, subst (λ n. IsLimit payloads n limit) i_is (limited payloads holds));
+      let r = rested seen kept sound payloads holds in
+      (omega (arith, lt, r.1.count), p_is ∙ stands payloads holds, subst (λ n. IsLimit payloads n limit) i_is (limited payloads holds));
 }
 
 module _ (seen : DiskSeen) (index place limit : ℕ) (at : IsAtRecord seen index place limit) where
@@ -132,6 +135,10 @@ module _ (seen : DiskSeen) (index place limit : ℕ) (at : IsAtRecord seen index
   gives_each into each payloads holds =
       let there = found_at payloads holds in
       there.is ∙ ap Some (sym (each holds.0 there.payload holds.1 there.lies))
+
+  pub gives_on_ok : {T : Type 0} (answer : Result T DiskFailed) (into : List ℕ) → ((file payload : List ℕ) → seen.bytes ≡ Some file → Lies file place limit payload → OnOk answer (into ≡ payload)) → OnOk answer (Gives seen index into)
+  gives_on_ok (Ok x) into each = gives_each into each
+  gives_on_ok (Err e) into each = tt
 
   pub short_there : (new : DiskSeen) → ((file payload : List ℕ) → seen.bytes ≡ Some file → Lies file place limit payload → length payload ≤ 4091 → IsSome seen.bytes → new.clock ≤ seen.clock + 1) → IsShortRead index seen new
   short_there new each payloads payload holds is few =

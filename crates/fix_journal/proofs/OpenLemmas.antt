@@ -1,7 +1,6 @@
 -- The opening of a journal.
-use Rattle.std.proofs.Common.{◌≡◌, inl, inr, ℕ, ◌-◌, Bool, true, false, List, [], length, Option, Some, None, Result, Ok, sym, ◌∙◌, ap, subst, arith}
-use Rattle.std.specs.Prelude.{IfSome, IsSome, is_some, Vec}
-use Rattle.std.specs.declared.alloc.Global.{Global}
+use Rattle.std.proofs.Common.{◌≡◌, inl, inr, ℕ, Bool, true, false, List, [], length, Option, Some, None, Result, Ok, sym, ◌∙◌, ap, subst, arith}
+use Rattle.std.specs.Prelude.{IfSome, IsSome, is_some}
 use Rattle.fix_base.specs.Trace.{Rises}
 use Rattle.fix_disk.specs.Disk.{DiskSeen, IsLawfulDisk, failures}
 use Rattle.fix_disk.specs.declared.disk.DiskFailed.{DiskFailed}
@@ -13,7 +12,7 @@ use Rattle.fix_journal.specs.Opening.{Rests, IsUntouched, IsUnmadeBy, Makes, Fin
 use Rattle.fix_journal.proofs.Moments.{weaker, then_on}
 use Rattle.fix_journal.proofs.SoundLemmas.{told_case}
 use Rattle.fix_journal.proofs.AsRead.{at_told}
-use Rattle.fix_journal.proofs.Gates.{length-gates}
+use Rattle.fix_journal.specs.declared.index.Index.{Index}
 use Rattle.fix_journal.proofs.CallLemmas.{lasts}
 
 not_made : (is_short : Bool) (file : List ℕ) → IsUnmadeBy is_short file → IsMade file → ⊥
@@ -70,8 +69,8 @@ module _ {T : Type 0} (answer : Result T DiskFailed) (is_short : Bool) (old new 
   }
 
 -- what was found is what is kept
-pub opened : (gates : Vec ℕ Global) (old new : DiskSeen) → IfSome old.bytes (Finds (Ok gates) new)
-    → IfSome old.bytes (λ file. (payloads : List (List ℕ)) × HasRecords file payloads × (length gates.items - 1 ≡ length payloads) × Holds new payloads × Lasts new payloads)
-opened gates old new finds = told_case old.bytes (λ file. (payloads : List (List ℕ)) × HasRecords file payloads × (length gates.items - 1 ≡ length payloads) × Holds new payloads × Lasts new payloads) (λ file is.
-    let found = subst (λ o. IfSome o (Finds (Ok gates) new)) is finds in
-    (found.0, found.1, omega (arith, ap length found.3, length-gates 9 found.0), (found.2.file, found.2.is, found.2.journal), lasts new (length (front found.0)) found.0 found.2))
+pub opened : (index : Index) (old new : DiskSeen) → IfSome old.bytes (Finds (Ok index) new)
+    → IfSome old.bytes (λ file. (payloads : List (List ℕ)) × HasRecords file payloads × (index.count ≡ length payloads) × Holds new payloads × Lasts new payloads)
+opened index old new finds = told_case old.bytes (λ file. (payloads : List (List ℕ)) × HasRecords file payloads × (index.count ≡ length payloads) × Holds new payloads × Lasts new payloads) (λ file is.
+    let found = subst (λ o. IfSome o (Finds (Ok index) new)) is finds in
+    (found.0, found.1, found.3.count, (found.2.file, found.2.is, found.2.journal), lasts new (length (front found.0)) found.0 found.2))

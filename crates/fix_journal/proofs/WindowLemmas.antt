@@ -1,5 +1,5 @@
 -- A walk over a file of which a window shows a part.
-use Rattle.std.proofs.Common.{◌≡◌, ℕ, ◌+◌, ◌-◌, ◌≤◌, min, List, [], ◌∷◌, ◌++◌, length, take, drop, ◌∙◌, ap, arith, length-drop}
+use Rattle.std.proofs.Common.{◌≡◌, ℕ, ◌+◌, ◌-◌, ◌≤◌, min, List, ◌++◌, length, take, drop, ◌∙◌, ap, arith, length-drop}
 use Rattle.std.specs.Prelude.{IfSome, is_some}
 use Rattle.std.proofs.lemmas.List.{drop-take, drop-drop, length-take, take_at, take_min}
 use Rattle.std.proofs.Math.Seq.{take-add}
@@ -10,15 +10,17 @@ use Rattle.fix_journal.proofs.RoomLemmas.{needs_then}
 use Rattle.fix_journal.specs.declared.heads.Head.{Head}
 use Rattle.fix_journal.specs.declared.heads.Head.TheVariants.{Record}
 use Rattle.fix_journal.specs.Opening.{Judges, IsWithin, IsUntouched}
+use Rattle.fix_journal.specs.declared.index.Index.{Index}
+use Rattle.fix_journal.specs.Index.{Adds}
 use Rattle.fix_journal.specs.Window.{IsWindow, GoesOn}
 use Rattle.fix_journal.specs.declared.window.Window.{Window}
 use Rattle.fix_journal.proofs.ScanLemmas.{IsScanning, passes}
 
 -- the walk, of which the window shows what comes next, the calls so far, and the room
-pub record IsWalking (old now : DiskSeen) (end gate : ℕ) (gates : List ℕ) (w : Window) : Type 0 where
-  pub scanning : IsScanning old now end gate gates
+pub record IsWalking (old now : DiskSeen) (end : ℕ) (index : Index) (w : Window) : Type 0 where
+  pub scanning : IsScanning old now end index
   pub shows : IsWindow now.bytes end w
-  pub behind : w.from ≤ gate
+  pub behind : w.from ≤ index.closed
   pub calls : GoesOn 9 w.from old now
   pub room : NeedsRoom 0 0 old now
 
@@ -40,12 +42,12 @@ shown_is file held from at count end is long le reaches few =
     ∙ ap (λ n. take n there) (omega (arith, few, left))
     ∙ take_min 5 there
 
-pub walks_on : (old mid new : DiskSeen) (end gate size : ℕ) (gates : List ℕ) (w v : Window) (head : Head) → head ≡ Record size → IsLawfulDisk mid → IsWalking old mid end gate gates w → IfSome mid.bytes (λ file. Judges head (drop gate file)) → IsWithin head (end - gate) → IsUntouched mid new → Rises 0 mid.faults new.faults
-    → IsWindow new.bytes end v → v.from ≤ gate → GoesOn w.from v.from mid new → NeedsRoom 0 0 mid new → IsWalking old new end (gate + (5 + size)) (gates ++ gate ∷ []) v
-walks_on old mid new end gate size gates w v head is laws so_far there within untouched cause shows behind calls room = record {
-  scanning = passes old mid new end gate size gates head is laws so_far.scanning there within untouched cause;
+pub walks_on : (old mid new : DiskSeen) (end size : ℕ) (index next : Index) (w v : Window) (head : Head) → head ≡ Record size → IsLawfulDisk mid → IsWalking old mid end index w → Adds (index.closed + (5 + size)) index next → IfSome mid.bytes (λ file. Judges head (drop index.closed file)) → IsWithin head (end - index.closed) → IsUntouched mid new → Rises 0 mid.faults new.faults
+    → IsWindow new.bytes end v → v.from ≤ index.closed → GoesOn w.from v.from mid new → NeedsRoom 0 0 mid new → IsWalking old new end next v
+walks_on old mid new end size index next w v head is laws so_far adds there within untouched cause shows behind calls room = record {
+  scanning = passes old mid new end size index next head is laws so_far.scanning adds there within untouched cause;
   shows = shows;
-  behind = omega (arith, behind);
+  behind = omega (arith, behind, adds.closed);
   calls = λ some. omega (arith, so_far.calls some, calls (ap is_some so_far.scanning.untouched.bytes ∙ some));
   room = needs_then 0 0 old mid new so_far.room.same room;
 }

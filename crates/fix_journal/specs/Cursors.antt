@@ -65,10 +65,6 @@ TakesNoMemory (Err Stopped) = ⊤
 TakesNoMemory (Err OutOfMemory) = ⊥
 TakesNoMemory (Err DiskFault) = ⊤
 
--- the place of a gate after the record of this index
-abbrev pub IsLimit : List (List ℕ) → ℕ → ℕ → Type 0
-IsLimit payloads index place = (n : ℕ) × (index < n) × (place ≡ length (front (take n payloads)))
-
 -- a record with this payload stands at a place of a file, and ends at or before another, where there is a byte
 pub record Lies (file : List ℕ) (place limit : ℕ) (payload : List ℕ) : Type 0 where
   pub later : List ℕ

@@ -8,8 +8,10 @@ use Rattle.fix_journal.specs.declared.fault.AppendFault.{AppendFault}
 use Rattle.fix_journal.specs.declared.fault.AppendFault.TheVariants as append
 use Rattle.fix_journal.specs.declared.fault.ReadFault.{ReadFault}
 use Rattle.fix_journal.specs.declared.fault.ReadFault.TheVariants as read
-use Rattle.fix_journal.specs.Format.{MOST_PAYLOAD, body_of, front, IsJournal}
+use Rattle.fix_journal.specs.Format.{MOST_PAYLOAD, front, IsJournal}
 use Rattle.fix_journal.specs.AtRest.{IsAtRest, IsEither}
+use Rattle.fix_journal.specs.declared.index.Index.{Index}
+use Rattle.fix_journal.specs.Index.{IsShaped, IsIndexOf}
 
 -- over a disk of type D
 pub record JournalSeen (D : Type 0) : Type 0 where
@@ -17,17 +19,12 @@ pub record JournalSeen (D : Type 0) : Type 0 where
   pub count : ℕ  -- how many records there are
   pub stopped : Bool  -- the disk failed at some call
 
--- the places of these records' gates from one on, and that of the closed gate after them
-abbrev pub gates_from : ℕ → List (List ℕ) → List ℕ
-gates_from at [] = at ∷ []
-gates_from at (payload ∷ payloads) = at ∷ gates_from (at + 1 + length (body_of payload)) payloads
-
 -- while the disk hasn't failed, and where it tells its bytes, its file has records, is on the disk, and the
--- gates are its gates
-pub record IsSound (seen : DiskSeen) (gates : List ℕ) (stopped : Bool) : Type 0 where
-  pub some : 1 ≤ length gates
+-- places that are kept are theirs
+pub record IsSound (seen : DiskSeen) (index : Index) (stopped : Bool) : Type 0 where
+  pub shaped : IsShaped index
   pub rests : stopped ≡ false → IsSome seen.bytes → (payloads : List (List ℕ))
-      × IsAtRest seen (length (front payloads)) payloads × (gates ≡ gates_from 9 payloads)
+      × IsAtRest seen (length (front payloads)) payloads × IsIndexOf index payloads
 
 -- the disk tells a file with these records
 abbrev pub Holds : DiskSeen → List (List ℕ) → Type 0
@@ -84,7 +81,8 @@ read_failures (Err read.Stopped) = 0
 read_failures (Err read.OutOfMemory) = 0
 read_failures (Err read.DiskFault) = 1
 
--- what a read of the record of this index gives, and does to the disk
+-- what a read of the record of this index gives, and does to the disk: at most 63 looks at the records between the
+-- mark and it, and two reads
 pub record JournalReads {T : Type 0} (answer : Result T ReadFault) (index : ℕ) (into : List ℕ)
     (old new : DiskSeen) : Type 0 where
   pub read : OnOk answer ((payloads : List (List ℕ)) → Holds old payloads → slice_get payloads index ≡ Some into)
@@ -93,4 +91,4 @@ pub record JournalReads {T : Type 0} (answer : Result T ReadFault) (index : ℕ)
   pub any_moment : LeavesOnly old new old.image
   pub tells_images : new.TellsImages ↔ old.TellsImages
   pub cause : Rises (read_failures answer) old.faults new.faults
-  pub calls : IsSome old.bytes → new.clock ≤ old.clock + 1
+  pub calls : IsSome old.bytes → new.clock ≤ old.clock + 65

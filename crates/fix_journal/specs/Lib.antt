@@ -2,6 +2,7 @@ pub mod Format
 pub mod Payloads
 pub mod Synced
 pub mod AtRest
+pub mod Index
 pub mod Journal
 pub mod Cursors
 pub mod Opening

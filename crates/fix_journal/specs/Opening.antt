@@ -1,6 +1,6 @@
 -- What the opening of a journal finds in its file, and does to it.
 use Rattle.std.specs.Prelude.{◌≡◌, ◌≢◌, ◌⊎◌, ◌↔◌, ℕ, ◌+◌, ◌<◌, ◌≤◌, Bool, true, false, List, [], ◌∷◌, ◌++◌, length}
-use Rattle.std.specs.Prelude.{take, drop, slice_index, Option, Some, None, IsSome, IfSome, Vec, Result, Ok, Err}
+use Rattle.std.specs.Prelude.{take, drop, slice_index, Option, Some, None, IsSome, IfSome, Result, Ok, Err}
 use Rattle.std.specs.Prelude.{OnOk, ⊤}
 use Rattle.fix_base.specs.Trace.{Rises}
 use Rattle.fix_disk.specs.Disk.{DiskSeen, Only, failures}
@@ -8,10 +8,11 @@ use Rattle.fix_disk.specs.Moments.{LeavesOnly, NeedsRoom}
 use Rattle.fix_disk.specs.declared.disk.DiskFailed.{DiskFailed}
 use Rattle.fix_journal.specs.declared.heads.Head.{Head}
 use Rattle.fix_journal.specs.declared.heads.Head.TheVariants.{Closed, Record, Broken}
-use Rattle.std.specs.declared.alloc.Global.{Global}
 use Rattle.fix_journal.specs.declared.fault.OpenFault.{OpenFault}
 use Rattle.fix_journal.specs.declared.fault.OpenFault.TheVariants.{DiskFault, Damaged, OutOfMemory}
-use Rattle.fix_journal.specs.Journal.{JournalSeen, Holds, Lasts, gates_from}
+use Rattle.fix_journal.specs.Journal.{JournalSeen, Holds, Lasts}
+use Rattle.fix_journal.specs.declared.index.Index.{Index}
+use Rattle.fix_journal.specs.Index.{IsIndexOf}
 use Rattle.fix_journal.specs.declared.surveying.Kind.{Kind}
 use Rattle.fix_journal.specs.declared.surveying.Kind.TheVariants.{Unmade, Named, Misnamed}
 use Rattle.fix_journal.specs.Format.{OPEN, NAME, IsPayload, body_of, front, IsMade, IsJournal, HasRecords}
@@ -46,8 +47,8 @@ abbrev pub IsNamed : List ℕ → Type 0
 IsNamed file = (10 ≤ length file) × (take 9 file ≡ OPEN ∷ NAME)
 
 -- what comes of a walk over the records of a file
-abbrev pub Scans : Result (Vec ℕ Global) OpenFault → List ℕ → Type 0
-Scans (Ok gates) file = (payloads : List (List ℕ)) × IsJournal file payloads × (gates.items ≡ gates_from 9 payloads)
+abbrev pub Scans : Result Index OpenFault → List ℕ → Type 0
+Scans (Ok index) file = (payloads : List (List ℕ)) × IsJournal file payloads × IsIndexOf index payloads
 Scans (Err DiskFault) file = ⊤
 Scans (Err (Damaged place)) file = Breaks file place
 Scans (Err OutOfMemory) file = ⊤
@@ -107,11 +108,11 @@ pub record Makes {T : Type 0} (answer : Result T DiskFailed) (old new : DiskSeen
   pub as_read : IfSome new.bytes (λ file. HasRecords file [])
   pub cause : Rises (failures answer) old.faults new.faults
 
--- the gates that were found, of the file as it is read at first, and how it is then; the first place at which
+-- the places that were found, of the file as it is read at first, and how it is then; the first place at which
 -- it breaks the format
-abbrev pub Finds : Result (Vec ℕ Global) OpenFault → DiskSeen → List ℕ → Type 0
-Finds (Ok gates) new file = (payloads : List (List ℕ)) × HasRecords file payloads
-    × IsAtRest new (length (front payloads)) payloads × (gates.items ≡ gates_from 9 payloads)
+abbrev pub Finds : Result Index OpenFault → DiskSeen → List ℕ → Type 0
+Finds (Ok index) new file = (payloads : List (List ℕ)) × HasRecords file payloads
+    × IsAtRest new (length (front payloads)) payloads × IsIndexOf index payloads
 Finds (Err DiskFault) new file = ⊤
 Finds (Err (Damaged place)) new file = IsDamagedAt file place
 Finds (Err OutOfMemory) new file = ⊤

@@ -60,3 +60,30 @@ fn a_walk_gives_short_and_long_payloads(rt: HostRuntime) -> Result<(), Fail> {
     assert_eq!(rt; (c.index(), c.place()), (3, 5027));
     Ok(())
 }
+
+// Records of one byte, six bytes each.
+fn ones(alloc: Global, count: usize) -> Result<Vec<u8>, OutOfMemory> {
+    let mut file = Vec::from_slice(alloc, b"\x01FIXJRNL1")?;
+    for _ in 0..count {
+        file.extend_from_slice(b"\x01\0\0\0\x01x")?;
+    }
+    file.extend_from_slice(&[0])?;
+    Ok(file)
+}
+
+#[test]
+fn every_64th_record_has_a_mark(rt: HostRuntime) -> Result<(), Fail> {
+    let alloc = rt.alloc();
+    let mut journal = holding(alloc, &ones(alloc, 127)?)?;
+    let mut into = Vec::new(alloc);
+    assert_eq!(rt; journal.append(b"y"), Ok(127));
+    assert!(rt; journal.count() >= 128);
+    assert_eq!(rt; journal.at_mark(1).place(), 393);
+    assert_eq!(rt; journal.at_mark(2).place(), 777);
+    assert!(rt; journal.read(127, &mut into).is_ok());
+    assert_eq!(rt; into.as_slice(), b"y".as_slice());
+    assert!(rt; journal.count() >= 128);
+    assert!(rt; journal.read(64, &mut into).is_ok());
+    assert_eq!(rt; into.as_slice(), b"x".as_slice());
+    Ok(())
+}

@@ -1,22 +1,23 @@
 //! The calls of a journal, for `fix_store`. `open` runs the stage `opening`, `append` runs `appending`, and
-//! `read` is one read of the disk.
+//! what reads runs `peeking`.
 ghost use Rattle.std.specs.Prelude.{◌≡◌, ◌+◌, ◌*◌, ◌^◌, ◌<◌, ◌≤◌, ◌++◌, ◌∷◌, [], false, List, ℕ, take, length, vec_len};
 ghost use Rattle.std.specs.Prelude.{vec_capacity, IfOk, IfErr, IfSome, OnOk, OnErr, Some, None};
 ghost use Rattle.fix_disk.specs.Moments.{NeedsRoom};
-ghost use Rattle.fix_journal.specs.Format.{body_of, front, file_size};
+ghost use Rattle.fix_journal.specs.Format.{MOST_PAYLOAD, body_of, file_size};
 ghost use Rattle.fix_journal.specs.Journal.{Holds, AppendAnswers, JournalAppends, append_failures, ReadAnswers};
 ghost use Rattle.fix_journal.specs.Journal.{JournalReads, read_failures};
 ghost use Rattle.fix_journal.specs.Cursors.{CursorSeen, Stands, IsPeek, Gives, ReadsFile, IsShortRead, TakesNoMemory};
-ghost use Rattle.fix_journal.specs.Cursors.{IsLimit};
+ghost use Rattle.fix_journal.specs.Index.{IsSameIndex};
 ghost use Rattle.fix_journal.specs.Opening.{IsOpened, IsCause, Opens, OpenRoom};
 ghost use Rattle.fix_journal.specs.Window.{OpenCalls};
 
 use crate::appending::append_at;
 use crate::heads::MOST_PAYLOAD;
+use crate::index::Index;
 use crate::opening::find;
-use crate::peeking::{look, past, read_record, take_room};
+use crate::peeking::{look, past, read_after, read_record, take_room};
 use crate::{AppendFault, Cursor, OpenFault, Peek, ReadFault};
-use fix_disk::{Disk, DiskFailed, put};
+use fix_disk::{Disk, DiskFailed};
 use std::alloc::{AllocError, Global};
 use std::marker::Model;
 
@@ -24,22 +25,20 @@ use std::marker::Model;
 #[derive(Drop)]
 pub struct Journal<D: Disk> {
     disk: D,
-    // The places of the records' gates, and after them that of the closed gate.
-    gates: Vec<u64>,
+    index: Index,
     // The bytes of an append. They are kept to be used again.
     staged: Vec<u8>,
     stopped: bool,
 }
 
 impl<D: Disk> Model for Journal<D> {
-    ghost use Rattle.std.specs.Prelude.{◌-◌, length};
     ghost use Rattle.fix_journal.specs.Journal.{JournalSeen, IsSound};
 
     ghost Value = { JournalSeen D };
 
-    ghost view = { λ j. record { disk = j.disk; count = length j.gates.items - 1; stopped = j.stopped } };
+    ghost view = { λ j. record { disk = j.disk; count = j.index.count; stopped = j.stopped } };
 
-    ghost invariant = { λ j. IsSound (D.disk j.disk) j.gates.items j.stopped };
+    ghost invariant = { λ j. IsSound (D.disk j.disk) j.index j.stopped };
 }
 
 /// A journal that wasn't opened: its disk, and why.
@@ -64,9 +63,9 @@ impl<D: Disk> Journal<D> {
     {
         let mut disk = disk;
         match find(alloc, &mut disk) {
-            Ok(gates) => Ok(Journal {
+            Ok(index) => Ok(Journal {
                 disk,
-                gates,
+                index,
                 staged: Vec::new(alloc),
                 stopped: false,
             }),
@@ -94,15 +93,15 @@ impl<D: Disk> Journal<D> {
         if payload.len() as u64 > MOST_PAYLOAD {
             return Err(AppendFault::TooLong);
         }
-        let index = self.gates.len() - 1;
-        let gate = self.gates[index];
-        if stage(&mut self.gates, &mut self.staged, gate, payload).is_err() {
+        let number = self.index.count;
+        let gate = self.index.closed;
+        if stage(&mut self.index, &mut self.staged, payload).is_err() {
             return Err(AppendFault::OutOfMemory);
         }
         match append_at(&mut self.disk, gate, &self.staged) {
             Ok(()) => {
-                put(&mut self.gates, gate + self.staged.len() as u64);
-                Ok(index as u64)
+                self.index.add(gate + self.staged.len() as u64);
+                Ok(number)
             }
             Err(DiskFailed) => {
                 self.stopped = true;
@@ -111,7 +110,7 @@ impl<D: Disk> Journal<D> {
         }
     }
 
-    /// Gives the payload of the record with this index.
+    /// Gives the payload of the record with this index. It goes there from the mark before it.
     pub fn read(&mut self, index: u64, into: &mut Vec<u8>) -> Result<(), ReadFault>
         requires { index < self.old.count }
         ensures answers { ReadAnswers result self.old self.new }
@@ -121,12 +120,12 @@ impl<D: Disk> Journal<D> {
         if self.stopped {
             return Err(ReadFault::Stopped);
         }
-        let start = self.gates[index as usize].saturating_add(5);
-        let size = self.gates[index as usize + 1].saturating_sub(start);
-        if fill_up(into, size).is_err() {
+        let mark = self.index.mark(index / 64);
+        let limit = self.index.limit(index);
+        if take_room(into, mark, limit).is_err() {
             return Err(ReadFault::OutOfMemory);
         }
-        match self.disk.read_at(start, into) {
+        match read_after(&mut self.disk, mark, limit, index, into) {
             Ok(()) => Ok(()),
             Err(DiskFailed) => {
                 self.stopped = true;
@@ -135,16 +134,16 @@ impl<D: Disk> Journal<D> {
         }
     }
 
-    /// A cursor at the record with the index 64 times k.
+    /// A cursor at the record with the index 64 times k, or after the last one, where there are as many.
     pub fn at_mark(&self, k: u64) -> Cursor
-        requires { 64 * k < self.now.count }
+        requires { 64 * k ≤ self.now.count }
         ensures index { result.index ≡ 64 * k }
         ensures stands { Stands D.disk self.now result }
     {
         let index = self.count().min(64 * k);
         Cursor {
             index,
-            place: self.gates[index as usize],
+            place: self.index.mark(k),
         }
     }
 
@@ -154,6 +153,7 @@ impl<D: Disk> Journal<D> {
         requires stands { Stands D.disk self.old c.now }
         ensures answers { ReadAnswers result self.old self.new }
         ensures shows { IfOk result (λ p. IsPeek D.disk self.new c.now p) }
+        ensures few { IfOk result (λ p. p.length ≤ MOST_PAYLOAD) }
         ensures stands { Stands D.disk self.new c.now }
         ensures moves { ReadsFile (read_failures result) 1 (D.disk self.old.disk) (D.disk self.new.disk) }
         ensures memory { TakesNoMemory result }
@@ -162,7 +162,7 @@ impl<D: Disk> Journal<D> {
         if self.stopped {
             return Err(ReadFault::Stopped);
         }
-        let limit = self.limit(c.index());
+        let limit = self.index.limit(c.index());
         match look(&mut self.disk, c.place(), limit) {
             Ok(peek) => Ok(peek),
             Err(DiskFailed) => {
@@ -180,7 +180,7 @@ impl<D: Disk> Journal<D> {
         ensures index { c.new.index ≡ c.old.index + 1 }
         ensures stands { Stands D.disk self.now c.new }
     {
-        let limit = self.limit(c.index());
+        let limit = self.index.limit(c.index());
         *c = Cursor {
             index: c.index() + 1,
             place: past(c.place(), 5 + p.length as u64, limit),
@@ -201,7 +201,7 @@ impl<D: Disk> Journal<D> {
         if self.stopped {
             return Err(ReadFault::Stopped);
         }
-        let limit = self.limit(c.index());
+        let limit = self.index.limit(c.index());
         let start = past(c.place(), 5, limit);
         if fill_up(into, (p.length as u64).min(limit - start)).is_err() {
             return Err(ReadFault::OutOfMemory);
@@ -232,7 +232,7 @@ impl<D: Disk> Journal<D> {
         if self.stopped {
             return Err(ReadFault::Stopped);
         }
-        let limit = self.limit(c.index());
+        let limit = self.index.limit(c.index());
         if take_room(into, c.place(), limit).is_err() {
             return Err(ReadFault::OutOfMemory);
         }
@@ -255,16 +255,7 @@ impl<D: Disk> Journal<D> {
     pub fn count(&self) -> u64
         ensures { result ≡ self.now.count }
     {
-        self.gates.len() as u64 - 1
-    }
-
-    /// The place in the file of the gate of the record with this index.
-    pub fn place(&self, index: u64) -> u64
-        requires { index < self.now.count }
-        ensures { self.now.stopped ≡ false → (payloads : List (List ℕ)) → Holds (D.disk self.now.disk) payloads
-            → result ≡ length (front (take index payloads)) }
-    {
-        self.gates[index as usize]
+        self.index.count
     }
 
     /// The disk.
@@ -273,36 +264,21 @@ impl<D: Disk> Journal<D> {
     {
         self.disk
     }
-
-    // The place of a gate after the record with this index.
-    fn limit(&self, index: u64) -> u64
-        requires { index < self.now.count }
-        ensures few { index + 1 < 2 ^ 64 }
-        ensures is { self.now.stopped ≡ false → (payloads : List (List ℕ)) → Holds (D.disk self.now.disk) payloads
-            → IsLimit payloads index result }
-    {
-        self.gates[index as usize + 1]
-    }
 }
 
-// Puts the bytes of an append together, and takes room for its gate. A file that would pass the
+// Puts the bytes of an append together, and takes room for a mark. A file that would pass the
 // greatest length has no room.
-fn stage(
-    gates: &mut Vec<u64>,
-    staged: &mut Vec<u8>,
-    gate: u64,
-    payload: &[u8],
-) -> Result<(), AllocError>
+fn stage(index: &mut Index, staged: &mut Vec<u8>, payload: &[u8]) -> Result<(), AllocError>
     requires { length payload.now ≤ 1114112 }
-    ensures gates { gates.new.items ≡ gates.old.items }
+    ensures same { IsSameIndex index.old index.new }
     ensures staged { IfOk result (λ _. staged.new.items ≡ body_of payload.now ++ 0 ∷ []) }
-    ensures room { IfOk result (λ _. vec_len gates.new < vec_capacity gates.new) }
-    ensures small { IfOk result (λ _. gate + length payload.now + 5 < 2 ^ 64) }
+    ensures room { IfOk result (λ _. vec_len index.new.marks < vec_capacity index.new.marks) }
+    ensures small { IfOk result (λ _. index.old.closed + length payload.now + 5 < 2 ^ 64) }
 {
-    if gate > u64::MAX - 2_000_000 {
+    if index.closed > u64::MAX - 2_000_000 {
         return Err(AllocError);
     }
-    gates.reserve(1)?;
+    index.reserve()?;
     staged.clear();
     staged.extend_from_slice(&(payload.len() as u32).to_be_bytes())?;
     staged.extend_from_slice(payload)?;

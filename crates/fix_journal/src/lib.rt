@@ -7,6 +7,7 @@ mod cursor;
 mod cursor_tests;
 mod fault;
 mod heads;
+mod index;
 mod journal;
 mod laws;
 mod making;

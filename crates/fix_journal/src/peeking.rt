@@ -1,10 +1,13 @@
 //! Reads records whose places are known, none past a place where there is a byte. Lengths are read from the file:
 //! one that no record has, as a disk may give that doesn't tell its bytes, is cut down. `journal` calls this.
 ghost use Rattle.std.specs.Prelude.{◌≡◌, ◌+◌, ◌-◌, ◌≤◌, min, List, ℕ, take, drop, length, vec_capacity, Some, IfOk};
-ghost use Rattle.std.specs.Prelude.{OnOk, slice_index};
+ghost use Rattle.std.specs.Prelude.{OnOk, slice_index, IsSome};
 ghost use Rattle.fix_disk.specs.Disk.{HasRange, failures};
 ghost use Rattle.fix_disk.specs.Moments.{NeedsRoom};
-ghost use Rattle.fix_journal.specs.Cursors.{Shows, ReadsFile, MOST_AT_ONCE, Lies, Begins};
+ghost use Rattle.fix_journal.specs.Format.{MOST_PAYLOAD};
+ghost use Rattle.fix_journal.specs.Journal.{Holds};
+ghost use Rattle.fix_journal.specs.Index.{IsUnderMark};
+ghost use Rattle.fix_journal.specs.Cursors.{Shows, Gives, ReadsFile, MOST_AT_ONCE, Lies, Begins};
 ghost use Rattle.fix_journal.specs.Window.{CallsAtMost};
 
 use crate::Peek;
@@ -20,6 +23,7 @@ pub(crate) fn look<D: Disk>(disk: &mut D, place: u64, limit: u64) -> Result<Peek
     requires { HasRange (D.disk disk.old).bytes place (limit - place) }
     ensures shows { (file payload : List ℕ) → (D.disk disk.old).bytes ≡ Some file → Lies file place limit payload
         → IfOk result (λ p. Shows p payload) }
+    ensures few { IfOk result (λ p. p.length ≤ MOST_PAYLOAD) }
     ensures moves { ReadsFile (failures result) 1 (D.disk disk.old) (D.disk disk.new) }
     ensures room { NeedsRoom (failures result) 0 (D.disk disk.old) (D.disk disk.new) }
 {
@@ -63,10 +67,37 @@ pub(crate) fn read_record<D: Disk>(
     disk.read_at(past(place, 5, limit), into)
 }
 
+// Reads the payload of the record with this index. Its mark's gate is at a place.
+pub(crate) fn read_after<D: Disk>(
+    disk: &mut D,
+    mark: u64,
+    limit: u64,
+    index: u64,
+    into: &mut Vec<u8>,
+) -> Result<(), DiskFailed>
+    requires told { IsSome (D.disk disk.old).bytes → (payloads : List (List ℕ)) × Holds (D.disk disk.old) payloads }
+    requires there { (payloads : List (List ℕ)) → Holds (D.disk disk.old) payloads
+        → IsUnderMark payloads mark limit index }
+    requires room { min (limit - mark) 1114117 ≤ vec_capacity into.old }
+    ensures read { OnOk result (Gives (D.disk disk.old) index into.new.items) }
+    ensures moves { ReadsFile (failures result) 65 (D.disk disk.old) (D.disk disk.new) }
+    ensures room { NeedsRoom (failures result) 0 (D.disk disk.old) (D.disk disk.new) }
+{
+    let mut place = mark;
+    for done in 0..index % 64 {
+        match look(disk, place, limit) {
+            Ok(p) => place = past(place, 5 + p.length as u64, limit),
+            Err(DiskFailed) => return Err(DiskFailed),
+        }
+    }
+    read_record(disk, place, limit, into)
+}
+
 // The place so many bytes after another, and no further than a limit.
 pub(crate) fn past(place: u64, count: u64, limit: u64) -> u64
     ensures is { place + count ≤ limit → result ≡ place + count }
     ensures within { result ≤ limit }
+    ensures from { min place limit ≤ result }
 {
     place.saturating_add(count).min(limit)
 }
@@ -81,7 +112,8 @@ pub(crate) fn take_room(into: &mut Vec<u8>, place: u64, limit: u64) -> Result<()
 
 // What the first bytes from a gate on show.
 fn peek_in(head: &[u8], most: u64) -> Peek
-    ensures { (payload : List ℕ) → Begins head.now payload → length payload ≤ 1114112 → length payload ≤ most
+    ensures few { result.length ≤ MOST_PAYLOAD }
+    ensures shows { (payload : List ℕ) → Begins head.now payload → length payload ≤ 1114112 → length payload ≤ most
         → Shows result payload }
 {
     let size = size_in(head, most);

@@ -1,4 +1,4 @@
-//! Goes through a made file from gate to gate, and gives their places, or the place where the file is damaged.
+//! Goes through a made file from gate to gate, and gives the places that are kept, or where the file is damaged.
 //! `opening` calls this.
 ghost use Rattle.std.specs.Prelude.{◌≡◌, ◌+◌, ◌<◌, ◌≤◌, ◌-◌, ◌*◌, ◌/◌, drop, length, IfOk, IfSome, IsSome};
 ghost use Rattle.fix_base.specs.Trace.{Rises};
@@ -6,21 +6,23 @@ ghost use Rattle.fix_disk.specs.Disk.{failures};
 ghost use Rattle.fix_disk.specs.Moments.{NeedsRoom};
 ghost use Rattle.fix_journal.specs.Opening.{Judges, IsWithin, IsUntouched, Scans, open_failures, fault_of};
 ghost use Rattle.fix_journal.specs.Opening.{HasLength, IsNamed};
+ghost use Rattle.fix_journal.specs.Index.{IsShaped};
 ghost use Rattle.fix_journal.specs.Window.{IsWindow, GoesOn, CallsAtMost};
 
 use crate::OpenFault;
 use crate::heads::{Head, judge};
+use crate::index::Index;
 use crate::window::{Window, blank_window, reach, read_from, shown};
 use fix_disk::{Disk, DiskFailed};
 use std::alloc::Global;
 
-// Finds the gates of a made file of `end` bytes with the name in it. Its room is taken before the
+// Finds the records of a made file of `end` bytes with the name in it. Its room is taken before the
 // first read, and does not grow with the file.
-pub(crate) fn scan<D: Disk>(alloc: Global, disk: &mut D, end: u64) -> Result<Vec<u64>, OpenFault>
+pub(crate) fn scan<D: Disk>(alloc: Global, disk: &mut D, end: u64) -> Result<Index, OpenFault>
     requires long { 10 ≤ end }
     requires told { HasLength (D.disk disk.old).bytes end }
     requires named { IfSome (D.disk disk.old).bytes IsNamed }
-    ensures some { IfOk result (λ gates. 1 ≤ length gates.items) }
+    ensures shaped { IfOk result IsShaped }
     ensures found { IfSome (D.disk disk.old).bytes (Scans result) }
     ensures untouched { IsUntouched (D.disk disk.old) (D.disk disk.new) }
     ensures cause { Rises (open_failures (fault_of result)) (D.disk disk.old).faults (D.disk disk.new).faults }
@@ -64,36 +66,40 @@ fn look_at<D: Disk>(
     }
 }
 
-// Finds the gates of a made file of `end` bytes with the name in it, of which the window shows the
+// Finds the records of a made file of `end` bytes with the name in it, of which the window shows the
 // first.
 fn walk<D: Disk>(
     alloc: Global,
     disk: &mut D,
     window: &mut Window,
     end: u64,
-) -> Result<Vec<u64>, OpenFault>
+) -> Result<Index, OpenFault>
     requires long { 10 ≤ end }
     requires told { HasLength (D.disk disk.old).bytes end }
     requires named { IfSome (D.disk disk.old).bytes IsNamed }
     requires shows { IsWindow (D.disk disk.old).bytes end window.old }
     requires from { window.old.from ≡ 9 }
-    ensures some { IfOk result (λ gates. 1 ≤ length gates.items) }
+    ensures shaped { IfOk result IsShaped }
     ensures found { IfSome (D.disk disk.old).bytes (Scans result) }
     ensures untouched { IsUntouched (D.disk disk.old) (D.disk disk.new) }
     ensures cause { Rises (open_failures (fault_of result)) (D.disk disk.old).faults (D.disk disk.new).faults }
     ensures room { NeedsRoom (open_failures (fault_of result)) 0 (D.disk disk.old) (D.disk disk.new) }
     ensures calls { GoesOn 9 end (D.disk disk.old) (D.disk disk.new) }
 {
-    let mut gates = Vec::new(alloc);
-    let mut gate = 9;
+    let Ok(mut index) = Index::of_none(alloc) else {
+        return Err(OpenFault::OutOfMemory);
+    };
     loop {
-        if gates.push(gate).is_err() {
-            return Err(OpenFault::OutOfMemory);
-        }
-        match look_at(disk, window, gate, end) {
-            Ok(Head::Closed) => return Ok(gates),
-            Ok(Head::Record(size)) => gate += 5 + size,
-            Ok(Head::Broken) => return Err(OpenFault::Damaged(gate)),
+        match look_at(disk, window, index.closed, end) {
+            Ok(Head::Closed) => return Ok(index),
+            Ok(Head::Record(size)) => {
+                let next = index.closed + (5 + size);
+                if index.reserve().is_err() {
+                    return Err(OpenFault::OutOfMemory);
+                }
+                index.add(next);
+            }
+            Ok(Head::Broken) => return Err(OpenFault::Damaged(index.closed)),
             Err(DiskFailed) => return Err(OpenFault::DiskFault),
         }
     }

@@ -6,3 +6,8 @@ pub mod CompleteLemmas
 pub mod NoteLemmas
 pub mod ReadLemmas
 pub mod StepLeads
+pub mod ToldLemmas
+pub mod ClearLemmas
+pub mod TableLemmas
+pub mod DecideLemmas
+pub mod PossibleLemmas

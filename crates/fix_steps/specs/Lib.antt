@@ -5,3 +5,4 @@ pub mod Causes
 pub mod Notes
 pub mod Stated
 pub mod Lawful
+pub mod Told

@@ -1,12 +1,18 @@
 //! What holds of each answer that is carried out, each law on a function that does nothing.
-ghost use Rattle.std.specs.Prelude.{ℕ, List, Option, Result, ⊤};
+ghost use Rattle.std.specs.Prelude.{◌≡◌, ℕ, List, Option, Some, None, Result, ⊤};
 ghost use Rattle.std.specs.List.{AllByRecursion};
 ghost use Rattle.fix_base.specs.declared.identity.Identity.{Identity};
 ghost use Rattle.fix_base.specs.Session.{IsValidIdentity};
+ghost use Rattle.fix_base.specs.Fields.{Field};
 ghost use Rattle.fix_base.specs.Message.{Message};
 ghost use Rattle.fix_base.specs.Payload.{IsPersistentEntry};
+ghost use Rattle.fix_base.specs.Says.{HasFields, message_of};
 ghost use Rattle.fix_base.specs.Trace.{Note};
-ghost use Rattle.fix_machine.specs.Event.{StepSeen};
+ghost use Rattle.fix_machine.specs.declared.state.MachineState.{MachineState};
+ghost use Rattle.fix_machine.specs.declared.state.Options.{Options};
+ghost use Rattle.fix_machine.specs.Event.{Inbound, StepSeen, EventSeen, Frame};
+ghost use Rattle.fix_machine.specs.Decide.{answer_to};
+ghost use Rattle.fix_machine.specs.Numbers.{expected_after, IsNoMessage};
 ghost use Rattle.fix_stage.specs.declared.sender.Sender.{Sender};
 ghost use Rattle.fix_stage.specs.Stated.{Total, Resumes, IsTimely};
 ghost use Rattle.fix_stage.specs.Lawful.{LeadsFrom};
@@ -15,7 +21,9 @@ ghost use Rattle.fix_steps.specs.declared.ending.Ending.{Ending};
 ghost use Rattle.fix_steps.specs.declared.ending.Ending.TheVariants as ending;
 ghost use Rattle.fix_steps.specs.Notes.{AnswersOnly};
 ghost use Rattle.fix_steps.specs.Stated.{IsRead};
-ghost use Rattle.fix_steps.specs.Lawful.{Standing, MayAnswer, IsAnswered, InStep, Stands, AfterEnding};
+ghost use Rattle.fix_steps.specs.Lawful.{Standing, MayAnswer, BeginsPlainly, WasReadIn, IsAnswered, InStep};
+ghost use Rattle.fix_steps.specs.Lawful.{Stands, AfterEnding};
+ghost use Rattle.fix_steps.specs.Told.{IsTold, IsOther, MayBeDone, IsBounded, IsPossibleAnswer};
 
 /// What is out of memory would have gone on, and what is not has an end: no answer is left without one.
 pub fn what_is_out_of_memory_would_have_gone_on()
@@ -41,4 +49,41 @@ pub fn an_answer_sends_and_hands_over()
         → (b : Sender) → IsTimely b → (notes : List Note) (r : Result ⊤ Ending) (to : Sender)
         → AllByRecursion IsPersistentEntry b.stage.entries → Carried id frame steps b notes r to
         → AnswersOnly IsPersistentEntry frame notes to }
+{}
+
+/// Whatever the machine decides may be done, where it is carried out here: at a message, of which it was told what the
+/// fields say, and at any other event. The number that its steps say is that of its state
+/// (`the_steps_say_the_numbers` of `fix_machine`).
+pub fn what_is_decided_may_be_done()
+    ensures message { (o : Options) (s : MachineState) (fields : List Field) (i : Inbound) (frame : Option (List ℕ))
+        → IsTold fields i → AllByRecursion (IsCarried frame) (answer_to o s (Frame i)).steps
+        → MayBeDone (message_of fields) s.expected (answer_to o s (Frame i)) }
+    ensures other { (o : Options) (s : MachineState) (e : EventSeen) → IsOther s e → (x : Option Message)
+        → MayBeDone x s.expected (answer_to o s e) }
+{}
+
+/// So what the machine decides is lawful: from an end in step with the session and the machine's expected number, the
+/// answer's acts are a run of that end, to one in step with the number that its steps say.
+pub fn what_is_decided_is_lawful()
+    ensures message { (id : Identity) (read text : List ℕ) (fields : List Field) (o : Options) (s : MachineState)
+        (i : Inbound) → IsValidIdentity id → HasFields text fields → BeginsPlainly read
+        → ((y : Message) → message_of fields ≡ Some y → WasReadIn read y) → IsTold fields i
+        → AllByRecursion (IsCarried (Some text)) (answer_to o s (Frame i)).steps
+        → LeadsFrom id (AfterEnding id read) (InStep id read s.expected)
+        (Carried id (Some text) (answer_to o s (Frame i)).steps)
+        (InStep id read (expected_after (answer_to o s (Frame i)).steps s.expected)) }
+    ensures other { (id : Identity) (read : List ℕ) (o : Options) (s : MachineState) (e : EventSeen)
+        → IsValidIdentity id → IsOther s e → AllByRecursion (IsCarried None) (answer_to o s e).steps
+        → LeadsFrom id (AfterEnding id read) (InStep id read s.expected) (Carried id None (answer_to o s e).steps)
+        (InStep id read (expected_after (answer_to o s e).steps s.expected)) }
+{}
+
+/// What the machine decides is carried out here, or is a step that has no part here yet, where it names no application
+/// version; and its numbers stay within their bounds.
+pub fn what_is_decided_is_possible()
+    ensures message { (text : List ℕ) (fields : List Field) → HasFields text fields → (i : Inbound) → IsTold fields i
+        → (o : Options) (s : MachineState) → o.version ≡ None → IsBounded s
+        → IsPossibleAnswer (Some text) (answer_to o s (Frame i)) }
+    ensures other { (o : Options) (s : MachineState) (e : EventSeen) → IsNoMessage e → o.version ≡ None → IsBounded s
+        → IsPossibleAnswer None (answer_to o s e) }
 {}

@@ -19,15 +19,15 @@ use std::alloc::Global;
 use std::test::Fail;
 
 // An order of the counterparty whose ClOrdID (11) is A1, number 3, sent again.
-const ORDER: &[u8] =
-    b"8=FIX.4.2\x019=61\x0135=D\x0134=3\x0143=Y\x0149=BUY\x0152=20240102-10:00:00.000\x0156=SELL\x0111=A1\x0110=243\x01";
+const ORDER: &[u8] = b"8=FIX.4.2\x019=61\x0135=D\x0134=3\x0143=Y\x0149=BUY\
+        \x0152=20240102-10:00:00.000\x0156=SELL\x0111=A1\x0110=243\x01";
 
 // The Reject of number 3, for reason 9, under number 2; and a Logout under number 3.
-const REJECT: &[u8] =
-    b"8=FIX.4.2\x019=85\x0135=3\x0134=2\x0149=SELL\x0152=20240102-10:00:00.000\x0156=BUY\x0145=3\x01372=D\x01373=9\x0158=CompID problem\x0110=187\x01";
+const REJECT: &[u8] = b"8=FIX.4.2\x019=85\x0135=3\x0134=2\x0149=SELL\
+        \x0152=20240102-10:00:00.000\x0156=BUY\x0145=3\x01372=D\x01373=9\x0158=CompID problem\x0110=187\x01";
 
-const LOGOUT: &[u8] =
-    b"8=FIX.4.2\x019=68\x0135=5\x0134=3\x0149=SELL\x0152=20240102-10:00:00.000\x0156=BUY\x0158=CompID problem\x0110=179\x01";
+const LOGOUT: &[u8] = b"8=FIX.4.2\x019=68\x0135=5\x0134=3\x0149=SELL\
+        \x0152=20240102-10:00:00.000\x0156=BUY\x0158=CompID problem\x0110=179\x01";
 
 // 2024-01-02 10:00:00, in microseconds since 1970.
 const TIME: u64 = 1_704_189_600_000_000;

@@ -1,9 +1,8 @@
 -- The opening of a store: that of its journal, the walk over the records, and the mark.
-use Rattle.std.proofs.Common.{◌≡◌, ◌⊎◌, ◌↔◌, inl, inr, ℕ, ◌≤◌, Bool, true, false, List, [], ◌∷◌, ◌++◌, length, Option, Some, None, Result, Ok, Err, refl, sym, ◌∙◌, ap, subst, arith, length-append, true≢false}
+use Rattle.std.proofs.Common.{◌≡◌, ◌⊎◌, ◌↔◌, inl, inr, ℕ, Bool, true, false, List, [], ◌∷◌, ◌++◌, length, Option, Some, None, Result, Ok, Err, refl, sym, ◌∙◌, ap, subst, arith, length-append, true≢false}
 use Rattle.std.proofs.lemmas.Bool.{cases_lt, cases_eq}
 use Rattle.std.specs.Prelude.{⊤, map, IfSome, IfOk, IsSome, is_some, slice_index, if◌then◌else◌}
 use Rattle.fix_base.specs.End.{End, new_end}
-use Rattle.fix_base.specs.Trace.{Rises}
 use Rattle.fix_disk.specs.Disk.{DiskSeen, IsLawfulDisk}
 use Rattle.fix_disk.specs.Moments.{LeavesOnly}
 use Rattle.fix_journal.specs.declared.fault.OpenFault.{OpenFault}
@@ -22,12 +21,13 @@ use Rattle.fix_store.specs.declared.fault.StoreFault.TheVariants as fault
 use Rattle.fix_store.specs.declared.folding.Folded.{Folded}
 use Rattle.fix_store.specs.declared.changing.Change.TheVariants as change
 use Rattle.fix_store.specs.Spelling.{Item, marks, spelled_item, MARK}
-use Rattle.fix_store.specs.Reading.{new_content, taken, taken_all, MayFollow, IsStoreOf, HasEnd}
+use Rattle.fix_store.specs.Reading.{new_content, taken_all, MayFollow, IsStoreOf, HasEnd}
 use Rattle.fix_store.specs.Store.{stored_of, withheld_of, TellsEnd, HoldsEnd, LastsEnd, store_failures, fault_of}
 use Rattle.fix_store.specs.Keeping.{AppendAnswers, Appends}
 use Rattle.fix_store.specs.Opening.{marked_items, HoldsItems, IsCause, IsLeftByOpening, HasSameEnd, StaysWhereRefused, StoreOpens}
-use Rattle.fix_store.specs.Folding.{Fold, fold_of, fold_with, stored_in, IsFoldOf, IsWithin, IsKeptOf, IsSound, GoesOn, Reads, Folds}
-use Rattle.fix_store.specs.Marking.{adding_fault, Adds, Marks}
+use Rattle.fix_store.specs.Folding.{Fold, fold_of, fold_with, stored_in, IsWithin, IsKeptOf, GoesOn, Reads, Folds}
+use Rattle.fix_store.specs.Sound.{IsSound}
+use Rattle.fix_store.specs.Marking.{adding_fault, Marks}
 use Rattle.fix_store.proofs.RecordLists.{length-map, fold-push}
 use Rattle.fix_store.proofs.Places.{within_step}
 use Rattle.fix_store.proofs.KeepLemmas.{end_of, end_with, kept_read, kept_then}
@@ -424,7 +424,7 @@ module _ {D : Type 0} (disk : D → DiskSeen) (old : DiskSeen) (mid walked new :
     then_within : (unmarked : f.marked ≡ false) (answer : Result ℕ StoreFault) → None ≡ adding_fault answer → AppendAnswers answer walked new → IfOk answer (λ index. g ≡ fold_with index f change.Mark) → IsWithin f walked.count → IsWithin g new.count × (g.marked ≡ true) × (new.stopped ≡ false)
     then_within unmarked (Ok index) none answers g_is within =
         subst (λ h. IsWithin h new.count × (h.marked ≡ true) × (new.stopped ≡ false)) (sym g_is)
-        (within_step f walked.count index new.count within (omega (arith, answers.0, answers.1)) (omega (arith, answers.1)) marks tt unmarked, refl, answers.2)
+        (within_step f walked.count index new.count within answers.0 answers.1 marks tt unmarked, refl, answers.2)
     then_within unmarked (Err fault.Stopped) none answers g_is within = absurd answers
     then_within unmarked (Err fault.NumbersSpent) none answers g_is within = absurd answers
     then_within unmarked (Err fault.OutOfMemory) none answers g_is within = absurd (true≢false (sym (ap is_some none)))
@@ -441,14 +441,15 @@ module _ {D : Type 0} (disk : D → DiskSeen) (old : DiskSeen) (mid walked new :
           then_within unmarked a.answer a.is a.answers a.fold (subst (IsWithin f) (sym goes.count) within))
     ]
 
-    pub mark_sound : IsWithin f mid.count → (stopped : Bool) → stopped ≡ false → IsSound disk new g stopped
+    pub mark_sound : IsWithin f mid.count → (stopped : Bool) → stopped ≡ false → IsSound disk new g None stopped
     mark_sound within stopped is =
         let so = goes_so within in
         record {
           stops = is ∙ sym so.2;
           within = so.0;
           marked = so.1;
+          spots = tt;
           kept = λ still some.
               let file = at_told old.bytes (new_told some) in
-              (marked_items (walk_found file.0 file.1).items, kept_new file.0 file.1);
+              (marked_items (walk_found file.0 file.1).items, kept_new file.0 file.1, tt);
         }

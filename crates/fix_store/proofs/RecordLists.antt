@@ -1,10 +1,9 @@
 -- Lists of items, each of which may stand after those before it.
-use Rattle.std.proofs.Common.{◌≡◌, ℕ, ◌+◌, ◌≤◌, zero, suc, List, [], ◌∷◌, ◌++◌, length, drop, get_or, Some, refl, sym, ◌∙◌, ap, subst, arith, length-append}
-use Rattle.std.specs.Prelude.{map, slice_get, IfSome}
+use Rattle.std.proofs.Common.{◌≡◌, ℕ, ◌+◌, ◌<◌, zero, suc, List, [], ◌∷◌, ◌++◌, length, take, drop, get_or, Some, refl, sym, ◌∙◌, ap, subst, arith}
+use Rattle.std.specs.Prelude.{map, option_map, slice_get, IfSome}
 use Rattle.fix_base.specs.declared.entry.Record.{Record}
 use Rattle.fix_base.specs.declared.entry.Record.TheVariants.{Push, Expect, Many, Withhold, Reset, ResetAsk, Confirm}
 use Rattle.fix_base.specs.Payload.{IsKeepable}
-use Rattle.fix_base.specs.End.{End}
 use Rattle.fix_base.proofs.WroteLemmas.{IsEntry-inside}
 use Rattle.fix_store.specs.Spelling.{Item, keeps, marks, spelled_item}
 use Rattle.fix_store.specs.Reading.{Content, taken, taken_all, MayFollow, MayBeKept, MayAllFollow}
@@ -93,3 +92,51 @@ one_bad s (x ∷ xs) (y ∷ ys) p p' l l' all all' bad bad' same =
     let first : x ≡ y = one_item x y (fits s x all.0) (fits s y all'.0) (head (spelled_item x) (spelled_item y) (map spelled_item xs ++ p ∷ l) (map spelled_item ys ++ p' ∷ l') same) in
     let later = one_bad (taken s x) xs ys p p' l l' all.1 (subst (λ z. MayAllFollow (taken s z) ys) (sym first) all'.1) bad (subst (λ z. IsBad (taken s z) ys p') (sym first) bad') (tail (spelled_item x) (spelled_item y) (map spelled_item xs ++ p ∷ l) (map spelled_item ys ++ p' ∷ l') same) in
     λ k. first k ∷ later k
+
+-- ---- one item of a list
+
+-- more items after it leave an item where it is
+pub get_front : {A : Type 0} (xs ys : List A) (i : ℕ) (x : A) → slice_get xs i ≡ Some x → slice_get (xs ++ ys) i ≡ Some x
+get_front [] ys i x is = absurd (subst (λ o. IfSome o (λ z. ⊥)) is tt)
+get_front (y ∷ xs) ys zero x is = is
+get_front (y ∷ xs) ys (suc i) x is = get_front xs ys i x is
+
+pub get_at : {A : Type 0} (xs : List A) (x : A) (ys : List A) → slice_get (xs ++ x ∷ ys) (length xs) ≡ Some x
+get_at [] x ys = refl
+get_at (y ∷ xs) x ys = get_at xs x ys
+
+pub get_map : {A B : Type 0} (f : A → B) (xs : List A) (i : ℕ) (x : A) → slice_get xs i ≡ Some x → slice_get (map f xs) i ≡ Some (f x)
+get_map f [] i x is = absurd (subst (λ o. IfSome o (λ z. ⊥)) is tt)
+get_map f (y ∷ xs) zero x is = ap (option_map f) is
+get_map f (y ∷ xs) (suc i) x is = get_map f xs i x is
+
+-- an item after the first list
+pub get_past : {A : Type 0} (xs ys : List A) (m : ℕ) → slice_get (xs ++ ys) (length xs + m) ≡ slice_get ys m
+get_past [] ys m =
+    let none : 0 + m ≡ m = omega arith in
+    ap (slice_get ys) none
+get_past (y ∷ xs) ys m =
+    let next : suc (length xs) + m ≡ suc (length xs + m) = omega arith in
+    ap (slice_get (y ∷ (xs ++ ys))) next ∙ get_past xs ys m
+
+pub get_inside : {A : Type 0} (xs : List A) (i : ℕ) (x : A) → slice_get xs i ≡ Some x → i < length xs
+get_inside [] i x is = absurd (subst (λ o. IfSome o (λ z. ⊥)) is tt)
+get_inside (y ∷ xs) zero x is = omega arith
+get_inside (y ∷ xs) (suc i) x is = let rest = get_inside xs i x is in omega (arith, rest)
+
+pub record Splits {A : Type 0} (xs : List A) (i : ℕ) : Type 0 where
+  pub item : A
+  pub there : slice_get xs i ≡ Some item
+  pub is : xs ≡ take i xs ++ item ∷ drop (suc i) xs
+
+pub splits : {A : Type 0} (xs : List A) (i : ℕ) → i < length xs → Splits xs i
+splits [] i lt = absurd (omega (arith, lt))
+splits (x ∷ xs) zero lt = record { item = x; there = refl; is = refl }
+splits (x ∷ xs) (suc i) lt =
+    let s = splits xs i (omega (arith, lt)) in
+    record { item = s.item; there = s.there; is = ap (λ l. x ∷ l) s.is }
+
+pub take_more : {A : Type 0} (xs : List A) (i : ℕ) (x : A) → slice_get xs i ≡ Some x → take (suc i) xs ≡ take i xs ++ x ∷ []
+take_more [] i x is = absurd (subst (λ o. IfSome o (λ z. ⊥)) is tt)
+take_more (y ∷ xs) zero x is = ap (λ z. z ∷ []) (subst (λ o. IfSome o (λ z. y ≡ z)) is refl)
+take_more (y ∷ xs) (suc i) x is = ap (λ l. y ∷ l) (take_more xs i x is)

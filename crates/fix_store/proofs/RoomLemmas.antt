@@ -11,7 +11,7 @@ use Rattle.fix_disk.specs.Moments.{NeedsRoom}
 use Rattle.fix_journal.specs.declared.fault.OpenFault.{OpenFault}
 use Rattle.fix_journal.specs.declared.fault.OpenFault.TheVariants as open_fault
 use Rattle.fix_journal.specs.Format.{body_of, file_size, IsMade, IsJournal, HasRecords}
-use Rattle.fix_journal.specs.Journal.{JournalSeen, Holds, Lasts}
+use Rattle.fix_journal.specs.Journal.{JournalSeen, Holds}
 use Rattle.fix_journal.specs.Opening as journal
 use Rattle.fix_journal.specs.Opening.{Opens, open_failures}
 use Rattle.fix_journal.specs.Payloads.{payloads_in}
@@ -30,7 +30,9 @@ use Rattle.fix_store.specs.Reading.{new_content, taken_all, MayFollow, IsStoreOf
 use Rattle.fix_store.specs.Ends.{item_in, is_marked}
 use Rattle.fix_store.specs.Store.{fault_of, store_failures}
 use Rattle.fix_store.specs.Keeping.{Appends}
-use Rattle.fix_store.specs.Folding.{Fold, fold_of, IsKeptOf, IsSound, GoesOn, Reads, Folds}
+use Rattle.fix_store.specs.Folding.{Fold, fold_of, IsKeptOf, GoesOn, Reads, Folds}
+use Rattle.fix_store.specs.declared.finding.Found.{Found}
+use Rattle.fix_store.specs.Sound.{IsSound}
 use Rattle.fix_store.specs.Rooms.{used, needed, room_in, room_left, KeepRoom, OpenRoom}
 use Rattle.fix_store.proofs.Ends.{content_is}
 use Rattle.fix_store.proofs.Spellings.{length_entry, length_many}
@@ -140,7 +142,7 @@ left_of seen count items f kept marked = room_kept_of seen count items f kept �
 
 -- ---- a record that is kept
 
-module _ {D : Type 0} (disk : D → DiskSeen) (journal : JournalSeen D) (f : Fold) (sound : IsSound disk journal f false) (r : Record) (payload : List ℕ) (new : JournalSeen D) (is : payload ≡ spelled r) (same : (disk new.disk).room ≡ (disk journal.disk).room) where
+module _ {D : Type 0} (disk : D → DiskSeen) (journal : JournalSeen D) (f : Fold) (near : Option Found) (sound : IsSound disk journal f near false) (r : Record) (payload : List ℕ) (new : JournalSeen D) (is : payload ≡ spelled r) (same : (disk new.disk).room ≡ (disk journal.disk).room) where
   with_payload : (payloads : List (List ℕ)) → file_size (payloads ++ payload ∷ []) ≡ file_size payloads + record_size r
   with_payload payloads = ap (λ p. file_size (payloads ++ p ∷ [])) is ∙ size_with payloads r
 

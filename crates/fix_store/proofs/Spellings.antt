@@ -9,7 +9,7 @@ use Rattle.fix_base.specs.declared.entry.Entry.{Entry}
 use Rattle.fix_base.specs.declared.entry.Entry.TheVariants.{App, Admin}
 use Rattle.fix_base.specs.declared.entry.Record.{Record}
 use Rattle.fix_base.specs.declared.entry.Record.TheVariants.{Push, Expect, Many, Withhold, Reset, ResetAsk, Confirm}
-use Rattle.fix_base.specs.Payload.{HasPayload, IsKeepable, payload_size, payloads_size, LONGEST_BODY}
+use Rattle.fix_base.specs.Payload.{HasPayload, IsKeepable, payload_size, payloads_size}
 use Rattle.fix_journal.specs.Format.{IsPayload}
 use Rattle.fix_journal.specs.Payloads.{size_in}
 use Rattle.fix_store.specs.Spelling.{spelled, spelled_entry, spelled_entries, Item, keeps, marks, spelled_item}

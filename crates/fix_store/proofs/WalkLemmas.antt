@@ -1,47 +1,28 @@
 -- The walk over a journal's records.
-use Rattle.std.proofs.Common.{◌≡◌, ℕ, ◌+◌, ◌-◌, ◌<◌, ◌≤◌, zero, suc, Bool, true, false, Result, true≢false, ◌↔◌, List, [], ◌∷◌, ◌++◌, length, take, drop, Some, None, Ok, Err, refl, sym, ◌∙◌, ap, subst, arith, take-append-drop}
-use Rattle.std.specs.Prelude.{map, slice_get, IfSome, IfOk, IsTrue}
-use Rattle.std.proofs.lemmas.List.{length-take-le, take_all}
-use Rattle.std.proofs.lemmas.List.Elements.{All-nil}
-use Rattle.fix_base.specs.End.{End, IsAppAt, IsEntry}
+use Rattle.std.proofs.Common.{◌≡◌, ℕ, ◌+◌, ◌*◌, ◌<◌, ◌≤◌, suc, Bool, true, false, Result, true≢false, ◌↔◌, List, [], ◌∷◌, ◌++◌, length, take, drop, Option, Some, None, Ok, Err, refl, sym, ◌∙◌, ap, subst, arith, take-append-drop}
+use Rattle.std.specs.Prelude.{slice_get, IfSome, IfOk, IfErr, IsTrue}
+use Rattle.std.proofs.lemmas.List.{length-take, length-take-le, take_all}
+use Rattle.fix_base.specs.End.{IsAppAt, IsEntry}
 use Rattle.fix_base.specs.declared.entry.Entry.{Entry}
 use Rattle.fix_base.specs.declared.entry.Entry.TheVariants.{App, Admin}
 use Rattle.fix_base.proofs.WroteLemmas.{IsEntry-one}
-use Rattle.fix_disk.specs.Disk.{DiskSeen, IsLawfulDisk}
+use Rattle.fix_disk.specs.Disk.{DiskSeen, IsLawfulDisk, LeavesAsIs}
 use Rattle.fix_journal.specs.declared.fault.OpenFault.{OpenFault}
 use Rattle.fix_journal.specs.declared.fault.OpenFault.TheVariants.{DiskFault, Damaged, OutOfMemory}
 use Rattle.fix_journal.specs.Format.{front}
 use Rattle.fix_journal.specs.Journal.{JournalSeen, Holds}
+use Rattle.fix_journal.specs.Cursors.{CursorSeen, Stands}
 use Rattle.fix_journal.proofs.Moments.{started, weaker, then_on}
 use Rattle.fix_journal.proofs.RoomLemmas.{needs_then}
 use Rattle.fix_store.specs.declared.folding.Folded.{Folded}
-use Rattle.fix_store.specs.declared.folding.Place.{Place}
-use Rattle.fix_store.specs.declared.changing.Change.{Change}
-use Rattle.fix_store.specs.Spelling.{Item, spelled_item, spelled_entry}
+use Rattle.fix_store.specs.Spelling.{Item, spelled_item}
 use Rattle.fix_store.specs.Reading.{new_content, taken_all, MayFollow}
-use Rattle.fix_store.specs.Folding.{Fold, new_fold, fold_of, fold_with, change_of, pushes_of, IsFit, IsApp, NamesApp, MayTake, IsReadFault, IsFoldOf, IsWithin, GoesOn, Reads, IsUpTo, Steps, Takes, Folds}
-use Rattle.fix_store.proofs.RecordLists.{map-push, length-map, fits, fits_at}
+use Rattle.fix_store.specs.Folding.{Fold, new_fold, fold_of, fold_with, change_of, IsFit, IsApp, NamesApp, MayTake, IsReadFault, IsFoldOf, IsWithin, GoesOn, Reads, IsUpTo, Steps, Takes, Folds}
+use Rattle.fix_store.specs.Finding.{StandFirst}
+use Rattle.fix_store.proofs.RecordLists.{splits, take_more, map-push, length-map, fits}
+use Rattle.fix_store.proofs.CountLemmas.{counted_none}
 use Rattle.fix_store.proofs.Spellings.{one_item}
-use Rattle.fix_store.proofs.Places.{nothing_yet, may_follow, may_take, names, fold_step, within_step, is_there, get_front, get_map}
-
--- ---- lists up to an item
-
-pub record Splits {A : Type 0} (xs : List A) (i : ℕ) : Type 0 where
-  pub item : A
-  pub there : slice_get xs i ≡ Some item
-  pub is : xs ≡ take i xs ++ item ∷ drop (suc i) xs
-
-splits : {A : Type 0} (xs : List A) (i : ℕ) → i < length xs → Splits xs i
-splits [] i lt = absurd (omega (arith, lt))
-splits (x ∷ xs) zero lt = record { item = x; there = refl; is = refl }
-splits (x ∷ xs) (suc i) lt =
-    let s = splits xs i (omega (arith, lt)) in
-    record { item = s.item; there = s.there; is = ap (λ l. x ∷ l) s.is }
-
-take_more : {A : Type 0} (xs : List A) (i : ℕ) (x : A) → slice_get xs i ≡ Some x → take (suc i) xs ≡ take i xs ++ x ∷ []
-take_more [] i x is = absurd (subst (λ o. IfSome o (λ z. ⊥)) is tt)
-take_more (y ∷ xs) zero x is = ap (λ z. z ∷ []) (subst (λ o. IfSome o (λ z. y ≡ z)) is refl)
-take_more (y ∷ xs) (suc i) x is = ap (λ l. y ∷ l) (take_more xs i x is)
+use Rattle.fix_store.proofs.Places.{nothing_yet, may_follow, may_take, names, fold_step, within_step}
 
 -- ---- calls that read
 
@@ -72,21 +53,41 @@ reads_then n old mid new laws first second = record {
 
 -- ---- the walk up to an index
 
-pub record IsWalking {D : Type 0} (disk : D → DiskSeen) (old now : JournalSeen D) (index : ℕ) (f : Fold) : Type 0 where
+pub record IsWalking {D : Type 0} (disk : D → DiskSeen) (old now : JournalSeen D) (cursor : CursorSeen) (index : ℕ) (f : Fold) : Type 0 where
   pub goes_on : GoesOn old now
+  pub here : cursor.index ≡ index
+  pub stands : Stands disk now cursor
   pub within : IsWithin f index
   pub found : (payloads : List (List ℕ)) → Holds (disk old.disk) payloads → index ≤ length payloads → (items : List Item) × IsUpTo payloads index items f
   pub reads : Reads 0 (disk old.disk) (disk now.disk)
 
-pub walk_begins : {D : Type 0} (disk : D → DiskSeen) (old : JournalSeen D) (f : Fold) → IsLawfulDisk (disk old.disk) → old.stopped ≡ false → f ≡ new_fold → IsWalking disk old old 0 f
-walk_begins disk old f laws still new = record {
+pub nothing_within : IsWithin new_fold 0
+nothing_within = record { few = omega arith; expected = (omega arith, omega arith); since = tt; counted = counted_none }
+
+pub walk_begins : {D : Type 0} (disk : D → DiskSeen) (old : JournalSeen D) (cursor : CursorSeen) (f : Fold) → IsLawfulDisk (disk old.disk) → old.stopped ≡ false → cursor.index ≡ 64 * 0 → Stands disk old cursor → f ≡ new_fold → IsWalking disk old old cursor 0 f
+walk_begins disk old cursor f laws still here stands new = record {
   goes_on = record { count = refl; stopped = still };
-  within = subst (λ g. IsWithin g 0) (sym new) (record { few = omega arith; expected = (omega arith, omega arith); since = tt; each = All-nil (λ (p : Place). p.index < 0) });
+  here = omega (arith, here);
+  stands = stands;
+  within = subst (λ g. IsWithin g 0) (sym new) nothing_within;
   found = λ payloads holds le. ([], record { is = refl; folds = subst (IsFoldOf []) (sym new) nothing_yet });
   reads = reads_none (disk old.disk) laws;
 }
 
-module _ {D : Type 0} (disk : D → DiskSeen) (old now : JournalSeen D) (index : ℕ) (f : Fold) (laws : IsLawfulDisk (disk now.disk)) (walk : IsWalking disk old now index f) where
+-- a file without records
+pub walks_nothing : (folded : Folded) (count : ℕ) (payloads : List (List ℕ)) → fold_of folded ≡ new_fold → count ≡ 0 → count ≡ length payloads → Folds (Ok folded) payloads
+walks_nothing folded count [] new empty same = ([], refl, subst (IsFoldOf []) (sym new) nothing_yet)
+walks_nothing folded count (p ∷ payloads) new empty same = absurd (omega (arith, empty, same))
+
+-- a cursor stands where it did, after calls that read
+pub stands_still : {D : Type 0} (disk : D → DiskSeen) (old new : JournalSeen D) (c : CursorSeen) → old.stopped ≡ false → LeavesAsIs (disk old.disk) (disk new.disk) → Stands disk old c → Stands disk new c
+stands_still disk old new c still same stands = λ after payloads holds. stands still payloads (holds.0, sym same.bytes ∙ holds.1, holds.2)
+
+-- a step from this index on takes in what stands there
+abbrev pub AreTaken : {D : Type 0} → (D → DiskSeen) → JournalSeen D → Option OpenFault → Fold → Fold → ℕ → Type 0
+AreTaken disk now fault f g index = (payloads : List (List ℕ)) (items : List Item) → Holds (disk now.disk) payloads → IsUpTo payloads index items f → Takes fault index payloads items f g
+
+module _ {D : Type 0} (disk : D → DiskSeen) (old now : JournalSeen D) (cursor : CursorSeen) (index : ℕ) (f : Fold) (laws : IsLawfulDisk (disk now.disk)) (walk : IsWalking disk old now cursor index f) where
   -- the file is still the one that was held
   still_holds : (payloads : List (List ℕ)) → Holds (disk old.disk) payloads → Holds (disk now.disk) payloads
   still_holds payloads holds = (holds.0, walk.reads.same.bytes ∙ holds.1, holds.2)
@@ -108,10 +109,12 @@ module _ {D : Type 0} (disk : D → DiskSeen) (old now : JournalSeen D) (index :
           },
         )
 
-    pub walks_on : IsWalking disk old new (index + 1) g
-    walks_on = record {
+    pub walks_on : (next : CursorSeen) → next.index ≡ cursor.index + 1 → Stands disk new next → IsWalking disk old new next (index + 1) g
+    walks_on next moved stands = record {
+      here = moved ∙ ap (λ n. n + 1) walk.here;
+      stands = stands;
       goes_on = record { count = goes.count ∙ walk.goes_on.count; stopped = goes.stopped };
-      within = subst (λ h. IsWithin h (index + 1)) (sym steps.3) (within_step f index index (index + 1) walk.within (omega arith) (omega arith) steps.0 steps.1 steps.2);
+      within = subst (λ h. IsWithin h (index + 1)) (sym steps.3) (within_step f index index (index + 1) walk.within refl refl steps.0 steps.1 steps.2);
       found = found_next;
       reads = reads_then 0 (disk old.disk) (disk now.disk) (disk new.disk) laws walk.reads reads;
     }
@@ -136,10 +139,15 @@ module _ {D : Type 0} (disk : D → DiskSeen) (old now : JournalSeen D) (index :
         }
 
 -- at the end
-pub walk_ends : {D : Type 0} (disk : D → DiskSeen) (old now : JournalSeen D) (index : ℕ) (folded : Folded) → IsWalking disk old now index (fold_of folded) → index ≡ old.count → (payloads : List (List ℕ)) → Holds (disk old.disk) payloads → old.count ≡ length payloads → Folds (Ok folded) payloads
-walk_ends disk old now index folded walk is payloads holds count =
+pub walk_ends : {D : Type 0} (disk : D → DiskSeen) (old now : JournalSeen D) (cursor : CursorSeen) (index : ℕ) (folded : Folded) → IsWalking disk old now cursor index (fold_of folded) → index ≡ old.count → (payloads : List (List ℕ)) → Holds (disk old.disk) payloads → old.count ≡ length payloads → Folds (Ok folded) payloads
+walk_ends disk old now cursor index folded walk is payloads holds count =
     let all = walk.found payloads holds (omega (arith, is, count)) in
     (all.0, sym (take_all index payloads (omega (arith, is, count))) ∙ all.1.is, all.1.folds)
+
+-- the same in memory
+pub folds_same : (answer : Result Folded OpenFault) (folded : Folded) (payloads : List (List ℕ)) → IfOk answer (λ f. fold_of f ≡ fold_of folded) → IfErr answer (λ e. e ≡ OutOfMemory) → Folds (Ok folded) payloads → Folds answer payloads
+folds_same (Ok f) folded payloads same memory folds = (folds.0, folds.1, subst (IsFoldOf folds.0) (sym same) folds.2)
+folds_same (Err e) folded payloads same memory folds = subst (λ x. Folds (Err x) payloads) (sym memory) tt
 
 -- ---- one step
 
@@ -176,7 +184,7 @@ module _ (payloads : List (List ℕ)) (index : ℕ) (items : List Item) (f g : F
       at,
     )
 
-    pub takes_it : length f.places ≤ 999999999 → MayTake f (change_of i) → NamesApp (change_of i) (taken_all new_content items).end → (g ≡ fold_with index f (change_of i)) → Takes None index payloads items f g
+    pub takes_it : f.counts.last ≤ 999999999 → MayTake f (change_of i) → NamesApp (change_of i) (taken_all new_content items).end → (g ≡ fold_with index f (change_of i)) → Takes None index payloads items f g
     takes_it few may named is_next = (i, there ∙ ap Some is, may_follow items f up_to.folds i fit few may named, is_next)
 
 -- ---- whether a number that is withheld is one of an application message
@@ -189,35 +197,21 @@ is_app_at out n (Admin time kind about) is app = absurd app
 pub app_is : (out : List Entry) (n : ℕ) (entry : Entry) → IsEntry out n entry → (body : List ℕ) × IsAppAt out n body → IsApp entry
 app_is out n entry is at = subst IsApp (IsEntry-one at.1.entry is) tt
 
-module _ (payloads : List (List ℕ)) (index : ℕ) (items : List Item) (f : Fold) (up_to : IsUpTo payloads index items f) (n : ℕ) (first : 1 ≤ n) (last : n ≤ length f.places) (place : Place) (at : slice_get f.places (n - 1) ≡ Some place) where
-  -- where the entry of a number stands
-  pub record Named : Type 0 where
-    pub entry : Entry
-    pub item : Item
-    pub fit : IsFit item
-    pub there : slice_get payloads place.index ≡ Some (spelled_item item)
-    pub nth : slice_get (pushes_of item) place.nth ≡ Some entry
-    pub is : IsEntry (taken_all new_content items).end.out n entry
+-- the items up to an index stand first among the payloads
+pub up_first : (payloads : List (List ℕ)) (index count : ℕ) (items : List Item) (f : Fold) → IsUpTo payloads index items f → length items ≤ count → StandFirst count payloads items
+up_first payloads index count items f up few = record {
+  later = drop index payloads;
+  is = sym (take-append-drop index payloads) ∙ ap (λ l. l ++ drop index payloads) up.is;
+  few = few;
+  each = up.folds.each;
+}
 
-  pub named : Named
-  named =
-      let found = is_there items f.places (taken_all new_content items).end.out (n - 1) up_to.folds.places (omega (arith, first, last)) in
-      let stands = found.stands place at in
-      let number : suc (n - 1) ≡ n = omega (arith, first) in
-      let front_of : slice_get (take index payloads) place.index ≡ Some (spelled_item stands.0) = ap (λ l. slice_get l place.index) up_to.is ∙ get_map spelled_item items place.index stands.0 stands.1 in
-      record {
-        entry = found.entry;
-        item = stands.0;
-        fit = fits_at new_content items place.index stands.0 up_to.folds.each stands.1;
-        there = ap (λ l. slice_get l place.index) (sym (take-append-drop index payloads)) ∙ get_front (take index payloads) (drop index payloads) place.index (spelled_item stands.0) front_of;
-        nth = stands.2;
-        is = subst (λ m. IsEntry (taken_all new_content items).end.out m found.entry) number found.is;
-      }
+pub up_few : (payloads : List (List ℕ)) (index : ℕ) (items : List Item) (f : Fold) → IsUpTo payloads index items f → length items ≤ index
+up_few payloads index items f up = omega (arith, length-take index payloads, ap length up.is, length-map spelled_item items)
 
--- what was read of an entry's part is the entry
-pub same_entry : (payloads : List (List ℕ)) (index : ℕ) (payload : List ℕ) → slice_get payloads index ≡ Some payload → (nth : ℕ) (part : List ℕ) → ((i : Item) (entry : Entry) → IsFit i → payload ≡ spelled_item i → slice_get (pushes_of i) nth ≡ Some entry → part ≡ spelled_entry entry)
-    → (i : Item) (entry : Entry) → slice_get payloads index ≡ Some (spelled_item i) → IsFit i → slice_get (pushes_of i) nth ≡ Some entry → part ≡ spelled_entry entry
-same_entry payloads index payload there nth part found i entry there' fit at = found i entry fit (subst (λ o. IfSome o (λ p. payload ≡ p)) (sym there ∙ there') refl) at
+-- whether it is one of an application message
+pub names_entry : (out : List Entry) (n : ℕ) (entry : Entry) → IsEntry out n entry → (b : Bool) → (IsTrue b ↔ IsApp entry) → IsTrue b ↔ ((body : List ℕ) × IsAppAt out n body)
+names_entry out n entry is b so = (λ t. is_app_at out n entry is (so.0 t), λ app. so.1 (app_is out n entry is app))
 
 pub app_so : (entry e : Entry) → entry ≡ e → IsApp e → IsTrue true ↔ IsApp entry
 app_so entry e same app = (λ t. subst IsApp (sym same) app, λ t. refl)

@@ -1,7 +1,7 @@
 -- What a store keeps in memory of its records, and how a walk over the records makes it.
-use Rattle.std.specs.Prelude.{◌≡◌, ◌↔◌, ℕ, zero, suc, ◌+◌, ◌<◌, ◌≤◌, ◌==◌, if◌then◌else◌, Bool, true, false}
+use Rattle.std.specs.Prelude.{◌≡◌, ◌↔◌, ℕ, ◌+◌, ◌*◌, ◌/◌, ◌<◌, ◌≤◌, ◌==◌, if◌then◌else◌, Bool, true, false}
 use Rattle.std.specs.Prelude.{List, [], ◌∷◌, ◌++◌, length, take, map}
-use Rattle.std.specs.Prelude.{vec_len, vec_capacity, slice_get, All, Option, IfSome, Some, None, IsSome, Result, Ok, Err, ⊤}
+use Rattle.std.specs.Prelude.{slice_get, Option, IfSome, Some, None, Result, Ok, Err, ⊤}
 use Rattle.std.specs.FinSet as set
 use Rattle.fix_base.specs.declared.entry.Entry.{Entry}
 use Rattle.fix_base.specs.declared.entry.Record.{Record}
@@ -19,7 +19,6 @@ use Rattle.fix_journal.specs.declared.fault.OpenFault.TheVariants as open_fault
 use Rattle.fix_journal.specs.Format.{front}
 use Rattle.fix_journal.specs.Journal.{JournalSeen, Holds, Lasts}
 use Rattle.fix_store.specs.declared.folding.Folded.{Folded}
-use Rattle.fix_store.specs.declared.folding.Place.{Place}
 use Rattle.fix_store.specs.declared.changing.Change.{Change}
 use Rattle.fix_store.specs.declared.changing.Change.TheVariants as change
 use Rattle.fix_store.specs.declared.entries.LentEntry.{LentEntry}
@@ -30,9 +29,10 @@ use Rattle.fix_store.specs.declared.reading.Spelt.TheVariants as spelt
 use Rattle.fix_store.specs.declared.spelling.Kept.{Kept}
 use Rattle.fix_store.specs.declared.spelling.Kept.TheVariants as kept
 use Rattle.fix_store.specs.Spelling.{Item, keeps, marks, spelled_item, spelled_entries}
-use Rattle.fix_store.specs.Reading.{LAST_NUMBER, Content, new_content, taken_all, MayFollow, MayAllFollow}
+use Rattle.fix_store.specs.Reading.{LAST_NUMBER, new_content, taken_all, MayFollow, MayAllFollow}
 use Rattle.fix_store.specs.Ends.{entries_in}
 use Rattle.fix_store.specs.Store.{NumberSet, stored_of, withheld_of}
+use Rattle.fix_store.specs.Counts.{Counted, counted_in, none_counted, counted_with, HasRoomToCount, IsCounted}
 
 -- an entry whose body is lent
 abbrev pub lent_entry : LentEntry → Entry
@@ -102,10 +102,10 @@ change_of (keeps (ResetAsk time)) = change.ResetAsk time
 change_of (keeps Confirm) = change.Confirm
 change_of marks = change.Mark
 
--- where the entries are, the expected number, the last reset, whether one is asked for, which messages are
--- withheld, and whether the file is marked
+-- how many entries the records have, the expected number, the last reset, whether one is asked for, which
+-- messages are withheld, and whether the file is marked
 pub record Fold : Type 0 where
-  pub places : List Place
+  pub counts : Counted
   pub expected : ℕ
   pub since : Option ℕ
   pub asked : Bool
@@ -122,7 +122,7 @@ withheld_in w = with_last w.last (set.from_list w.numbers.keys)
 
 abbrev pub fold_of : Folded → Fold
 fold_of f = record {
-  places = f.places.items;
+  counts = counted_in f.counts;
   expected = f.expected;
   since = f.since;
   asked = f.asked;
@@ -132,18 +132,13 @@ fold_of f = record {
 
 abbrev pub new_fold : Fold
 new_fold = record {
-  places = [];
+  counts = none_counted;
   expected = 1;
   since = None;
   asked = false;
   withheld = set.empty;
   marked = false;
 }
-
--- the places of so many entries of the record of this index
-abbrev pub places_from : ℕ → ℕ → ℕ → List Place
-places_from index nth zero = []
-places_from index nth (suc n) = record { index = index; nth = nth } ∷ places_from index (suc nth) n
 
 -- the number that is expected then, where it isn't 0
 abbrev pub expected_then : ℕ → ℕ → ℕ
@@ -152,7 +147,7 @@ expected_then old number = if number == 0 then old else number
 -- after what stands at this index
 abbrev pub fold_with : ℕ → Fold → Change → Fold
 fold_with index f (change.Entries count number) = record {
-  places = f.places ++ places_from index 0 count;
+  counts = counted_with index f.counts (f.counts.total + count) (f.counts.last + count);
   expected = expected_then f.expected number;
   since = f.since;
   asked = f.asked;
@@ -160,7 +155,7 @@ fold_with index f (change.Entries count number) = record {
   marked = f.marked;
 }
 fold_with index f (change.Expect number) = record {
-  places = f.places;
+  counts = counted_with index f.counts f.counts.total f.counts.last;
   expected = number;
   since = f.since;
   asked = f.asked;
@@ -168,7 +163,7 @@ fold_with index f (change.Expect number) = record {
   marked = f.marked;
 }
 fold_with index f (change.Withhold number) = record {
-  places = f.places;
+  counts = counted_with index f.counts f.counts.total f.counts.last;
   expected = f.expected;
   since = f.since;
   asked = f.asked;
@@ -176,7 +171,7 @@ fold_with index f (change.Withhold number) = record {
   marked = f.marked;
 }
 fold_with index f (change.Reset time) = record {
-  places = [];
+  counts = counted_with index f.counts f.counts.total 0;
   expected = 1;
   since = Some time;
   asked = f.asked;
@@ -184,7 +179,7 @@ fold_with index f (change.Reset time) = record {
   marked = f.marked;
 }
 fold_with index f (change.ResetAsk time) = record {
-  places = [];
+  counts = counted_with index f.counts f.counts.total 0;
   expected = 1;
   since = Some time;
   asked = true;
@@ -192,7 +187,7 @@ fold_with index f (change.ResetAsk time) = record {
   marked = f.marked;
 }
 fold_with index f change.Confirm = record {
-  places = f.places;
+  counts = counted_with index f.counts f.counts.total f.counts.last;
   expected = f.expected;
   since = f.since;
   asked = false;
@@ -200,7 +195,7 @@ fold_with index f change.Confirm = record {
   marked = f.marked;
 }
 fold_with index f change.Mark = record {
-  places = f.places;
+  counts = counted_with index f.counts f.counts.total f.counts.last;
   expected = f.expected;
   since = f.since;
   asked = f.asked;
@@ -209,13 +204,13 @@ fold_with index f change.Mark = record {
 }
 
 abbrev pub stored_in : Fold → Stored
-stored_in f = record { last = length f.places; expected = f.expected; since = f.since; asked = f.asked }
+stored_in f = record { last = f.counts.last; expected = f.expected; since = f.since; asked = f.asked }
 
 -- it may come next, as far as what is in memory tells
 abbrev pub MayTake : Fold → Change → Type 0
-MayTake f (change.Entries count number) = length f.places + count ≤ LAST_NUMBER
+MayTake f (change.Entries count number) = f.counts.last + count ≤ LAST_NUMBER
 MayTake f (change.Expect number) = ⊤
-MayTake f (change.Withhold number) = number ≤ length f.places
+MayTake f (change.Withhold number) = number ≤ f.counts.last
 MayTake f (change.Reset time) = ⊤
 MayTake f (change.ResetAsk time) = f.marked ≡ true
 MayTake f change.Confirm = f.marked ≡ true
@@ -233,13 +228,13 @@ HasPlaceIn s Confirm = ⊤
 
 -- it can be taken in without memory
 abbrev pub HasRoomFor : Folded → Change → Type 0
-HasRoomFor f (change.Entries count number) = vec_len f.places + count ≤ vec_capacity f.places
-HasRoomFor f (change.Expect number) = ⊤
-HasRoomFor f (change.Withhold number) = f.withheld.last ≡ None
-HasRoomFor f (change.Reset time) = ⊤
-HasRoomFor f (change.ResetAsk time) = ⊤
-HasRoomFor f change.Confirm = ⊤
-HasRoomFor f change.Mark = ⊤
+HasRoomFor f (change.Entries count number) = HasRoomToCount f.counts count
+HasRoomFor f (change.Expect number) = HasRoomToCount f.counts 0
+HasRoomFor f (change.Withhold number) = HasRoomToCount f.counts 0 × (f.withheld.last ≡ None)
+HasRoomFor f (change.Reset time) = HasRoomToCount f.counts 0
+HasRoomFor f (change.ResetAsk time) = HasRoomToCount f.counts 0
+HasRoomFor f change.Confirm = HasRoomToCount f.counts 0
+HasRoomFor f change.Mark = HasRoomToCount f.counts 0
 
 -- a number that is withheld is one of an application message
 abbrev pub NamesApp : Change → End → Type 0
@@ -271,32 +266,38 @@ IsReadFault open_fault.DiskFault = ⊤
 IsReadFault (open_fault.Damaged place) = ⊥
 IsReadFault open_fault.OutOfMemory = ⊤
 
--- the entry stands at the place
-abbrev pub StandsAt : List Item → Place → Entry → Type 0
-StandsAt items place entry = (i : Item) × (slice_get items place.index ≡ Some i)
-    × (slice_get (pushes_of i) place.nth ≡ Some entry)
+-- the entries of these items, those before a reset too
+abbrev pub pushed : List Item → List Entry
+pushed [] = []
+pushed (i ∷ items) = pushes_of i ++ pushed items
 
--- these entries stand at these places
-abbrev pub ArePlaces : List Item → List Place → List Entry → Type 0
-ArePlaces items [] [] = ⊤
-ArePlaces items [] (entry ∷ out) = ⊥
-ArePlaces items (place ∷ places) [] = ⊥
-ArePlaces items (place ∷ places) (entry ∷ out) = StandsAt items place entry × ArePlaces items places out
+-- how many of them stand before the item of this index
+abbrev pub entries_before : List Item → ℕ → ℕ
+entries_before items index = length (pushed (take index items))
+
+-- the counts are those of these items, whose end has these entries
+pub record IsCountOf (items : List Item) (c : Counted) (out : List Entry) : Type 0 where
+  pub total : c.total ≡ length (pushed items)
+  pub last : c.last ≡ length out
+  pub long : length c.before ≡ (length items + 63) / 64
+  pub each : (k : ℕ) → k < length c.before → slice_get c.before k ≡ Some (entries_before items (64 * k))
+  pub front : List Entry
+  pub is : pushed items ≡ front ++ out
 
 -- it is that of these items
 pub record IsFoldOf (items : List Item) (f : Fold) : Type 0 where
   pub each : MayAllFollow new_content items
   pub stored : stored_in f ≡ stored_of (taken_all new_content items).end
-  pub places : ArePlaces items f.places (taken_all new_content items).end.out
+  pub counts : IsCountOf items f.counts (taken_all new_content items).end.out
   pub withheld : f.withheld ≡ withheld_of (taken_all new_content items).end
   pub marked : f.marked ≡ (taken_all new_content items).marked
 
--- its places are in so many records, and its numbers are in their ranges
+-- it is of so many records, and its numbers are in their ranges
 pub record IsWithin (f : Fold) (count : ℕ) : Type 0 where
-  pub few : length f.places ≤ LAST_NUMBER
+  pub few : f.counts.last ≤ LAST_NUMBER
   pub expected : IsKeepable (Expect f.expected)
   pub since : IfSome f.since (λ time. time ≤ LAST_TIME)
-  pub each : All (λ place. place.index < count) f.places
+  pub counted : IsCounted f.counts count
 
 -- the journal's file has these items, so many
 pub record IsKeptOf (seen : DiskSeen) (count : ℕ) (items : List Item) (f : Fold) : Type 0 where
@@ -304,15 +305,6 @@ pub record IsKeptOf (seen : DiskSeen) (count : ℕ) (items : List Item) (f : Fol
   pub lasts : Lasts seen (map spelled_item items)
   pub counts : count ≡ length items
   pub folds : IsFoldOf items f
-
--- what always holds of a store that was opened
-pub record IsSound {D : Type 0} (disk : D
-    → DiskSeen) (journal : JournalSeen D) (f : Fold) (stopped : Bool) : Type 0 where
-  pub stops : stopped ≡ journal.stopped
-  pub within : IsWithin f journal.count
-  pub marked : f.marked ≡ true
-  pub kept : stopped ≡ false → IsSome (disk journal.disk).bytes → (items : List Item)
-      × IsKeptOf (disk journal.disk) journal.count items f
 
 -- calls that read
 pub record Reads (failures : ℕ) (old new : DiskSeen) : Type 0 where

@@ -3,7 +3,10 @@ pub mod Reading
 pub mod Ends
 pub mod Store
 pub mod Keeping
+pub mod Counts
 pub mod Folding
+pub mod Finding
+pub mod Sound
 pub mod Marking
 pub mod Opening
 pub mod Rooms

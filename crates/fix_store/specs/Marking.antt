@@ -1,5 +1,5 @@
 -- What adding the mark of version 2 to a file comes to.
-use Rattle.std.specs.Prelude.{◌≡◌, ℕ, Bool, true, false, List, [], ◌∷◌, ◌++◌, Option, None, Some, Result, Ok, Err}
+use Rattle.std.specs.Prelude.{◌≡◌, ℕ, true, false, List, [], ◌∷◌, ◌++◌, Option, None, Some, Result, Ok, Err}
 use Rattle.std.specs.Prelude.{IfOk}
 use Rattle.fix_disk.specs.Disk.{DiskSeen}
 use Rattle.fix_disk.specs.Moments.{NeedsRoom}

@@ -1,5 +1,5 @@
 -- What the opening of a store finds in its file, and does to it.
-use Rattle.std.specs.Prelude.{◌≡◌, ◌⊎◌, ◌↔◌, ℕ, List, [], ◌∷◌, ◌++◌, Bool, true, false, if◌then◌else◌, Option, Some}
+use Rattle.std.specs.Prelude.{◌≡◌, ◌⊎◌, ◌↔◌, ℕ, List, [], ◌∷◌, ◌++◌, false, if◌then◌else◌, Option, Some}
 use Rattle.std.specs.Prelude.{None, IsSome, IfSome, ⊤}
 use Rattle.fix_base.specs.End.{End}
 use Rattle.fix_base.specs.Trace.{Rises}
@@ -11,6 +11,7 @@ use Rattle.fix_journal.specs.Format.{IsMade}
 use Rattle.fix_journal.specs.Opening.{open_failures}
 use Rattle.fix_store.specs.Spelling.{Item, marks}
 use Rattle.fix_store.specs.Reading.{new_content, taken_all, IsStoreOf, HasEnd, IsBrokenAt}
+use Rattle.fix_store.specs.Finding.{StandsIn}
 use Rattle.fix_store.specs.Store.{StoreSeen, TellsEnd, HoldsEnd, LastsEnd}
 
 -- with the mark of version 2, at the end of a file that has none
@@ -20,6 +21,11 @@ marked_items items = if (taken_all new_content items).marked then items else ite
 -- the disk tells a file with these items
 abbrev pub HoldsItems : DiskSeen → List Item → Type 0
 HoldsItems seen items = (file : List ℕ) × (seen.bytes ≡ Some file) × IsStoreOf file items
+
+-- where the disk tells its file, the entry of this number is one of the record of this index
+abbrev pub StandsAt : DiskSeen → ℕ → ℕ → Type 0
+StandsAt seen number index = (items : List Item) → HoldsItems seen items
+    → StandsIn items (taken_all new_content items).end.out number index
 
 -- a store that was opened has the end of the file as it was read at first, and a crash leaves it; its file has
 -- what that file had, and the mark

@@ -52,4 +52,4 @@ ReadRoom None old new = room_left new ≡ room_left old
 ReadRoom (Some DiskFault) old new = HasNoRoom 0 (room_left old)
 ReadRoom (Some Stopped) old new = ⊤
 ReadRoom (Some NumbersSpent) old new = ⊤
-ReadRoom (Some OutOfMemory) old new = ⊤
+ReadRoom (Some OutOfMemory) old new = room_left new ≡ room_left old

@@ -2,7 +2,7 @@
 use Rattle.std.specs.Prelude.{◌≡◌, refl, ◌⊎◌, ◌↔◌, ℕ, ◌+◌, ◌<◌, ◌≤◌, ◌==◌, if◌then◌else◌, Bool, true, false, List, length}
 use Rattle.std.specs.Prelude.{Option, Some, None, IsSome, IfSome, Result, Ok, Err, IfOk, ⊤}
 use Rattle.std.specs.FinSet as set
-use Rattle.std.specs.Coded.{Coded, code_by, coded×, coded_bool, coded_ℕ}
+use Rattle.std.specs.Coded.{Coded, code_by, coded×, coded_bool, coded_ℕ, coded_option}
 use Rattle.std.specs.Ordering.{nat_cmp}
 use Rattle.fix_base.specs.declared.entry.Entry.{Entry}
 use Rattle.fix_base.specs.declared.entry.Record.{Record}
@@ -29,14 +29,15 @@ pub record StoreSeen (D : Type 0) : Type 0 where
   pub disk : D
   pub stored : Stored
   pub withheld : NumberSet  -- the messages that aren't to be sent again
+  pub near : Option ℕ  -- the index of the record of which an entry was read last
   pub stopped : Bool  -- the disk failed at some call
 
 abbrev pub store_code : {D : Type 0} → Coded D → Coded (StoreSeen D)
 store_code {D} disk =
-    code_by (D × (Stored × (NumberSet × Bool)))
-    (coded× disk (coded× stored_type.the_row.coded (coded× (set.code coded_ℕ) coded_bool)))
-    (λ s. (s.disk, (s.stored, (s.withheld, s.stopped))))
-    (λ p. record { disk = p.0; stored = p.1.0; withheld = p.1.1.0; stopped = p.1.1.1 })
+    code_by (D × (Stored × (NumberSet × (Option ℕ × Bool))))
+    (coded× disk (coded× stored_type.the_row.coded (coded× (set.code coded_ℕ) (coded× (coded_option coded_ℕ) coded_bool))))
+    (λ s. (s.disk, (s.stored, (s.withheld, (s.near, s.stopped)))))
+    (λ p. record { disk = p.0; stored = p.1.0; withheld = p.1.1.0; near = p.1.1.1.0; stopped = p.1.1.1.1 })
     (λ _. refl)
 
 -- what a store tells of an end
@@ -165,7 +166,8 @@ ReadAnswers None old new = (old.stopped ≡ false) × (new.stored ≡ old.stored
     × (new.withheld ≡ old.withheld)
 ReadAnswers (Some Stopped) old new = (old.stopped ≡ true) × (new ≡ old)
 ReadAnswers (Some NumbersSpent) old new = ⊥
-ReadAnswers (Some OutOfMemory) old new = (old.stopped ≡ false) × (new ≡ old)
+ReadAnswers (Some OutOfMemory) old new = (old.stopped ≡ false) × (new.stored ≡ old.stored) × (new.stopped ≡ false)
+    × (new.withheld ≡ old.withheld)
 ReadAnswers (Some DiskFault) old new = (old.stopped ≡ false) × (new.stored ≡ old.stored)
     × (new.stopped ≡ true) × (new.withheld ≡ old.withheld)
 
@@ -188,4 +190,4 @@ pub record StoreReads (answer : Result Entry StoreFault) (number : ℕ) (old new
   pub any_moment : LeavesOnly old new old.image
   pub tells_images : new.TellsImages ↔ old.TellsImages
   pub cause : Rises (store_failures (fault_of answer)) old.faults new.faults
-  pub calls : IsSome old.bytes → new.clock ≤ old.clock + 1
+  pub calls : IsSome old.bytes → new.clock ≤ old.clock + 65

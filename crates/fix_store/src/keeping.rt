@@ -4,6 +4,7 @@ ghost use Rattle.std.specs.Prelude.{◌≡◌, ◌≤◌, ◌++◌, ◌∷◌, [
 ghost use Rattle.fix_disk.specs.Moments.{NeedsRoom};
 ghost use Rattle.fix_journal.specs.Format.{MOST_PAYLOAD, file_size};
 ghost use Rattle.fix_journal.specs.Journal.{Holds};
+ghost use Rattle.fix_journal.specs.Cursors.{CursorSeen, Stands};
 ghost use Rattle.fix_store.specs.Store.{fault_of, store_failures};
 ghost use Rattle.fix_store.specs.Keeping.{AppendAnswers, Appends};
 
@@ -28,6 +29,8 @@ pub(crate) fn append<D: Disk>(
     ensures need { (payloads : List (List ℕ)) → Holds (D.disk journal.old.disk) payloads
         → NeedsRoom (store_failures (fault_of result)) (file_size (payloads ++ payload.now ∷ []))
         (D.disk journal.old.disk) (D.disk journal.new.disk) }
+    ensures cursors { (c : CursorSeen) → c.index ≤ journal.old.count → Stands D.disk journal.old c
+        → Stands D.disk journal.new c }
 {
     match journal.append(payload) {
         Ok(index) => Ok(index),

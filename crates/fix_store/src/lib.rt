@@ -3,9 +3,11 @@
 #![tactic(auto)]
 
 mod changing;
+mod counts;
 mod entries;
 mod fault;
 mod fetching;
+mod finding;
 mod folding;
 mod keeping;
 mod laws;

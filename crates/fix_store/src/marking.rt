@@ -1,7 +1,8 @@
 //! Adds the mark of version 2 to a file without one. `Store::open` calls this.
 ghost use Rattle.std.specs.Prelude.{◌≡◌, false};
 ghost use Rattle.fix_journal.specs.Opening.{fault_of};
-ghost use Rattle.fix_store.specs.Folding.{fold_of};
+ghost use Rattle.fix_store.specs.declared.changing.Change.TheVariants.{Mark};
+ghost use Rattle.fix_store.specs.Folding.{fold_of, HasRoomFor};
 ghost use Rattle.fix_store.specs.Marking.{Marks};
 
 use crate::StoreFault;
@@ -19,7 +20,8 @@ pub(crate) fn add_mark<D: Disk>(
     journal: &mut Journal<D>,
     folded: &mut Folded,
 ) -> Result<(), OpenFault>
-    requires { journal.old.stopped ≡ false }
+    requires goes_on { journal.old.stopped ≡ false }
+    requires room { HasRoomFor folded.old Mark }
     ensures { Marks D.disk (fault_of result) (fold_of folded.old) (fold_of folded.new) journal.old journal.new }
 {
     if folded.marked {

@@ -1,7 +1,7 @@
 //! The calls of a store, which `fix_rim` makes for a session. A call that keeps something appends its record by
 //! `keeping`, and only then changes what `folding` has in memory.
 ghost use Rattle.std.specs.Prelude.{◌≡◌, ◌↔◌, ◌+◌, ◌-◌, ◌<◌, ◌≤◌, ℕ, List, false, length, IfOk, IfErr, IsTrue};
-ghost use Rattle.std.specs.Prelude.{IfSome, None, Some, OnOk};
+ghost use Rattle.std.specs.Prelude.{IfSome, IsSome, None, Some, OnOk};
 ghost use Rattle.std.specs.FinSet as set;
 ghost use Rattle.fix_base.specs.declared.entry.Record.TheVariants.{Push, Expect, Many};
 ghost use Rattle.fix_base.specs.declared.entry.Record.TheVariants.{Withhold, Reset, ResetAsk, Confirm};
@@ -10,13 +10,14 @@ ghost use Rattle.fix_base.specs.Payload.{HasPayload, IsManyPayload, IsKeepable, 
 ghost use Rattle.fix_store.specs.Store.{IsTold, IsInRange, MayKeep, HoldsEnd, KeepAnswers, StoreKeeps, ReadAnswers};
 ghost use Rattle.fix_store.specs.Store.{StoreReads, fault_of};
 ghost use Rattle.fix_store.specs.Rooms.{OpenRoom, KeepRoom, ReadRoom};
-ghost use Rattle.fix_store.specs.Opening.{IsOpened, IsCause, StoreOpens};
+ghost use Rattle.fix_store.specs.Opening.{IsOpened, IsCause, StoreOpens, StandsAt};
 ghost use Rattle.fix_store.specs.Spelling.{spelled};
 ghost use Rattle.fix_store.specs.Folding.{fold_of, record_of, HasRoomFor, HasPlaceIn};
 
 use crate::StoreFault;
 use crate::changing::{Change, change_kept};
 use crate::fetching::entry_at;
+use crate::finding::{Found, find};
 use crate::folding::Folded;
 use crate::keeping::append;
 use crate::marking::add_mark;
@@ -35,6 +36,8 @@ pub struct Store<D: Disk> {
     alloc: Global,
     journal: Journal<D>,
     folded: Folded,
+    // Where the entry was found that was read last.
+    near: Option<Found>,
     // The bytes of a record. They are kept to be used again.
     payload: Vec<u8>,
     stopped: bool,
@@ -42,7 +45,9 @@ pub struct Store<D: Disk> {
 
 impl<D: Disk> Model for Store<D> {
     ghost use Rattle.fix_store.specs.Store.{StoreSeen, store_code};
-    ghost use Rattle.fix_store.specs.Folding.{IsSound, fold_of, stored_in, withheld_in};
+    ghost use Rattle.fix_store.specs.Folding.{fold_of, stored_in, withheld_in};
+    ghost use Rattle.fix_store.specs.Finding.{index_in};
+    ghost use Rattle.fix_store.specs.Sound.{IsSound};
 
     ghost Value = { StoreSeen D };
 
@@ -52,10 +57,11 @@ impl<D: Disk> Model for Store<D> {
       disk = s.journal.disk;
       stored = stored_in (fold_of s.folded);
       withheld = withheld_in s.folded.withheld;
+      near = index_in s.near;
       stopped = s.stopped;
     } };
 
-    ghost invariant = { λ s. IsSound D.disk s.journal (fold_of s.folded) s.stopped };
+    ghost invariant = { λ s. IsSound D.disk s.journal (fold_of s.folded) s.near s.stopped };
 }
 
 impl<D: Disk> Store<D> {
@@ -88,6 +94,7 @@ impl<D: Disk> Store<D> {
                 alloc,
                 journal,
                 folded,
+                near: None,
                 payload: Vec::new(alloc),
                 stopped: false,
             }),
@@ -188,20 +195,36 @@ impl<D: Disk> Store<D> {
         self.keep(&Kept::Confirm)
     }
 
-    /// Reads the entry of this number, which is in one record of the journal.
+    /// Reads the entry of this number, by at most 65 calls of the disk; by two where it stands in the record of
+    /// the entry that was read last, or in the next one.
     pub fn entry(&mut self, n: SeqNum) -> Result<Entry, StoreFault>
         requires { n ≤ self.old.stored.last }
         ensures answers { ReadAnswers (fault_of result) self.old self.new }
         ensures moves { self.old.stopped ≡ false → StoreReads result n (D.disk self.old.disk) (D.disk self.new.disk) }
         ensures room { ReadRoom (fault_of result) (D.disk self.old.disk) (D.disk self.new.disk) }
+        ensures near { self.old.stopped ≡ false
+            → IfOk result (λ _. (k : ℕ) × (self.new.near ≡ Some k) × StandsAt (D.disk self.old.disk) n k) }
+        ensures next { (j k : ℕ) → self.old.stopped ≡ false → IsSome (D.disk self.old.disk).bytes → self.old.near ≡ Some j
+            → StandsAt (D.disk self.old.disk) n k → j ≤ k → k ≤ j + 1
+            → (D.disk self.new.disk).clock ≤ (D.disk self.old.disk).clock + 2 }
     {
         if self.stopped {
             return Err(StoreFault::Stopped);
         }
-        let place = self.folded.places[n.get() as usize - 1];
+        let near = self.near.take();
         let mut payload = Vec::new(self.alloc);
-        match self.journal.read(place.index, &mut payload) {
-            Ok(()) => Ok(entry_at(payload, place.nth)),
+        match find(
+            &mut self.journal,
+            &self.folded.counts,
+            near,
+            n.get(),
+            &mut payload,
+        ) {
+            Ok(found) => {
+                let nth = found.nth;
+                self.near = Some(found);
+                Ok(entry_at(payload, nth))
+            }
             Err(ReadFault::Stopped) => unreachable!(),
             Err(ReadFault::OutOfMemory) => Err(StoreFault::OutOfMemory),
             Err(ReadFault::DiskFault) => {

@@ -1,7 +1,7 @@
 use Rattle.std.proofs.Common.{◌≡◌, ◌+◌, ◌≤◌, length, sym, ◌∙◌, ap, subst, arith, rules}
 use Rattle.std.proofs.lemmas.List.{take_at}
 use Rattle.fix_journal.specs.Cursors.{Gives}
-use Rattle.fix_journal.proofs.SoundLemmas.{calm}
+use Rattle.fix_journal.proofs.SoundLemmas.{calm, rested}
 use Rattle.fix_journal.proofs.CallLemmas.{when_ok}
 use Rattle.fix_journal.proofs.ReadLemmas.{reads_once}
 use Rattle.fix_journal.proofs.CursorLemmas.{at_cursor, payload_range, payload_read, one_payload}
@@ -11,7 +11,7 @@ pub read_at-requires : goal.read_at-requires
 read_at-requires g c =
     let s = c.self.inside in
     let disk = g.D.Disk.disk in
-    let at = at_cursor (disk s.disk) s.gates.items (calm (disk s.disk) s.gates.items s.stopped c.if-self.false c.self.invariant) c.args.c.now.index c.args.c.now.place c.index.result c.place.result c.limit-limit.result c.index.ensures c.place.ensures (rw (← c.self.view_is) at c.requires.record) ((rw (← c.self.view_is) at c.requires.stands) c.if-self.false) ((rw (← c.self.view_is) at c.limit-limit.ensures.is) c.if-self.false) in
+    let at = at_cursor (disk s.disk) s.index (calm (disk s.disk) s.index s.stopped c.if-self.false c.self.invariant) c.args.c.now.index c.args.c.now.place c.index.result c.place.result c.limit-limit.result c.index.ensures c.place.ensures (rw (← c.self.view_is) at c.requires.record) ((rw (← c.self.view_is) at c.requires.stands) c.if-self.false) (λ payloads holds. c.limit-limit.ensures.is payloads (rested (disk s.disk) s.index (calm (disk s.disk) s.index s.stopped c.if-self.false c.self.invariant) payloads holds).1) in
     let start : c.place.result + 5 ≤ c.limit-limit.result → c.past-start.result ≡ c.place.result + 5 = λ fits. c.past-start.ensures.is fits in
     let size : length c.deref_mut.result.now ≡ c.min.result = ap length c.deref_mut.ensures.value ∙ when_ok c.fill_up.result c.if-is_err.ensures.value c.fill_up.ensures in
     payload_range (disk s.disk) c.args.c.now.index c.place.result c.limit-limit.result at c.past-start.result (length c.deref_mut.result.now) start
@@ -23,7 +23,7 @@ pub returns-in-Ok-clause-read : goal.returns-in-Ok-clause-read
 returns-in-Ok-clause-read g c =
     let s = c.self.inside in
     let disk = g.D.Disk.disk in
-    let at = at_cursor (disk s.disk) s.gates.items (calm (disk s.disk) s.gates.items s.stopped c.if-self.false c.self.invariant) c.args.c.now.index c.args.c.now.place c.index.result c.place.result c.limit-limit.result c.index.ensures c.place.ensures (rw (← c.self.view_is) at c.requires.record) ((rw (← c.self.view_is) at c.requires.stands) c.if-self.false) ((rw (← c.self.view_is) at c.limit-limit.ensures.is) c.if-self.false) in
+    let at = at_cursor (disk s.disk) s.index (calm (disk s.disk) s.index s.stopped c.if-self.false c.self.invariant) c.args.c.now.index c.args.c.now.place c.index.result c.place.result c.limit-limit.result c.index.ensures c.place.ensures (rw (← c.self.view_is) at c.requires.record) ((rw (← c.self.view_is) at c.requires.stands) c.if-self.false) (λ payloads holds. c.limit-limit.ensures.is payloads (rested (disk s.disk) s.index (calm (disk s.disk) s.index s.stopped c.if-self.false c.self.invariant) payloads holds).1) in
     let room = c.read_at.new.room in
     let all : length room ≡ c.fill_up.new.room.len = search rules in
     let start : c.place.result + 5 ≤ c.limit-limit.result → c.past-start.result ≡ c.place.result + 5 = λ fits. c.past-start.ensures.is fits in

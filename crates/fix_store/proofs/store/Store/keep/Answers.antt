@@ -1,9 +1,9 @@
-use Rattle.std.proofs.Common.{◌≡◌, ◌∙◌, ◌++◌, ◌∷◌, [], ℕ, List, ◌≤◌, length, refl, sym, ap, subst, Ok, Err, true≢false, arith}
-use Rattle.std.specs.Prelude.{IsSome}
+use Rattle.std.proofs.Common.{◌≡◌, ◌∙◌, length, refl, sym, ap, subst, Ok, Err, true≢false, arith}
 use Rattle.fix_store.specs.declared.fault.StoreFault.TheVariants.{NumbersSpent, OutOfMemory}
-use Rattle.fix_store.specs.Spelling.{spelled, Item, keeps}
+use Rattle.fix_store.specs.Spelling.{spelled, keeps}
 use Rattle.fix_store.specs.Store.{MayKeep}
-use Rattle.fix_store.specs.Folding.{Fold, fold_of, fold_with, record_of, change_of, MayTake, HasPlaceIn, stored_in, IsKeptOf, IsSound}
+use Rattle.fix_store.specs.Folding.{fold_of, fold_with, record_of, change_of, MayTake, HasPlaceIn, stored_in}
+use Rattle.fix_store.specs.Sound.{IsSound}
 use Rattle.fix_store.proofs.KeepLemmas.{calm, keeps_at, sound_at, sound_failed, refused, when_ok, follows}
 use Rattle.fix_store.proofs.Spellings.{is_payload}
 use Rattle.fix_store.proofs.RoomLemmas.{room_at}
@@ -16,7 +16,7 @@ returns-then-self-clause-told g c =
     let disk = g.D.Disk.disk in
     let f = fold_of s.folded in
     let r = record_of c.args.kept.now in
-    rw (← c.self.view_is) (told_of disk s.journal f s.stopped c.self.invariant)
+    rw (← c.self.view_is) (told_of disk s.journal f s.near s.stopped c.self.invariant)
 
 pub returns-then-not-may_take-clause-told : goal.returns-then-not-may_take-clause-told
 returns-then-not-may_take-clause-told g c =
@@ -24,7 +24,7 @@ returns-then-not-may_take-clause-told g c =
     let disk = g.D.Disk.disk in
     let f = fold_of s.folded in
     let r = record_of c.args.kept.now in
-    rw (← c.self.view_is) (told_of disk s.journal f s.stopped c.self.invariant)
+    rw (← c.self.view_is) (told_of disk s.journal f s.near s.stopped c.self.invariant)
 
 pub returns-then-is_err-clause-told : goal.returns-then-is_err-clause-told
 returns-then-is_err-clause-told g c =
@@ -32,7 +32,7 @@ returns-then-is_err-clause-told g c =
     let disk = g.D.Disk.disk in
     let f = fold_of s.folded in
     let r = record_of c.args.kept.now in
-    rw (← c.self.view_is) (told_of disk s.journal f s.stopped c.self.invariant)
+    rw (← c.self.view_is) (told_of disk s.journal f s.near s.stopped c.self.invariant)
 
 pub returns-in-Ok-clause-told : goal.returns-in-Ok-clause-told
 returns-in-Ok-clause-told g c =
@@ -40,7 +40,7 @@ returns-in-Ok-clause-told g c =
     let disk = g.D.Disk.disk in
     let f = fold_of s.folded in
     let r = record_of c.args.kept.now in
-    rw (← c.self.view_is) (told_of disk s.journal f s.stopped c.self.invariant)
+    rw (← c.self.view_is) (told_of disk s.journal f s.near s.stopped c.self.invariant)
 
 pub returns-in-Err-clause-told : goal.returns-in-Err-clause-told
 returns-in-Err-clause-told g c =
@@ -48,7 +48,7 @@ returns-in-Err-clause-told g c =
     let disk = g.D.Disk.disk in
     let f = fold_of s.folded in
     let r = record_of c.args.kept.now in
-    rw (← c.self.view_is) (told_of disk s.journal f s.stopped c.self.invariant)
+    rw (← c.self.view_is) (told_of disk s.journal f s.near s.stopped c.self.invariant)
 
 pub returns-then-not-may_take-clause-answers : goal.returns-then-not-may_take-clause-answers
 returns-then-not-may_take-clause-answers g c =
@@ -57,7 +57,7 @@ returns-then-not-may_take-clause-answers g c =
     let f = fold_of s.folded in
     let r = record_of c.args.kept.now in
     let place : HasPlaceIn (stored_in f) r = rw (← c.self.view_is) at c.requires.place in
-    rw (← c.self.view_is) (answers_spent s.journal.disk s.journal.disk f f r s.stopped c.if-self.false c.self.invariant.within.few c.self.invariant.marked place (λ may. true≢false (sym (c.if-not-may_take.ensures.1 (subst (MayTake f) (sym c.change_kept-change.ensures) may)))))
+    rw (← c.self.view_is) (answers_spent s.journal.disk s.journal.disk f f s.near r s.stopped c.if-self.false c.self.invariant.within.few c.self.invariant.marked place (λ may. true≢false (sym (c.if-not-may_take.ensures.1 (subst (MayTake f) (sym c.change_kept-change.ensures) may)))))
 
 pub returns-then-not-may_take-clause-moves : goal.returns-then-not-may_take-clause-moves
 returns-then-not-may_take-clause-moves g c =
@@ -65,8 +65,8 @@ returns-then-not-may_take-clause-moves g c =
     let disk = g.D.Disk.disk in
     let f = fold_of s.folded in
     let r = record_of c.args.kept.now in
-    let sound = calm disk s.journal f s.stopped c.if-self.false c.self.invariant in
-    rw (← c.self.view_is) (λ still. refused disk s.journal f sound r (g.met.D.Disk.lawful _) NumbersSpent refl)
+    let sound = calm disk s.journal f s.near s.stopped c.if-self.false c.self.invariant in
+    rw (← c.self.view_is) (λ still. refused disk s.journal f s.near sound r (g.met.D.Disk.lawful _) NumbersSpent refl)
 
 pub returns-then-is_err-clause-answers : goal.returns-then-is_err-clause-answers
 returns-then-is_err-clause-answers g c =
@@ -75,7 +75,7 @@ returns-then-is_err-clause-answers g c =
     let f = fold_of s.folded in
     let r = record_of c.args.kept.now in
     let has : MayTake f (change_of (keeps r)) = subst (MayTake f) c.change_kept-change.ensures (c.if-not-may_take.ensures.0 refl) in
-    rw (← c.self.view_is) (answers_without s.journal.disk s.journal.disk f (fold_of c.stage.new.folded) r s.stopped c.if-self.false has c.stage.ensures.same)
+    rw (← c.self.view_is) (answers_without s.journal.disk s.journal.disk f (fold_of c.stage.new.folded) s.near r s.stopped c.if-self.false has c.stage.ensures.same)
 
 pub returns-then-is_err-clause-moves : goal.returns-then-is_err-clause-moves
 returns-then-is_err-clause-moves g c =
@@ -83,8 +83,8 @@ returns-then-is_err-clause-moves g c =
     let disk = g.D.Disk.disk in
     let f = fold_of s.folded in
     let r = record_of c.args.kept.now in
-    let sound = calm disk s.journal f s.stopped c.if-self.false c.self.invariant in
-    rw (← c.self.view_is) (λ still. refused disk s.journal f sound r (g.met.D.Disk.lawful _) OutOfMemory refl)
+    let sound = calm disk s.journal f s.near s.stopped c.if-self.false c.self.invariant in
+    rw (← c.self.view_is) (λ still. refused disk s.journal f s.near sound r (g.met.D.Disk.lawful _) OutOfMemory refl)
 
 pub invariant_of-self-in-Ok : goal.invariant_of-self-in-Ok
 invariant_of-self-in-Ok g c =
@@ -92,12 +92,12 @@ invariant_of-self-in-Ok g c =
     let disk = g.D.Disk.disk in
     let f = fold_of s.folded in
     let r = record_of c.args.kept.now in
-    let sound = calm disk s.journal f s.stopped c.if-self.false c.self.invariant in
+    let sound = calm disk s.journal f s.near s.stopped c.if-self.false c.self.invariant in
     let has : MayTake f (change_of (keeps r)) = subst (MayTake f) c.change_kept-change.ensures (c.if-not-may_take.ensures.0 refl) in
     let may : MayKeep (disk s.journal.disk) r = rw (← c.self.view_is) at c.requires.may in
     let payload : c.deref.result.now ≡ spelled r = c.deref.ensures.value ∙ when_ok c.stage.result c.if-is_err.ensures.value c.stage.ensures.payload in
     let taken : fold_of c.take.new.self ≡ fold_with c.in-Ok.index f (change_of (keeps r)) = c.take.ensures ∙ ap (λ x. fold_with c.in-Ok.index x c.change_kept-change.result) c.stage.ensures.same ∙ ap (fold_with c.in-Ok.index f) c.change_kept-change.ensures in
-    subst (λ h. IsSound disk c.append.new.journal h c.append.new.stopped) (sym taken) (sound_at disk s.journal f sound r c.requires.fits may has c.in-Ok.index c.deref.result.now c.append.new.journal payload c.in-Ok.ensures.answers c.in-Ok.ensures.moves c.append.new.stopped c.in-Ok.ensures.stops)
+    subst (λ h. IsSound disk c.append.new.journal h s.near c.append.new.stopped) (sym taken) (sound_at disk s.journal f s.near sound r c.requires.fits may has c.in-Ok.index c.deref.result.now c.append.new.journal payload c.in-Ok.ensures.answers c.in-Ok.ensures.moves c.in-Ok.ensures.cursors c.append.new.stopped c.in-Ok.ensures.stops)
 
 pub invariant_of-self-in-Err : goal.invariant_of-self-in-Err
 invariant_of-self-in-Err g c =
@@ -105,8 +105,8 @@ invariant_of-self-in-Err g c =
     let disk = g.D.Disk.disk in
     let f = fold_of s.folded in
     let r = record_of c.args.kept.now in
-    let sound = calm disk s.journal f s.stopped c.if-self.false c.self.invariant in
-    sound_failed disk s.journal c.append.new.journal f (fold_of c.stage.new.folded) c.in-Err.fault c.append.new.stopped sound c.stage.ensures.same c.in-Err.ensures.stops c.in-Err.ensures.answers
+    let sound = calm disk s.journal f s.near s.stopped c.if-self.false c.self.invariant in
+    sound_failed disk s.journal c.append.new.journal f (fold_of c.stage.new.folded) s.near c.in-Err.fault c.append.new.stopped sound c.stage.ensures.same c.in-Err.ensures.stops c.in-Err.ensures.answers c.in-Err.ensures.cursors
 
 pub returns-in-Ok-clause-answers : goal.returns-in-Ok-clause-answers
 returns-in-Ok-clause-answers g c =
@@ -116,7 +116,7 @@ returns-in-Ok-clause-answers g c =
     let r = record_of c.args.kept.now in
     let has : MayTake f (change_of (keeps r)) = subst (MayTake f) c.change_kept-change.ensures (c.if-not-may_take.ensures.0 refl) in
     let taken : fold_of c.take.new.self ≡ fold_with c.in-Ok.index f (change_of (keeps r)) = c.take.ensures ∙ ap (λ x. fold_with c.in-Ok.index x c.change_kept-change.result) c.stage.ensures.same ∙ ap (fold_with c.in-Ok.index f) c.change_kept-change.ensures in
-    rw (← c.self.view_is) (answers_ok s.journal.disk c.append.new.journal.disk f (fold_of c.take.new.self) r s.stopped c.if-self.false c.in-Ok.index c.append.new.stopped (c.in-Ok.ensures.stops ∙ c.in-Ok.ensures.answers.2) has taken)
+    rw (← c.self.view_is) (answers_ok s.journal.disk c.append.new.journal.disk f (fold_of c.take.new.self) s.near r s.stopped c.if-self.false c.in-Ok.index c.append.new.stopped (c.in-Ok.ensures.stops ∙ c.in-Ok.ensures.answers.2) has taken)
 
 pub returns-in-Err-clause-answers : goal.returns-in-Err-clause-answers
 returns-in-Err-clause-answers g c =
@@ -124,9 +124,9 @@ returns-in-Err-clause-answers g c =
     let disk = g.D.Disk.disk in
     let f = fold_of s.folded in
     let r = record_of c.args.kept.now in
-    let sound = calm disk s.journal f s.stopped c.if-self.false c.self.invariant in
+    let sound = calm disk s.journal f s.near s.stopped c.if-self.false c.self.invariant in
     let has : MayTake f (change_of (keeps r)) = subst (MayTake f) c.change_kept-change.ensures (c.if-not-may_take.ensures.0 refl) in
-    rw (← c.self.view_is) (answers_failed s.journal c.append.new.journal f (fold_of c.stage.new.folded) r s.stopped c.append.new.stopped c.if-self.false (sym sound.stops) c.in-Err.ensures.stops has c.stage.ensures.same c.in-Err.fault c.in-Err.ensures.answers)
+    rw (← c.self.view_is) (answers_failed s.journal c.append.new.journal f (fold_of c.stage.new.folded) s.near r s.stopped c.append.new.stopped c.if-self.false (sym sound.stops) c.in-Err.ensures.stops has c.stage.ensures.same c.in-Err.fault c.in-Err.ensures.answers)
 
 pub returns-in-Ok-clause-moves : goal.returns-in-Ok-clause-moves
 returns-in-Ok-clause-moves g c =
@@ -134,11 +134,11 @@ returns-in-Ok-clause-moves g c =
     let disk = g.D.Disk.disk in
     let f = fold_of s.folded in
     let r = record_of c.args.kept.now in
-    let sound = calm disk s.journal f s.stopped c.if-self.false c.self.invariant in
+    let sound = calm disk s.journal f s.near s.stopped c.if-self.false c.self.invariant in
     let has : MayTake f (change_of (keeps r)) = subst (MayTake f) c.change_kept-change.ensures (c.if-not-may_take.ensures.0 refl) in
     let may : MayKeep (disk s.journal.disk) r = rw (← c.self.view_is) at c.requires.may in
     let payload : c.deref.result.now ≡ spelled r = c.deref.ensures.value ∙ when_ok c.stage.result c.if-is_err.ensures.value c.stage.ensures.payload in
-    rw (← c.self.view_is) (λ still. keeps_at disk s.journal f sound r c.requires.fits may has (Ok c.in-Ok.index) c.deref.result.now c.append.new.journal payload c.in-Ok.ensures.moves)
+    rw (← c.self.view_is) (λ still. keeps_at disk s.journal f s.near sound r c.requires.fits may has (Ok c.in-Ok.index) c.deref.result.now c.append.new.journal payload c.in-Ok.ensures.moves)
 
 pub returns-in-Ok-clause-room : goal.returns-in-Ok-clause-room
 returns-in-Ok-clause-room g c =
@@ -146,11 +146,11 @@ returns-in-Ok-clause-room g c =
     let disk = g.D.Disk.disk in
     let f = fold_of s.folded in
     let r = record_of c.args.kept.now in
-    let sound = calm disk s.journal f s.stopped c.if-self.false c.self.invariant in
+    let sound = calm disk s.journal f s.near s.stopped c.if-self.false c.self.invariant in
     let has : MayTake f (change_of (keeps r)) = subst (MayTake f) c.change_kept-change.ensures (c.if-not-may_take.ensures.0 refl) in
     let may : MayKeep (disk s.journal.disk) r = rw (← c.self.view_is) at c.requires.may in
     let payload : c.deref.result.now ≡ spelled r = c.deref.ensures.value ∙ when_ok c.stage.result c.if-is_err.ensures.value c.stage.ensures.payload in
-    rw (← c.self.view_is) (room_at disk s.journal f sound r c.deref.result.now c.append.new.journal payload c.in-Ok.ensures.room (follows disk s.journal f sound r c.requires.fits may has) (Ok c.in-Ok.index) c.in-Ok.ensures.moves c.in-Ok.ensures.need)
+    rw (← c.self.view_is) (room_at disk s.journal f s.near sound r c.deref.result.now c.append.new.journal payload c.in-Ok.ensures.room (follows disk s.journal f s.near sound r c.requires.fits may has) (Ok c.in-Ok.index) c.in-Ok.ensures.moves c.in-Ok.ensures.need)
 
 pub returns-in-Err-clause-moves : goal.returns-in-Err-clause-moves
 returns-in-Err-clause-moves g c =
@@ -158,11 +158,11 @@ returns-in-Err-clause-moves g c =
     let disk = g.D.Disk.disk in
     let f = fold_of s.folded in
     let r = record_of c.args.kept.now in
-    let sound = calm disk s.journal f s.stopped c.if-self.false c.self.invariant in
+    let sound = calm disk s.journal f s.near s.stopped c.if-self.false c.self.invariant in
     let has : MayTake f (change_of (keeps r)) = subst (MayTake f) c.change_kept-change.ensures (c.if-not-may_take.ensures.0 refl) in
     let may : MayKeep (disk s.journal.disk) r = rw (← c.self.view_is) at c.requires.may in
     let payload : c.deref.result.now ≡ spelled r = c.deref.ensures.value ∙ when_ok c.stage.result c.if-is_err.ensures.value c.stage.ensures.payload in
-    rw (← c.self.view_is) (λ still. keeps_at disk s.journal f sound r c.requires.fits may has (Err c.in-Err.fault) c.deref.result.now c.append.new.journal payload c.in-Err.ensures.moves)
+    rw (← c.self.view_is) (λ still. keeps_at disk s.journal f s.near sound r c.requires.fits may has (Err c.in-Err.fault) c.deref.result.now c.append.new.journal payload c.in-Err.ensures.moves)
 
 pub returns-in-Err-clause-room : goal.returns-in-Err-clause-room
 returns-in-Err-clause-room g c =
@@ -170,11 +170,11 @@ returns-in-Err-clause-room g c =
     let disk = g.D.Disk.disk in
     let f = fold_of s.folded in
     let r = record_of c.args.kept.now in
-    let sound = calm disk s.journal f s.stopped c.if-self.false c.self.invariant in
+    let sound = calm disk s.journal f s.near s.stopped c.if-self.false c.self.invariant in
     let has : MayTake f (change_of (keeps r)) = subst (MayTake f) c.change_kept-change.ensures (c.if-not-may_take.ensures.0 refl) in
     let may : MayKeep (disk s.journal.disk) r = rw (← c.self.view_is) at c.requires.may in
     let payload : c.deref.result.now ≡ spelled r = c.deref.ensures.value ∙ when_ok c.stage.result c.if-is_err.ensures.value c.stage.ensures.payload in
-    rw (← c.self.view_is) (room_at disk s.journal f sound r c.deref.result.now c.append.new.journal payload c.in-Err.ensures.room (follows disk s.journal f sound r c.requires.fits may has) (Err c.in-Err.fault) c.in-Err.ensures.moves c.in-Err.ensures.need)
+    rw (← c.self.view_is) (room_at disk s.journal f s.near sound r c.deref.result.now c.append.new.journal payload c.in-Err.ensures.room (follows disk s.journal f s.near sound r c.requires.fits may has) (Err c.in-Err.fault) c.in-Err.ensures.moves c.in-Err.ensures.need)
 
 pub append-requires-clause-fits : goal.append-requires-clause-fits
 append-requires-clause-fits g c =
@@ -193,3 +193,6 @@ append-requires-clause-some g c =
     let r = record_of c.args.kept.now in
     let payload : c.deref.result.now ≡ spelled r = c.deref.ensures.value ∙ when_ok c.stage.result c.if-is_err.ensures.value c.stage.ensures.payload in
     omega (arith, ap length payload, (is_payload r c.requires.fits).0)
+
+pub take-requires-clause-may : goal.take-requires-clause-may
+take-requires-clause-may g c = subst (λ h. MayTake h c.change_kept-change.result) (sym c.stage.ensures.same) (c.if-not-may_take.ensures.0 refl)

@@ -1,4 +1,4 @@
-use Rattle.std.proofs.Common.{false, refl, ◌∙◌, sym, ap}
+use Rattle.std.proofs.Common.{false, refl}
 use Rattle.fix_store.specs.Folding.{fold_of}
 use Rattle.fix_store.proofs.OpenLemmas.{journal_unopened, journal_cause, walk_refused, walk_cause, mark_refused, mark_cause, mark_sound, mark_whole, end_found, items_found}
 use Rattle.fix_store.proofs.RoomLemmas.{journal_refused, walk_lacks, mark_room, mark_room_refused}

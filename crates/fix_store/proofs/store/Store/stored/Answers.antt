@@ -5,4 +5,4 @@ use Rattle.fix_store.proofs.store.Store.stored.Goals as goal
 pub returns-clause-told : goal.returns-clause-told
 returns-clause-told g c =
     let s = c.self.inside in
-    rw (← c.self.view_is) (told_of g.D.Disk.disk s.journal (fold_of s.folded) s.stopped c.self.invariant)
+    rw (← c.self.view_is) (told_of g.D.Disk.disk s.journal (fold_of s.folded) s.near s.stopped c.self.invariant)

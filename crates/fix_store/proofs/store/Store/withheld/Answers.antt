@@ -11,4 +11,4 @@ returns-clause-is g c =
 pub returns-clause-told : goal.returns-clause-told
 returns-clause-told g c =
     let s = c.self.inside in
-    rw (← c.self.view_is) (told_of g.D.Disk.disk s.journal (fold_of s.folded) s.stopped c.self.invariant)
+    rw (← c.self.view_is) (told_of g.D.Disk.disk s.journal (fold_of s.folded) s.near s.stopped c.self.invariant)
