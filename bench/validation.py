@@ -88,9 +88,9 @@ def main():
         beside(given, "orders by 900 fields and 90 types", made["json"], made["xml"], orders, 3)
         sample = os.path.join(SAMPLES, "FIX44.json")
         growth(given, work, "user-defined tags in one order", sample, (1_000, 10_000, 100_000),
-               lambda n: order(1, "".join("%d=x|" % (5000 + tag) for tag in range(n)), "FIX.4.4"))
+               lambda n: order(1, "".join("%d=xxx|" % (5000 + tag) for tag in range(n)), "FIX.4.4"))
         growth(given, work, "instances of a group in one order", sample, (600, 6_000, 60_000),
-               lambda n: order(1, "453=%d|" % n + "448=a|447=D|" * n, "FIX.4.4"))
+               lambda n: order(1, "453=%d|" % n + "448=PARTY1|447=D|" * n, "FIX.4.4"))
 
 
 if __name__ == "__main__":

@@ -2,10 +2,11 @@
 ghost use Rattle.std.specs.Prelude.{◌≡◌, None, List, IfOk, option_map};
 ghost use Rattle.fix_base.specs.Fields.{Field, FieldsAfter};
 ghost use Rattle.fix_base.specs.Says.{value_of};
+ghost use Rattle.fix_fields.specs.Lent.{field_of};
 ghost use Rattle.fix_validate.specs.Table.{has_field};
 
 use fix_base::Tag;
-use fix_fields::{due_after, field_at};
+use fix_fields::{FieldRef, due_after, field_at};
 use fix_groups::Lent;
 use std::alloc::{AllocError, Global};
 
@@ -25,9 +26,21 @@ pub fn collect<'a>(alloc: Global, bytes: &'a [u8]) -> Result<Vec<Lent<'a>>, Allo
         };
         due = due_after(&field);
         rest = behind;
-        all.push(Lent::new(field))?;
+        all.push(lent(&field))?;
     }
     Ok(all)
+}
+
+// The field in the list's form. The value is cut anew, so that its place and its length are read apart, as they
+// were written: as one they would be waited for.
+fn lent<'a>(field: &FieldRef<'a>) -> Lent<'a>
+    ensures { result ≡ field_of field.now }
+{
+    let value = field.value;
+    Lent::new(FieldRef {
+        tag: field.tag,
+        value: &value[..value.len()],
+    })
 }
 
 /// The value of the first field with the tag.

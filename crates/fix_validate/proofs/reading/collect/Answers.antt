@@ -12,7 +12,7 @@ returns-in_default c =
 pub loop-rest-preserved : goal.loop-rest-preserved
 loop-rest-preserved c =
     let some : c.loop-rest.rest.now ≢ [] = λ e. grind (arith, ap length e) in
-    taken_more c.loop-rest.all.items _ c.args.bytes.now c.loop-rest.due _ (field_of c.in-Some.field) c.new.result c.loop-rest.rest.now c.in-Some.behind.now c.in-Some.ensures some c.due_after-due.ensures c.new.ensures c.in_ok-push.ensures.items c.loop-rest.invariant
+    taken_more c.loop-rest.all.items _ c.args.bytes.now c.loop-rest.due _ (field_of c.in-Some.field) c.lent.result c.loop-rest.rest.now c.in-Some.behind.now c.in-Some.ensures some c.due_after-due.ensures c.lent.ensures c.in_ok-push.ensures.items c.loop-rest.invariant
 
 pub returns : goal.returns
 returns c =
