@@ -26,6 +26,7 @@ use Rattle.fix_machine.specs.Event.{StepSeen}
 use Rattle.fix_stage.specs.Combine.{goes_well, fails}
 use Rattle.fix_stage.specs.Stage.{Staged}
 use Rattle.fix_stage.specs.declared.sender.Sender.{Sender}
+use Rattle.fix_stage.specs.Sender.{with_numbers, with_expected}
 use Rattle.fix_stage.specs.declared.fault.StageFault.{StageFault}
 use Rattle.fix_stage.specs.declared.fault.StageFault.TheVariants as fault
 use Rattle.fix_stage.specs.Flush.{Flushed}
@@ -34,7 +35,7 @@ use Rattle.fix_stage.specs.Staging as staging
 use Rattle.fix_stage.specs.Staging.{MakesAndStages}
 use Rattle.fix_stage.specs.Lawful.{IsCertain, AsksNoReset, Fits, Level, LawfulRunTo, After, AfterFault, LeadsFrom}
 use Rattle.fix_stage.proofs.ChainLemmas.{level_fits}
-use Rattle.fix_stage.proofs.LeadsLemmas.{leads_nowhere, leads_step, leads_weaker, HasNoDoubt, none_leads, first_leads, then_leads}
+use Rattle.fix_stage.proofs.LeadsLemmas.{leads_nowhere, leads_step, leads_move, leads_weaker, HasNoDoubt, none_leads, first_leads, then_leads}
 use Rattle.fix_stage.proofs.OutgoingLemmas.{carried, frame_original}
 use Rattle.fix_stage.proofs.PlainLemmas.{has_same, sealed_free}
 use Rattle.fix_stage.proofs.SendingLemmas.{Flushed-empty}
@@ -276,6 +277,62 @@ module _ (id : Identity) (read : List ℕ) (frame : Option (List ℕ)) (plain : 
       let move : Move f.ahead.to (record f.ahead.to { expected = m }) = steps.reset_to f.on.connection j m (ahead_free h.given n b e f) seen.connection (read_on read (message.ResetTo j m) f.on.connection f.on.reads shown) (subst (λ (i : ℕ). i ≤ m) (sym f.ahead.expected) up) in
       leads_nowhere id e (InStep id read m to) (record { given = h.given; fits = counted id read h.given n m b e f move; below = λ i a. (let low = h.below i a in omega (arith, up)) })
 
+  -- where nothing is staged the end itself passes it
+  clear_passes : (n k : ℕ) (b : Sender) (e : EndState) → InStepClear id read n b e → n ≤ k → Move e (record e { expected = k }) → LawfulRunTo id e [] (InStepClear id read k (with_numbers b (with_expected b.numbers k)))
+  clear_passes n k b e h up move =
+      let to : EndState = record e { expected = k } in
+      let l = h.level in
+      leads_move id e to [] (InStepClear id read k (with_numbers b (with_expected b.numbers k))) move refl
+      (leads_nowhere id to (InStepClear id read k (with_numbers b (with_expected b.numbers k))) (record {
+        given = h.given;
+        level = record {
+          certain = record { doubt = l.certain.doubt; kept = record { stored = l.certain.kept.stored; out = l.certain.kept.out; role = l.certain.kept.role } };
+          on = record {
+            connection = l.on.connection;
+            is_open = l.on.is_open;
+            reads = l.on.reads;
+            gives = l.on.gives;
+            last = l.on.last;
+            below = l.on.below;
+            whole = l.on.whole;
+            plain = l.on.plain;
+          };
+          here = refl;
+          base = l.base;
+          expected = refl;
+          frames = l.frames;
+        };
+        empty = h.empty;
+        below = λ j a. (let low = h.below j a in omega (arith, up));
+      }))
+
+  clear_free : (n : ℕ) (b : Sender) (e : EndState) → InStepClear id read n b e → IsBlocked e → ⊥
+  clear_free n b e h = let l = h.level in read_free read plain e l.on.connection l.certain.kept.role l.on.is_open l.on.reads
+
+  admin_clear : (n : ℕ) (y : Message) → IsAdminNumbered n y → WasReadIn read y → Expects (InStepClear id read n) (n + 1) (InStepClear id read (n + 1))
+  admin_clear n y at shown b notes r to (done.expects k) e h =
+      let l = h.level in
+      let one : Move e (record e { expected = e.expected + 1 }) = steps.past_admin l.on.connection y (clear_free n b e h) l.on.is_open (read_on read y l.on.connection l.on.reads shown) (subst (λ (m : ℕ). IsAdminNumbered m y) (sym l.here) at) in
+      clear_passes n (n + 1) b e h (omega arith) (subst (λ (m : ℕ). Move e (record e { expected = m + 1 })) l.here one)
+
+  gap_clear : (n m : ℕ) → n < m → WasReadIn read (message.GapFill n m) → Expects (InStepClear id read n) m (InStepClear id read m)
+  gap_clear n m up shown b notes r to (done.expects k) e h =
+      let l = h.level in
+      clear_passes n m b e h (omega (arith, up))
+      (steps.past_gap l.on.connection n m (clear_free n b e h) l.on.is_open (read_on read (message.GapFill n m) l.on.connection l.on.reads shown) (sym l.here) (subst (λ (j : ℕ). j < m) (sym l.here) up))
+
+  reset_clear : (n j m : ℕ) → n ≤ m → WasReadIn read (message.ResetTo j m) → Expects (InStepClear id read n) m (InStepClear id read m)
+  reset_clear n j m up shown b notes r to (done.expects k) e h =
+      let l = h.level in
+      clear_passes n m b e h up
+      (steps.reset_to l.on.connection j m (clear_free n b e h) l.on.is_open (read_on read (message.ResetTo j m) l.on.connection l.on.reads shown) (subst (λ (i : ℕ). i ≤ m) (sym l.here) up))
+
+  -- what is staged stays as it is
+  passes_at : (at : Standing) → IsFresh at → (n k : ℕ) → Expects (InStepClear id read n) k (InStepClear id read k) → Expects (InStep id read n) k (InStep id read k) → Expects (Stands id read at n) k (Stands id read at k)
+  passes_at Clear is n k clear staged = clear
+  passes_at Open is n k clear staged = staged
+  passes_at Handled is n k clear staged = absurd is
+
 -- ---- each step
 
 -- the message that is answered
@@ -310,11 +367,11 @@ module _ (id : Identity) (read : List ℕ) (valid : IsValidIdentity id) (frame :
   may_leads {n = n} (lawful.passes_app marked body same) fit b notes r to d e h =
       let m = message_as (message.App n marked body) same in app_leads id read frame m.plain n marked body m.shown b notes r to d e h
   may_leads {at = at} {n = n} (lawful.passes_admin y same numbered is) fit b notes r to d e h =
-      let m = message_as y same in admin_leads id read frame m.plain n y numbered m.shown b notes r to d e (fresh id read at n b e is h)
+      let m = message_as y same in passes_at id read frame m.plain at is n (n + 1) (admin_clear id read frame m.plain n y numbered m.shown) (admin_leads id read frame m.plain n y numbered m.shown) b notes r to d e h
   may_leads {at = at} {n = n} (lawful.passes_gap k same up is) fit b notes r to d e h =
-      let m = message_as (message.GapFill n k) same in gap_leads id read frame m.plain n k up m.shown b notes r to d e (fresh id read at n b e is h)
+      let m = message_as (message.GapFill n k) same in passes_at id read frame m.plain at is n k (gap_clear id read frame m.plain n k up m.shown) (gap_leads id read frame m.plain n k up m.shown) b notes r to d e h
   may_leads {at = at} {n = n} (lawful.resets_to j k same up is) fit b notes r to d e h =
-      let m = message_as (message.ResetTo j k) same in reset_leads id read frame m.plain n j k up m.shown b notes r to d e (fresh id read at n b e is h)
+      let m = message_as (message.ResetTo j k) same in passes_at id read frame m.plain at is n k (reset_clear id read frame m.plain n j k up m.shown) (reset_leads id read frame m.plain n j k up m.shown) b notes r to d e h
   may_leads {at = at} {n = n} (lawful.may_close why) fit b notes r to (done.closes w) e h = leads_nowhere id e (IsStillOn id read b) (still_on id read at n b e h)
   may_leads {at = at} {n = n} lawful.may_rest fit b notes r to done.nothing e h = leads_nowhere id e (Stands id read at n b) h
 

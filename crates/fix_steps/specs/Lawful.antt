@@ -45,7 +45,8 @@ IsNoReset (Logon heart reset version) = reset ≡ false
 
 -- What a step may do in the answer to this message, or to something else: from where the answer stands, with this
 -- number expected, to where it stands then, with that one. An application message is passed once it was handed over or
--- rejected, another of the expected number as it is, a gap fill to where it leads, and a reset to no lower number
+-- rejected, another of the expected number as it is, a gap fill to where it leads, and a reset to no lower number.
+-- Passing one leaves what is staged as it is
 pub data MayDo (x : Option Message) : Standing → ℕ → StepSeen → Standing → ℕ → Type 0 where
   may_say : {at : Standing} {n : ℕ} (said : SaySeen) → IsFresh at → IsNoReset said → MayDo x at n (Send said) Open n
   may_reject : {at : Standing} {n : ℕ} (marked : Bool) (body type : List ℕ) (fault : Fault)
@@ -54,11 +55,11 @@ pub data MayDo (x : Option Message) : Standing → ℕ → StepSeen → Standing
   passes_app : {n : ℕ} (marked : Bool) (body : List ℕ) → x ≡ Some (App n marked body)
       → MayDo x Handled n (Expect (n + 1)) Open (n + 1)
   passes_admin : {at : Standing} {n : ℕ} (y : Message) → x ≡ Some y → IsAdminNumbered n y → IsFresh at
-      → MayDo x at n (Expect (n + 1)) Open (n + 1)
+      → MayDo x at n (Expect (n + 1)) at (n + 1)
   passes_gap : {at : Standing} {n : ℕ} (m : ℕ) → x ≡ Some (GapFill n m) → n < m → IsFresh at
-      → MayDo x at n (Expect m) Open m
+      → MayDo x at n (Expect m) at m
   resets_to : {at : Standing} {n : ℕ} (k m : ℕ) → x ≡ Some (ResetTo k m) → n ≤ m → IsFresh at
-      → MayDo x at n (Expect m) Open m
+      → MayDo x at n (Expect m) at m
   may_close : {at : Standing} {n : ℕ} (why : Why) → MayDo x at n (Close why) at n
   may_rest : {at : Standing} {n : ℕ} → MayDo x at n Nothing at n
 
