@@ -1,3 +1,4 @@
+pub mod Calls
 pub mod Connection
 pub mod Handing
 pub mod Outside

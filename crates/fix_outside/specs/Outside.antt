@@ -39,13 +39,32 @@ abbrev pub tells_time : Result ℕ OutOfMemory → List Note
 tells_time (Ok t) = Did (act.Now t) ∷ []
 tells_time (Err e) = []
 
+-- what a read gave
+pub data Came : Type 0 where
+  Bytes : (bytes : List ℕ) → Came
+  NothingYet : Came
+  TheEnd : Came
+  ReadFailed : Came
+  NoMemory : Came
+
+-- the room is as it is after the read
+abbrev pub came : ReadTurn → List ℕ → Came
+came (read.Bytes n) room = Bytes (take n room)
+came read.Idle room = NothingYet
+came read.End room = TheEnd
+came read.Failed room = ReadFailed
+came read.OutOfMemory room = NoMemory
+
 -- a failed read notes no act
+abbrev pub notes_of_read : Came → List Note
+notes_of_read (Bytes bytes) = Did (act.Read bytes) ∷ []
+notes_of_read NothingYet = Did act.Idle ∷ []
+notes_of_read TheEnd = Did act.Ended ∷ []
+notes_of_read ReadFailed = Failed (LinkPart 0) ∷ []
+notes_of_read NoMemory = []
+
 abbrev pub reads : ReadTurn → List ℕ → List Note
-reads (read.Bytes n) room = Did (act.Read (take n room)) ∷ []
-reads read.Idle room = Did act.Idle ∷ []
-reads read.End room = Did act.Ended ∷ []
-reads read.Failed room = Failed (LinkPart 0) ∷ []
-reads read.OutOfMemory room = []
+reads turn room = notes_of_read (came turn room)
 
 -- a failed write sent so many bytes, and the rest not
 abbrev pub writes : WriteTurn → List ℕ → List Note
@@ -58,10 +77,13 @@ keeps (Ok x) r = Did (act.Kept r) ∷ []
 keeps (Err keep.Failed) r = Did (act.KeepLost r) ∷ Failed StorePart ∷ []
 keeps (Err keep.OutOfMemory) r = []
 
+abbrev pub notes_of_hand : Said → ℕ → Bool → List ℕ → List Note
+notes_of_hand said.Taken number marked body = Did (act.Handed number marked body) ∷ []
+notes_of_hand said.Failed number marked body = Did (act.HandLost number marked body) ∷ Failed AppPart ∷ []
+notes_of_hand said.OutOfMemory number marked body = []
+
 abbrev pub hands : Said → Handed → List Note
-hands said.Taken h = Did (act.Handed h.number h.marked h.body.now) ∷ []
-hands said.Failed h = Did (act.HandLost h.number h.marked h.body.now) ∷ Failed AppPart ∷ []
-hands said.OutOfMemory h = []
+hands said h = notes_of_hand said h.number h.marked h.body.now
 
 -- ---- the store: whether it is open, and what it answers
 
@@ -169,6 +191,13 @@ pub record IsFetchedWithheld (n : ℕ) (body : List ℕ) (w : OutsideSeen) : Typ
   pub none : body ≡ []
   pub app : (e : End) → w.Holds e → (body : List ℕ) × IsAppAt e.out n body
   pub withheld : (e : End) → w.Holds e → Among n e.withheld
+
+-- what a fetch of entry n told is so in this end
+abbrev pub IsSo : Result Kind FetchFault → ℕ → List ℕ → End → Type 0
+IsSo (Ok (kind.App time)) n body e = ((by : By) × IsEntry e.out n (App time by body)) × (Among n e.withheld → ⊥)
+IsSo (Ok kind.Admin) n body e = IsAdminAt e.out n
+IsSo (Ok kind.Withheld) n body e = ((body : List ℕ) × IsAppAt e.out n body) × Among n e.withheld
+IsSo (Err fault) n body e = ⊤
 
 abbrev pub FetchAnswers : Result Kind FetchFault → ℕ → List ℕ → OutsideSeen → Type 0
 FetchAnswers (Ok (kind.App time)) n body w = IsFetchedApp n time body w

@@ -1,12 +1,13 @@
 //! The calls that a session makes, and their faults. `fix_engine` calls these in its stages, and `fix_rim`
 //! carries them out.
 ghost use Rattle.std.specs.Prelude.{◌≡◌, ◌∷◌, [], ◌<◌, length, option_map};
+ghost use Rattle.fix_outside.specs.Calls.{Called, Look, Load, Mark, Read, Write, Keep, Fetch, Hand, Ask};
 ghost use Rattle.fix_base.specs.Payload.{IsKeepable};
 ghost use Rattle.fix_base.specs.Trace.{OutsideSeen, Trace, Asked};
 ghost use Rattle.fix_fields.specs.Drafted.{draft_body};
 ghost use Rattle.fix_outside.specs.Handing.{HasKind};
 ghost use Rattle.fix_outside.specs.Connection.{IsInRoom, IsInBytes};
-ghost use Rattle.fix_outside.specs.Outside.{marks, tells_time, reads, writes, keeps, hands, loads, fetches};
+ghost use Rattle.fix_outside.specs.Outside.{marks, tells_time, reads, writes, keeps, hands, loads, fetches, came};
 ghost use Rattle.fix_outside.specs.Outside.{HasPlace, NamesApp, HasEntry, open_kept, open_loaded, open_fetched, LoadAnswers};
 ghost use Rattle.fix_outside.specs.Outside.{FetchAnswers};
 
@@ -69,30 +70,35 @@ pub trait Outside {
     /// Reads the clock, in microseconds since 1970.
     fn now(&mut self) -> Result<u64, OutOfMemory>
         ensures noted { Trace (seen self.old) (seen self.new) (tells_time result) }
+        ensures called { Called (seen self.old) (seen self.new) (Look result ∷ []) }
         ensures opens { (seen self.new).open_at ≡ (seen self.old).open_at };
 
     /// Opens the message store, and tells its numbers: the process starts from what is stored. A
     /// `last` is at most 999,999,999, an `expected` number 1 to 1,000,000,000.
     fn load(&mut self) -> Result<Stored, LoadFault>
         ensures noted { Trace (seen self.old) (seen self.new) (loads result) }
+        ensures called { Called (seen self.old) (seen self.new) (Load result ∷ []) }
         ensures answers { LoadAnswers result (seen self.old) }
         ensures opens { (seen self.new).open_at ≡ open_loaded result };
 
     /// Notes that a connection was opened or, with `cut`, that it is given up.
     fn mark(&mut self, cut: bool) -> Result<(), OutOfMemory>
         ensures noted { Trace (seen self.old) (seen self.new) (marks cut result) }
+        ensures called { Called (seen self.old) (seen self.new) (Mark cut result ∷ []) }
         ensures opens { (seen self.new).open_at ≡ (seen self.old).open_at };
 
     /// Reads what came over the connection into the front of `room`.
     fn read(&mut self, room: &mut [u8]) -> ReadTurn
         requires { 0 < length room.old }
         ensures noted { Trace (seen self.old) (seen self.new) (reads result room.new) }
+        ensures called { Called (seen self.old) (seen self.new) (Read (length room.new) (came result room.new) ∷ []) }
         ensures in_room { IsInRoom result room.new }
         ensures opens { (seen self.new).open_at ≡ (seen self.old).open_at };
 
     /// Writes the bytes on the connection.
     fn write(&mut self, bytes: &[u8]) -> WriteTurn
         ensures noted { Trace (seen self.old) (seen self.new) (writes result bytes.now) }
+        ensures called { Called (seen self.old) (seen self.new) (Write bytes.now result ∷ []) }
         ensures in_bytes { IsInBytes result bytes.now }
         ensures opens { (seen self.new).open_at ≡ (seen self.old).open_at };
 
@@ -103,6 +109,7 @@ pub trait Outside {
         requires place { HasPlace kept.now (seen self.old).open_at }
         requires named { NamesApp kept.now (seen self.old) }
         ensures noted { Trace (seen self.old) (seen self.new) (keeps result kept.now) }
+        ensures called { Called (seen self.old) (seen self.new) (Keep kept.now result ∷ []) }
         ensures opens { (seen self.new).open_at ≡ open_kept result kept.now (seen self.old).open_at };
 
     /// What the entry of this number is. The body of an application message is put into `into`, in
@@ -110,6 +117,7 @@ pub trait Outside {
     fn fetch(&mut self, n: SeqNum, into: &mut Vec<u8>) -> Result<Kind, FetchFault>
         requires { HasEntry n (seen self.old).open_at }
         ensures noted { Trace (seen self.old) (seen self.new) (fetches result) }
+        ensures called { Called (seen self.old) (seen self.new) (Fetch n result into.new.items ∷ []) }
         ensures answers { FetchAnswers result n into.new.items (seen self.old) }
         ensures opens { (seen self.new).open_at ≡ open_fetched result (seen self.old).open_at };
 
@@ -118,10 +126,12 @@ pub trait Outside {
     fn hand(&mut self, h: &Handed<'_>) -> Said
         requires { HasKind h.now }
         ensures noted { Trace (seen self.old) (seen self.new) (hands result h.now) }
+        ensures called { Called (seen self.old) (seen self.new) (Hand h.now.number h.now.marked h.now.body.now result ∷ []) }
         ensures opens { (seen self.new).open_at ≡ (seen self.old).open_at };
 
     /// Asks the application for a message to be sent.
     fn ask(&mut self) -> Option<Draft>
         ensures noted { Trace (seen self.old) (seen self.new) (Asked (option_map draft_body result) ∷ []) }
+        ensures called { Called (seen self.old) (seen self.new) (Ask (option_map draft_body result) ∷ []) }
         ensures opens { (seen self.new).open_at ≡ (seen self.old).open_at };
 }

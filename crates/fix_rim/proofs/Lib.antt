@@ -1,2 +1,3 @@
 mod SlotLemmas
 mod RimLemmas
+pub mod Carrying

@@ -102,7 +102,8 @@ impl<D: Disk, L: Link, A: App, C: Clock, T: Tape> Outside for Rim<D, L, A, C, T>
     ghost use Rattle.fix_parts.specs.App.{AppTakes, AppAsks};
     ghost use Rattle.fix_outside.specs.Handing.{HasKind};
     ghost use Rattle.fix_outside.specs.declared.outside.KeepFault.TheVariants as TheKeepFault;
-    ghost use Rattle.fix_outside.specs.Outside.{marks, tells_time, reads, writes, keeps, hands, loads, fetches};
+    ghost use Rattle.fix_outside.specs.Outside.{marks, tells_time, reads, writes, keeps, hands, loads, fetches, came};
+    ghost use Rattle.fix_outside.specs.Calls.{Called, Look, Load, Mark, Read, Write, Keep, Fetch, Hand, Ask};
     ghost use Rattle.fix_outside.specs.Outside.{HasPlace, NamesApp, HasEntry, open_kept, open_loaded, open_fetched};
     ghost use Rattle.fix_outside.specs.Outside.{LoadAnswers, FetchAnswers};
     ghost use Rattle.fix_rim.specs.StoreSlot.{seen_on, KeepLeft, LoadLeaves, LoadLasts};
@@ -113,12 +114,18 @@ impl<D: Disk, L: Link, A: App, C: Clock, T: Tape> Outside for Rim<D, L, A, C, T>
     ghost seen = { λ p. seen_of (T.told p.tape) (seen_on D.disk p.slot.device) (p.slot.open_at)
         (plug_of L.link p.optional_link) (A.app p.app) (C.readings p.clock) };
 
+    #[tactic(auto, using(crate::proofs::Carrying::calls))]
     fn now(&mut self) -> Result<u64, OutOfMemory>
         ensures noted { Trace (seen_of (T.told self.old.tape) (seen_on D.disk self.old.slot.device) self.old.slot.open_at
             (plug_of L.link self.old.optional_link) (A.app self.old.app) (C.readings self.old.clock))
             (seen_of (T.told self.new.tape) (seen_on D.disk self.new.slot.device) self.new.slot.open_at
             (plug_of L.link self.new.optional_link) (A.app self.new.app) (C.readings self.new.clock))
             (tells_time result) }
+        ensures called { Called (seen_of (T.told self.old.tape) (seen_on D.disk self.old.slot.device) self.old.slot.open_at
+            (plug_of L.link self.old.optional_link) (A.app self.old.app) (C.readings self.old.clock))
+            (seen_of (T.told self.new.tape) (seen_on D.disk self.new.slot.device) self.new.slot.open_at
+            (plug_of L.link self.new.optional_link) (A.app self.new.app) (C.readings self.new.clock))
+            (Look result ∷ []) }
         ensures clock { MatchResult result
             (λ time. ClockReads time (C.readings (clock_in self.old)) (C.readings (clock_in self.new)))
             (λ e. clock_in self.new ≡ clock_in self.old) }
@@ -131,11 +138,17 @@ impl<D: Disk, L: Link, A: App, C: Clock, T: Tape> Outside for Rim<D, L, A, C, T>
         Ok(time)
     }
 
+    #[tactic(auto, using(crate::proofs::Carrying::calls))]
     fn load(&mut self) -> Result<Stored, LoadFault>
         ensures noted { Trace (seen_of (T.told self.old.tape) (seen_on D.disk self.old.slot.device) self.old.slot.open_at
             (plug_of L.link self.old.optional_link) (A.app self.old.app) (C.readings self.old.clock))
             (seen_of (T.told self.new.tape) (seen_on D.disk self.new.slot.device) self.new.slot.open_at
             (plug_of L.link self.new.optional_link) (A.app self.new.app) (C.readings self.new.clock)) (loads result) }
+        ensures called { Called (seen_of (T.told self.old.tape) (seen_on D.disk self.old.slot.device) self.old.slot.open_at
+            (plug_of L.link self.old.optional_link) (A.app self.old.app) (C.readings self.old.clock))
+            (seen_of (T.told self.new.tape) (seen_on D.disk self.new.slot.device) self.new.slot.open_at
+            (plug_of L.link self.new.optional_link) (A.app self.new.app) (C.readings self.new.clock))
+            (Load result ∷ []) }
         ensures answers { LoadAnswers result
             (seen_of (T.told self.old.tape) (seen_on D.disk self.old.slot.device) self.old.slot.open_at
             (plug_of L.link self.old.optional_link) (A.app self.old.app) (C.readings self.old.clock)) }
@@ -162,12 +175,18 @@ impl<D: Disk, L: Link, A: App, C: Clock, T: Tape> Outside for Rim<D, L, A, C, T>
         }
     }
 
+    #[tactic(auto, using(crate::proofs::Carrying::calls))]
     fn mark(&mut self, cut: bool) -> Result<(), OutOfMemory>
         ensures noted { Trace (seen_of (T.told self.old.tape) (seen_on D.disk self.old.slot.device) self.old.slot.open_at
             (plug_of L.link self.old.optional_link) (A.app self.old.app) (C.readings self.old.clock))
             (seen_of (T.told self.new.tape) (seen_on D.disk self.new.slot.device) self.new.slot.open_at
             (plug_of L.link self.new.optional_link) (A.app self.new.app) (C.readings self.new.clock))
             (marks cut result) }
+        ensures called { Called (seen_of (T.told self.old.tape) (seen_on D.disk self.old.slot.device) self.old.slot.open_at
+            (plug_of L.link self.old.optional_link) (A.app self.old.app) (C.readings self.old.clock))
+            (seen_of (T.told self.new.tape) (seen_on D.disk self.new.slot.device) self.new.slot.open_at
+            (plug_of L.link self.new.optional_link) (A.app self.new.app) (C.readings self.new.clock))
+            (Mark cut result ∷ []) }
         ensures opens { self.new.slot.open_at ≡ self.old.slot.open_at }
         ensures others { self.new ≡ with_tape_of self.old self.new }
     {
@@ -180,6 +199,7 @@ impl<D: Disk, L: Link, A: App, C: Clock, T: Tape> Outside for Rim<D, L, A, C, T>
         Ok(())
     }
 
+    #[tactic(auto, using(crate::proofs::Carrying::calls))]
     fn read(&mut self, room: &mut [u8]) -> ReadTurn
         requires { 0 < length room.old }
         ensures noted { Trace (seen_of (T.told self.old.tape) (seen_on D.disk self.old.slot.device) self.old.slot.open_at
@@ -187,6 +207,11 @@ impl<D: Disk, L: Link, A: App, C: Clock, T: Tape> Outside for Rim<D, L, A, C, T>
             (seen_of (T.told self.new.tape) (seen_on D.disk self.new.slot.device) self.new.slot.open_at
             (plug_of L.link self.new.optional_link) (A.app self.new.app) (C.readings self.new.clock))
             (reads result room.new) }
+        ensures called { Called (seen_of (T.told self.old.tape) (seen_on D.disk self.old.slot.device) self.old.slot.open_at
+            (plug_of L.link self.old.optional_link) (A.app self.old.app) (C.readings self.old.clock))
+            (seen_of (T.told self.new.tape) (seen_on D.disk self.new.slot.device) self.new.slot.open_at
+            (plug_of L.link self.new.optional_link) (A.app self.new.app) (C.readings self.new.clock))
+            (Read (length room.new) (came result room.new) ∷ []) }
         ensures in_room { IsInRoom result room.new }
         ensures link { LinkReads result room.new (plug_of L.link self.old.optional_link)
             (plug_of L.link self.new.optional_link) }
@@ -214,12 +239,18 @@ impl<D: Disk, L: Link, A: App, C: Clock, T: Tape> Outside for Rim<D, L, A, C, T>
         }
     }
 
+    #[tactic(auto, using(crate::proofs::Carrying::calls))]
     fn write(&mut self, bytes: &[u8]) -> WriteTurn
         ensures noted { Trace (seen_of (T.told self.old.tape) (seen_on D.disk self.old.slot.device) self.old.slot.open_at
             (plug_of L.link self.old.optional_link) (A.app self.old.app) (C.readings self.old.clock))
             (seen_of (T.told self.new.tape) (seen_on D.disk self.new.slot.device) self.new.slot.open_at
             (plug_of L.link self.new.optional_link) (A.app self.new.app) (C.readings self.new.clock))
             (writes result bytes.now) }
+        ensures called { Called (seen_of (T.told self.old.tape) (seen_on D.disk self.old.slot.device) self.old.slot.open_at
+            (plug_of L.link self.old.optional_link) (A.app self.old.app) (C.readings self.old.clock))
+            (seen_of (T.told self.new.tape) (seen_on D.disk self.new.slot.device) self.new.slot.open_at
+            (plug_of L.link self.new.optional_link) (A.app self.new.app) (C.readings self.new.clock))
+            (Write bytes.now result ∷ []) }
         ensures in_bytes { IsInBytes result bytes.now }
         ensures link { LinkWrites result bytes.now (plug_of L.link self.old.optional_link)
             (plug_of L.link self.new.optional_link) }
@@ -242,6 +273,7 @@ impl<D: Disk, L: Link, A: App, C: Clock, T: Tape> Outside for Rim<D, L, A, C, T>
         }
     }
 
+    #[tactic(auto, using(crate::proofs::Carrying::calls))]
     fn keep(&mut self, kept: &Record) -> Result<(), KeepFault>
         requires payload { IsKeepable kept.now }
         requires place { HasPlace kept.now self.old.slot.open_at }
@@ -253,6 +285,11 @@ impl<D: Disk, L: Link, A: App, C: Clock, T: Tape> Outside for Rim<D, L, A, C, T>
             (seen_of (T.told self.new.tape) (seen_on D.disk self.new.slot.device) self.new.slot.open_at
             (plug_of L.link self.new.optional_link) (A.app self.new.app) (C.readings self.new.clock))
             (keeps result kept.now) }
+        ensures called { Called (seen_of (T.told self.old.tape) (seen_on D.disk self.old.slot.device) self.old.slot.open_at
+            (plug_of L.link self.old.optional_link) (A.app self.old.app) (C.readings self.old.clock))
+            (seen_of (T.told self.new.tape) (seen_on D.disk self.new.slot.device) self.new.slot.open_at
+            (plug_of L.link self.new.optional_link) (A.app self.new.app) (C.readings self.new.clock))
+            (Keep kept.now result ∷ []) }
         ensures opens { self.new.slot.open_at ≡ open_kept result kept.now self.old.slot.open_at }
         // A crash at any moment of it leaves the end from before, or with the record, and at Ok the latter.
         ensures leaves { KeepLeft result kept.now (disk_seen D.disk self.old) (disk_seen D.disk self.new) }
@@ -275,12 +312,18 @@ impl<D: Disk, L: Link, A: App, C: Clock, T: Tape> Outside for Rim<D, L, A, C, T>
         }
     }
 
+    #[tactic(auto, using(crate::proofs::Carrying::calls))]
     fn fetch(&mut self, n: SeqNum, into: &mut Vec<u8>) -> Result<Kind, FetchFault>
         requires { HasEntry n self.old.slot.open_at }
         ensures noted { Trace (seen_of (T.told self.old.tape) (seen_on D.disk self.old.slot.device) self.old.slot.open_at
             (plug_of L.link self.old.optional_link) (A.app self.old.app) (C.readings self.old.clock))
             (seen_of (T.told self.new.tape) (seen_on D.disk self.new.slot.device) self.new.slot.open_at
             (plug_of L.link self.new.optional_link) (A.app self.new.app) (C.readings self.new.clock)) (fetches result) }
+        ensures called { Called (seen_of (T.told self.old.tape) (seen_on D.disk self.old.slot.device) self.old.slot.open_at
+            (plug_of L.link self.old.optional_link) (A.app self.old.app) (C.readings self.old.clock))
+            (seen_of (T.told self.new.tape) (seen_on D.disk self.new.slot.device) self.new.slot.open_at
+            (plug_of L.link self.new.optional_link) (A.app self.new.app) (C.readings self.new.clock))
+            (Fetch n result into.new.items ∷ []) }
         ensures answers { FetchAnswers result n into.new.items
             (seen_of (T.told self.old.tape) (seen_on D.disk self.old.slot.device) self.old.slot.open_at
             (plug_of L.link self.old.optional_link) (A.app self.old.app) (C.readings self.old.clock)) }
@@ -291,6 +334,7 @@ impl<D: Disk, L: Link, A: App, C: Clock, T: Tape> Outside for Rim<D, L, A, C, T>
         self.slot.fetch(n, into)
     }
 
+    #[tactic(auto, using(crate::proofs::Carrying::calls))]
     fn hand(&mut self, h: &Handed<'_>) -> Said
         requires { HasKind h.now }
         ensures noted { Trace (seen_of (T.told self.old.tape) (seen_on D.disk self.old.slot.device) self.old.slot.open_at
@@ -298,6 +342,11 @@ impl<D: Disk, L: Link, A: App, C: Clock, T: Tape> Outside for Rim<D, L, A, C, T>
             (seen_of (T.told self.new.tape) (seen_on D.disk self.new.slot.device) self.new.slot.open_at
             (plug_of L.link self.new.optional_link) (A.app self.new.app) (C.readings self.new.clock))
             (hands result h.now) }
+        ensures called { Called (seen_of (T.told self.old.tape) (seen_on D.disk self.old.slot.device) self.old.slot.open_at
+            (plug_of L.link self.old.optional_link) (A.app self.old.app) (C.readings self.old.clock))
+            (seen_of (T.told self.new.tape) (seen_on D.disk self.new.slot.device) self.new.slot.open_at
+            (plug_of L.link self.new.optional_link) (A.app self.new.app) (C.readings self.new.clock))
+            (Hand h.now.number h.now.marked h.now.body.now result ∷ []) }
         ensures app { AppTakes result h.now (A.app (app_in self.old)) (A.app (app_in self.new)) }
         ensures opens { self.new.slot.open_at ≡ self.old.slot.open_at }
         ensures others { self.new ≡ with_app_of self.old self.new }
@@ -318,12 +367,18 @@ impl<D: Disk, L: Link, A: App, C: Clock, T: Tape> Outside for Rim<D, L, A, C, T>
         }
     }
 
+    #[tactic(auto, using(crate::proofs::Carrying::calls))]
     fn ask(&mut self) -> Option<Draft>
         ensures noted { Trace (seen_of (T.told self.old.tape) (seen_on D.disk self.old.slot.device) self.old.slot.open_at
             (plug_of L.link self.old.optional_link) (A.app self.old.app) (C.readings self.old.clock))
             (seen_of (T.told self.new.tape) (seen_on D.disk self.new.slot.device) self.new.slot.open_at
             (plug_of L.link self.new.optional_link) (A.app self.new.app) (C.readings self.new.clock))
             (Asked (option_map draft_body result) ∷ []) }
+        ensures called { Called (seen_of (T.told self.old.tape) (seen_on D.disk self.old.slot.device) self.old.slot.open_at
+            (plug_of L.link self.old.optional_link) (A.app self.old.app) (C.readings self.old.clock))
+            (seen_of (T.told self.new.tape) (seen_on D.disk self.new.slot.device) self.new.slot.open_at
+            (plug_of L.link self.new.optional_link) (A.app self.new.app) (C.readings self.new.clock))
+            (Ask (option_map draft_body result) ∷ []) }
         ensures opens { self.new.slot.open_at ≡ self.old.slot.open_at }
         ensures app { AppAsks (option_map draft_body result) (A.app (app_in self.old)) (A.app (app_in self.new)) }
         ensures others { self.new ≡ with_app_alone_of self.old self.new }

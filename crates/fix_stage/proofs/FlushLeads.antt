@@ -7,7 +7,8 @@ use Rattle.fix_base.specs.declared.identity.Identity.{Identity}
 use Rattle.fix_base.specs.End.{End, GrowsTo}
 use Rattle.fix_base.specs.Wrote.{WroteWhole}
 use Rattle.fix_base.specs.EndStep.{EndState}
-use Rattle.fix_base.specs.Trace.{Note, acts_of}
+use Rattle.fix_outside.specs.declared.outside.KeepFault.TheVariants as keep
+use Rattle.fix_outside.specs.Calls.{Call, Keep}
 use Rattle.fix_base.proofs.WholeLemmas.{many_grows, whole_grown}
 use Rattle.fix_base.proofs.FollowsLemmas.{linked}
 use Rattle.fix_stage.specs.Stage.{no_stage}
@@ -17,7 +18,7 @@ use Rattle.fix_stage.specs.Flush as flush
 use Rattle.fix_stage.specs.Flush.{record_of, is_due, WroteOne, Flushed, sender_kept}
 use Rattle.fix_stage.specs.Lawful.{IsCertain, IsOn, AreOriginals, Fits, Level, LawfulRunTo, After, AfterFault}
 use Rattle.fix_stage.proofs.SendingLemmas.{nothing_staged}
-use Rattle.fix_stage.proofs.LeadsLemmas.{leads_nowhere, leads_after, leads_kept, leads_weaker}
+use Rattle.fix_stage.proofs.LeadsLemmas.{leads_nowhere, leads_after, leads_kept, leads_weaker, leads_call}
 use Rattle.fix_stage.proofs.ChainLemmas.{moves_run}
 use Rattle.fix_stage.proofs.KeepLeads.{KeptEnd, kept_end, kept_certain, lost_leads, many_out}
 use Rattle.fix_stage.proofs.WriteLeads.{IsWriteFault, AfterWrite, Writes, write_leads}
@@ -108,12 +109,13 @@ written_after id read given n k b e f p (Err x) e' h =
     (kept_certain id read given n k b e f p e' h.0.end h.0.doubt (h.0.role ∙ p.role)) (h.0.expected ∙ p.expected ∙ sym f.expected) refl
 
 -- in step before it, the end is level after it. The number that is kept is 0 for none, or the expected one
-pub flushed_leads : (id : Identity) (read given : List ℕ) (n k : ℕ) (b : Sender) (notes : List Note) (r : Result ⊤ StageFault) (to : Sender) → (k ≡ 0) ⊎ (k ≡ n) → Flushed k b notes r to → (e : EndState) → Fits id read given n b e → LawfulRunTo id e (acts_of notes) (After (AfterFault id read given n) (Level id read given n) r to)
-flushed_leads id read given n k b notes r to which (flush.nothing_due due) e f =
+pub flushed_leads : (id : Identity) (read given : List ℕ) (n k : ℕ) (b : Sender) (calls : List Call) (r : Result ⊤ StageFault) (to : Sender) → (k ≡ 0) ⊎ (k ≡ n) → Flushed k b calls r to → (e : EndState) → Fits id read given n b e → LawfulRunTo id e calls (After (AfterFault id read given n) (Level id read given n) r to)
+flushed_leads id read given n k b calls r to which (flush.nothing_due due) e f =
     leads_weaker id e [] (Level id read given n b) (Level id read given n (emptied b)) (level_emptied id read given n b) (caught_up id read given n b e (nothing_staged b.stage.entries k due) f)
-flushed_leads id read given n k b notes r to which (flush.not_kept due flush.keep_lost) e f = lost_leads id read given n k b to e refl f which due
-flushed_leads id read given n k b notes r to which (flush.not_kept due flush.keep_memory) e f = leads_nowhere id e (IsCertain to.numbers) f.certain
-flushed_leads id read given n k b notes r to which (flush.kept_and_written {more = more} due flush.kept w) e f =
+flushed_leads id read given n k b calls r to which (flush.not_kept due flush.keep_lost) e f = lost_leads id read given n k b to e refl f which due
+flushed_leads id read given n k b calls r to which (flush.not_kept due flush.keep_memory) e f = leads_call id e (Keep (record_of b.stage.entries k) (Err keep.OutOfMemory)) [] (IsCertain to.numbers) refl (λ held s. s.stores)
+    (λ so. leads_nowhere id e (IsCertain to.numbers) f.certain)
+flushed_leads id read given n k b calls r to which (flush.kept_and_written {more = more} due flush.kept w) e f =
     let p = kept_end id read given n k b e f which due in
     let grew : GrowsTo e.end p.to.end = subst (λ (x : End). GrowsTo e.end x) (sym p.many) (many_grows e.end b.stage.entries k) in
     let out = ap (λ (x : End). x.out) p.many ∙ many_out e.end b.stage.entries k in
@@ -127,6 +129,6 @@ flushed_leads id read given n k b notes r to which (flush.kept_and_written {more
       whole = whole_grown id f.on.connection.opened e.end p.to.end f.on.last f.on.connection.written grew f.on.whole;
       plain = f.on.plain;
     } in
-    leads_kept id e p.to (record_of b.stage.entries k) (acts_of more) (After (AfterFault id read given n) (Level id read given n) r to) p.run p.end
-    (leads_weaker id p.to (acts_of more) (AfterWrite id r p.to f.on.connection) (After (AfterFault id read given n) (Level id read given n) r to) (written_after id read given n k b e f p r)
+    leads_kept id e p.to (record_of b.stage.entries k) more (After (AfterFault id read given n) (Level id read given n) r to) p.run p.end
+    (leads_weaker id p.to more (AfterWrite id r p.to f.on.connection) (After (AfterFault id read given n) (Level id read given n) r to) (written_after id read given n k b e f p r)
     (write_leads id b.stage.entries e.end.out b.stage.frames f.on.connection f.on.last p.to more r tt are written w))

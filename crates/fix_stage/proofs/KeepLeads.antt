@@ -1,6 +1,6 @@
 -- A record that is kept or lost is a step of a lawful end.
 use Rattle.std.proofs.Common.{◌≡◌, ◌≢◌, ◌⊎◌, inl, inr, ℕ, zero, suc, ◌+◌, ◌<◌, ◌≤◌, ◌==◌, ◌&&◌, not, if◌then◌else◌, List, [], ◌∷◌, ◌++◌}
-use Rattle.std.proofs.Common.{length, length-append, drop, Bool, true, false, Some, None, refl, sym, ◌∙◌}
+use Rattle.std.proofs.Common.{length, length-append, drop, Bool, true, false, Some, None, Err, refl, sym, ◌∙◌}
 use Rattle.std.proofs.Common.{ap, subst, arith}
 use Rattle.std.proofs.lemmas.List.{append-nil}
 use Rattle.std.proofs.lemmas.Bool.{eqb-true, eqb-false}
@@ -12,6 +12,8 @@ use Rattle.fix_base.specs.End.{End, folded}
 use Rattle.fix_base.specs.EndStep as steps
 use Rattle.fix_base.specs.EndStep.{Acceptor, Connection, EndState, Pushed, Chain, Move, Row, EndStep, EndRun, LogonRule}
 use Rattle.fix_base.proofs.FollowsLemmas.{linked}
+use Rattle.fix_outside.specs.declared.outside.KeepFault.TheVariants as keep
+use Rattle.fix_outside.specs.Calls.{Keep}
 use Rattle.fix_stage.specs.Sender.{Numbers, Sender, numbers_kept}
 use Rattle.fix_stage.specs.Flush.{record_of, is_due}
 use Rattle.fix_stage.specs.Lawful.{HasKept, IsCertain, IsInDoubt, IsAhead}
@@ -152,7 +154,7 @@ in_doubt n k b to e e' same expected some which kept end role doubt closed = rec
 -- several entries may be lost, as they would be kept
 many_lost : (id : Identity) (n k : ℕ) (es : List Entry) (e : EndState) (c : Connection) (a : IsAhead n es e c) (P : EndState → Type 0) → e.doubt ≡ None → (k ≡ 0) ⊎ (k ≡ n) → (t : Bool) → (k == 0) ≡ t
     → ((e' : EndState) → e'.end ≡ e.end → e'.role ≡ e.role → e'.doubt ≡ Some (Many es k) → e'.connection ≡ None → P e')
-    → LawfulRunTo id e (act.KeepLost (Many es k) ∷ []) P
+    → LawfulRunTo id e (Keep (Many es k) (Err keep.Failed) ∷ []) P
 many_lost id n k es e c a P sure which t z holds =
     let to : EndState = chain_of k e a.to t in
     let chain : Chain e es k to = numbered n k es e c a which t z in
@@ -162,7 +164,7 @@ many_lost id n k es e c a P sure which t z holds =
 -- whichever record it is, it may be lost
 pub lost_at : (id : Identity) (n k : ℕ) (es : List Entry) (e : EndState) (c : Connection) (a : IsAhead n es e c) (P : EndState → Type 0) → e.doubt ≡ None → (k ≡ 0) ⊎ (k ≡ n) → not (length es == 0 && k == 0) ≡ true → (t : Bool) → (k == 0) ≡ t
     → ((e' : EndState) → e'.end ≡ e.end → e'.role ≡ e.role → e'.doubt ≡ Some (record_of es k) → e'.connection ≡ None → P e')
-    → LawfulRunTo id e (act.KeepLost (record_of es k) ∷ []) P
+    → LawfulRunTo id e (Keep (record_of es k) (Err keep.Failed) ∷ []) P
 lost_at id n k [] e c a P sure which due true z holds = absurd (none_due k z due)
 lost_at id n k [] e c a P sure which due false z holds =
     let some : k ≢ 0 = eqb-false k 0 z in
@@ -170,20 +172,20 @@ lost_at id n k [] e c a P sure which due false z holds =
     let l = linked a.run sure in
     let same : a.to.end ≡ e.end = l.end ∙ ap (λ out. record e.end { out = out }) (append-nil e.end.out) in
     let left : EndState = record a.to { doubt = Some (Expect k); connection = None } in
-    leads_after id e a.to (act.KeepLost (Expect k) ∷ []) P (moves_run id a.run refl refl) same
+    leads_after id e a.to (Keep (Expect k) (Err keep.Failed) ∷ []) P (moves_run id a.run refl refl) same
     (leads_lost id a.to left (Expect k) P (record { certain = l.certain; row = steps.lost_expect k (is ∙ sym a.expected) }) refl refl
     (holds left same l.block.role refl refl))
 lost_at id n k (x ∷ []) e c a P sure which due true z holds =
     let left : EndState = record e { doubt = Some (Push x); connection = None } in
     let is : record_of (x ∷ []) k ≡ Push x = rw z refl in
-    subst (λ r. LawfulRunTo id e (act.KeepLost r ∷ []) P) (sym is)
+    subst (λ r. LawfulRunTo id e (Keep r (Err keep.Failed) ∷ []) P) (sym is)
     (leads_lost id e left (Push x) P (record { certain = sure; row = steps.lost_push x }) refl refl (holds left refl refl (ap Some (sym is)) refl))
 lost_at id n k (x ∷ []) e c a P sure which due false z holds =
     let is : record_of (x ∷ []) k ≡ Many (x ∷ []) k = rw z refl in
-    subst (λ r. LawfulRunTo id e (act.KeepLost r ∷ []) P) (sym is) (many_lost id n k (x ∷ []) e c a P sure which false z (λ e' end role doubt closed. holds e' end role (doubt ∙ ap Some (sym is)) closed))
+    subst (λ r. LawfulRunTo id e (Keep r (Err keep.Failed) ∷ []) P) (sym is) (many_lost id n k (x ∷ []) e c a P sure which false z (λ e' end role doubt closed. holds e' end role (doubt ∙ ap Some (sym is)) closed))
 lost_at id n k (x ∷ y ∷ es) e c a P sure which due t z holds = many_lost id n k (x ∷ y ∷ es) e c a P sure which t z holds
 
-pub lost_leads : (id : Identity) (read given : List ℕ) (n k : ℕ) (b to : Sender) (e : EndState) → to.numbers ≡ b.numbers → Fits id read given n b e → (k ≡ 0) ⊎ (k ≡ n) → is_due b k ≡ true → LawfulRunTo id e (act.KeepLost (record_of b.stage.entries k) ∷ []) (IsInDoubt to)
+pub lost_leads : (id : Identity) (read given : List ℕ) (n k : ℕ) (b to : Sender) (e : EndState) → to.numbers ≡ b.numbers → Fits id read given n b e → (k ≡ 0) ⊎ (k ≡ n) → is_due b k ≡ true → LawfulRunTo id e (Keep (record_of b.stage.entries k) (Err keep.Failed) ∷ []) (IsInDoubt to)
 lost_leads id read given n k b to e same f which due =
     lost_at id n k b.stage.entries e f.on.connection f.ahead (IsInDoubt to) f.certain.doubt which due (k == 0) refl
     (λ e' end role doubt closed. in_doubt n k b to e e' same f.expected due which f.certain.kept end role doubt closed)

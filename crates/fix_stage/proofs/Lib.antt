@@ -4,7 +4,7 @@ pub mod OutgoingLemmas
 pub mod StageLemmas
 pub mod EachTime
 pub mod SendingLemmas
-pub mod NoteLemmas
+pub mod SendsLemmas
 pub mod LeadsLemmas
 pub mod PlainLemmas
 pub mod ChainLemmas

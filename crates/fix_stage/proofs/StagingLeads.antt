@@ -14,7 +14,7 @@ use Rattle.fix_base.specs.EndStep as steps
 use Rattle.fix_base.specs.EndStep.{Acceptor, Handling, Connection, EndState, IsBlocked, Rejects, Pushed, Chain, Move, Grew, first_app}
 use Rattle.fix_base.specs.Message.{Message}
 use Rattle.fix_base.specs.Says.{Shows}
-use Rattle.fix_base.specs.Trace.{Note, acts_of}
+use Rattle.fix_outside.specs.Calls.{Call}
 use Rattle.fix_base.proofs.ListLemmas.{Among-append_right}
 use Rattle.fix_base.proofs.FollowsLemmas.{linked}
 use Rattle.fix_fields.specs.Drafted.{DraftText, draft_body}
@@ -50,20 +50,20 @@ module _ (id : Identity) (Failed : StageFault → Sender → EndState → Type 0
     (spent : (b : Sender) (e : EndState) → b.stage ≡ no_stage → Q0 b e → Failed fault.NumbersSpent b e)
     (flushed : LeadsFrom id Failed P (Flushed 0) Q0) where
   -- with the number that was free before it
-  free_after : (b : Sender) (notes : List Note) (r : Result ⊤ StageFault) (to : Sender) → next_number b ≤ 999999999 → Flushed 0 b notes r to → (e : EndState) → After Failed Q0 r to e → After Failed (Numbered_ P) r to e
-  free_after b notes (Ok x) to free d e h = (up to e h, (let same = Flushed-number 0 b notes to d in omega (arith, same, free)))
-  free_after b notes (Err f) to free d e h = h
+  free_after : (b : Sender) (calls : List Call) (r : Result ⊤ StageFault) (to : Sender) → next_number b ≤ 999999999 → Flushed 0 b calls r to → (e : EndState) → After Failed Q0 r to e → After Failed (Numbered_ P) r to e
+  free_after b calls (Ok x) to free d e h = (up to e h, (let same = Flushed-number 0 b calls to d in omega (arith, same, free)))
+  free_after b calls (Err f) to free d e h = h
 
   numbered_leads : LeadsFrom id Failed P Numbered (Numbered_ P)
-  numbered_leads b notes r to (staging.has_number h) e p = leads_nowhere id e (Numbered_ P b) (p, h)
-  numbered_leads b notes r to (staging.spent h d) e p =
-      leads_weaker id e (acts_of notes) (Q0 to) (Failed fault.NumbersSpent to) (λ e' l. spent to e' (Flushed-empty 0 b notes (Ok tt) to d) l) (flushed b notes (Ok tt) to d e p)
-  numbered_leads b notes r to (staging.spent_fault {e = f} h d) e p = flushed b notes (Err f) to d e p
+  numbered_leads b calls r to (staging.has_number h) e p = leads_nowhere id e (Numbered_ P b) (p, h)
+  numbered_leads b calls r to (staging.spent h d) e p =
+      leads_weaker id e calls (Q0 to) (Failed fault.NumbersSpent to) (λ e' l. spent to e' (Flushed-empty 0 b calls (Ok tt) to d) l) (flushed b calls (Ok tt) to d e p)
+  numbered_leads b calls r to (staging.spent_fault {e = f} h d) e p = flushed b calls (Err f) to d e p
 
   roomy_leads : (size : ℕ) → LeadsFrom id Failed (Numbered_ P) (Roomy size) (Numbered_ P)
-  roomy_leads size b notes r to (staging.fits h) e p = leads_nowhere id e (Numbered_ P b) p
-  roomy_leads size b notes r to (staging.full h d) e p =
-      leads_weaker id e (acts_of notes) (After Failed Q0 r to) (After Failed (Numbered_ P) r to) (λ e' h. free_after b notes r to p.1 d e' h) (flushed b notes r to d e p.0)
+  roomy_leads size b calls r to (staging.fits h) e p = leads_nowhere id e (Numbered_ P b) p
+  roomy_leads size b calls r to (staging.full h d) e p =
+      leads_weaker id e calls (After Failed Q0 r to) (After Failed (Numbered_ P) r to) (λ e' h. free_after b calls r to p.1 d e' h) (flushed b calls r to d e p.0)
 
   certain_numbered : HasNoDoubt (Numbered_ P)
   certain_numbered b e h = certain b e h.0
@@ -75,15 +75,15 @@ module _ (id : Identity) (Failed : StageFault → Sender → EndState → Type 0
       (then_leads id Failed (Numbered_ P) (Numbered_ P) Q (Roomy (size_in_stage m.entry)) (Put id m) certain_numbered (roomy_leads (size_in_stage m.entry)) one)
 
   pub makes_leads : (m : Outgoing) (Q : Sender → EndState → Type 0) → LeadsFrom id Failed (Numbered_ P) (Put id m) Q → LeadsFrom id Failed P (MakesAndStages id m) Q
-  makes_leads m Q one b notes r to (staging.made d) e p = staging_leads m Q one b notes r to d e p
-  makes_leads m Q one b notes r to staging.not_made e p = leads_nowhere id e (Failed fault.OutOfMemory b) (memory b e p)
+  makes_leads m Q one b calls r to (staging.made d) e p = staging_leads m Q one b calls r to d e p
+  makes_leads m Q one b calls r to staging.not_made e p = leads_nowhere id e (Failed fault.OutOfMemory b) (memory b e p)
 
 -- the same on the session's connection, from and to what is between being level and being in step
 module _ (id : Identity) (read given : List ℕ) (n : ℕ) (P : Sender → EndState → Type 0)
     (up : (b : Sender) (e : EndState) → Level id read given n b e → P b e)
     (down : (b : Sender) (e : EndState) → P b e → Fits id read given n b e) where
   down_flushed : LeadsFrom id (AfterFault id read given n) P (Flushed 0) (Level id read given n)
-  down_flushed b notes r to d e p = flushed_leads id read given n 0 b notes r to (inl refl) d e (down b e p)
+  down_flushed b calls r to d e p = flushed_leads id read given n 0 b calls r to (inl refl) d e (down b e p)
 
   pub staging_on : (m : Outgoing) (Q : Sender → EndState → Type 0) → LeadsFrom id (AfterFault id read given n) (Numbered_ P) (Put id m) Q → LeadsFrom id (AfterFault id read given n) P (Staging id m) Q
   staging_on m Q one =
@@ -95,7 +95,7 @@ module _ (id : Identity) (read given : List ℕ) (n : ℕ) (P : Sender → EndSt
 
 -- one that has a flush first
 pub flush_fits : (id : Identity) (read given : List ℕ) (n : ℕ) → LeadsFrom id (AfterFault id read given n) (Fits id read given n) (Flushed 0) (Level id read given n)
-flush_fits id read given n b notes r to d e f = flushed_leads id read given n 0 b notes r to (inl refl) d e f
+flush_fits id read given n b calls r to d e f = flushed_leads id read given n 0 b calls r to (inl refl) d e f
 
 -- ---- one entry more
 
@@ -121,7 +121,7 @@ staged_originals id b m frame valid free fits is f are =
 
 -- a message is staged where the end is level, as a draft is before the read of its turn
 pub put_level : (id : Identity) (read given : List ℕ) (n : ℕ) (m : Outgoing) → IsValidIdentity id → (IsOutgoing m → AsksNoReset id m) → LeadsFrom id (AfterFault id read given n) (Numbered_ (Level id read given n)) (Put id m) (Level id read given n)
-put_level id read given n m valid free b notes r to (staging.put frame is f) e p =
+put_level id read given n m valid free b calls r to (staging.put frame is f) e p =
     let l = p.0 in
     leads_nowhere id e (Level id read given n to) (record {
       certain = l.certain;
@@ -131,7 +131,7 @@ put_level id read given n m valid free b notes r to (staging.put frame is f) e p
       expected = l.expected;
       frames = staged_originals id b m frame valid (free is) p.1 is f l.frames;
     })
-put_level id read given n m valid free b notes r to staging.put_memory e p = leads_nowhere id e (IsCertain to.numbers) p.0.certain
+put_level id read given n m valid free b calls r to staging.put_memory e p = leads_nowhere id e (IsCertain to.numbers) p.0.certain
 
 -- one entry more of a chain
 pub chain_push : (x : Entry) {s s' s'' : EndState} {es : List Entry} {k : ℕ} → Chain s es k s' → k ≡ 0 → Pushed s' x s'' → Chain s (es ++ x ∷ []) 0 s''
@@ -159,11 +159,11 @@ put_ahead id read given n m frame b e f s valid free fits is shown one expected 
 
 -- a message is staged in the middle of a turn
 pub put_fits : (id : Identity) (read given : List ℕ) (n : ℕ) (m : Outgoing) → IsValidIdentity id → (IsOutgoing m → AsksNoReset id m) → LeadsFrom id (AfterFault id read given n) (Numbered_ (Fits id read given n)) (Put id m) (Fits id read given n)
-put_fits id read given n m valid free b notes r to (staging.put frame is f) e p =
+put_fits id read given n m valid free b calls r to (staging.put frame is f) e p =
     let a = p.0.ahead in
     leads_nowhere id e (Fits id read given n to)
     (put_ahead id read given n m frame b e p.0 (record a.to { end = folded a.to.end (Push m.entry) }) valid (free is) p.1 is f steps.adds a.expected a.base)
-put_fits id read given n m valid free b notes r to staging.put_memory e p = leads_nowhere id e (IsCertain to.numbers) p.0.certain
+put_fits id read given n m valid free b calls r to staging.put_memory e p = leads_nowhere id e (IsCertain to.numbers) p.0.certain
 
 fits_self : (id : Identity) (read given : List ℕ) (n : ℕ) (b : Sender) (e : EndState) → Fits id read given n b e → Fits id read given n b e
 fits_self id read given n b e f = f
@@ -190,14 +190,14 @@ draft_free id time d written valid is n text fits f =
 
 -- the draft in hand
 pub pending_leads : (id : Identity) (read given : List ℕ) (n : ℕ) → IsValidIdentity id → LeadsFrom id (AfterFault id read given n) (Level id read given n) (StagesPending id) (Level id read given n)
-pending_leads id read given n valid b notes r to (staging.empty h) e l = leads_nowhere id e (Level id read given n b) l
-pending_leads id read given n valid b notes r to (staging.draft_memory d h) e l = leads_nowhere id e (IsCertain b.numbers) l.certain
-pending_leads id read given n valid b notes r to (staging.not_staged {e = f} d h k) e l =
-    made_level id read given n (draft_outgoing b.numbers.reading d true) valid (draft_free id b.numbers.reading d true valid) b notes (Err f) to k e l
-pending_leads id read given n valid b notes r to (staging.draft_staged {to = mid} d h k) e l =
-    leads_weaker id e (acts_of notes) (Level id read given n mid) (Level id read given n to)
+pending_leads id read given n valid b calls r to (staging.empty h) e l = leads_nowhere id e (Level id read given n b) l
+pending_leads id read given n valid b calls r to (staging.draft_memory d h) e l = leads_nowhere id e (IsCertain b.numbers) l.certain
+pending_leads id read given n valid b calls r to (staging.not_staged {e = f} d h k) e l =
+    made_level id read given n (draft_outgoing b.numbers.reading d true) valid (draft_free id b.numbers.reading d true valid) b calls (Err f) to k e l
+pending_leads id read given n valid b calls r to (staging.draft_staged {to = mid} d h k) e l =
+    leads_weaker id e calls (Level id read given n mid) (Level id read given n to)
     (λ e' q. record { certain = q.certain; on = q.on; here = q.here; base = q.base; expected = q.expected; frames = q.frames })
-    (made_level id read given n (draft_outgoing b.numbers.reading d true) valid (draft_free id b.numbers.reading d true valid) b notes (Ok tt) mid k e l)
+    (made_level id read given n (draft_outgoing b.numbers.reading d true) valid (draft_free id b.numbers.reading d true valid) b calls (Ok tt) mid k e l)
 
 -- ---- the flush at the end of a turn
 
@@ -210,16 +210,16 @@ due_is b n h = by (b.numbers.stored_expected == b.numbers.expected)
 
 -- of a session on its connection
 pub settled_leads : (id : Identity) (read given : List ℕ) (n : ℕ) → LeadsFrom id (AfterFault id read given n) (Fits id read given n) Settled (Level id read given n)
-settled_leads id read given n b notes r to d e f = flushed_leads id read given n (due_number b.numbers) b notes r to (due_is b n f.expected) d e f
+settled_leads id read given n b calls r to d e f = flushed_leads id read given n (due_number b.numbers) b calls r to (due_is b n f.expected) d e f
 
 -- and of one that writes no more
 pub settled_apart : (id : Identity) → LeadsFrom id AfterApart Apart Settled Bare
-settled_apart id b notes r to d e f = apart_flushed id (due_number b.numbers) b notes r to (due_is b b.numbers.expected refl) d e f
+settled_apart id b calls r to d e f = apart_flushed id (due_number b.numbers) b calls r to (due_is b b.numbers.expected refl) d e f
 
 -- ---- a session that writes nothing, as one with no connection
 
 pub flush_apart : (id : Identity) → LeadsFrom id AfterApart Apart (Flushed 0) Bare
-flush_apart id b notes r to d e f = apart_flushed id 0 b notes r to (inl refl) d e f
+flush_apart id b calls r to d e f = apart_flushed id 0 b calls r to (inl refl) d e f
 
 pub bare_apart : (b : Sender) (e : EndState) → Bare b e → Apart b e
 bare_apart b e h = record { certain = h.certain; here = h.here; unwritten = subst (λ (s : Staged). AreUnwritten s.frames) (sym h.empty) tt }
@@ -230,10 +230,10 @@ unwritten_push (None ∷ frames) h = unwritten_push frames h
 unwritten_push (Some text ∷ frames) h = absurd h
 
 put_apart : (id : Identity) (m : Outgoing) → m.written ≡ false → LeadsFrom id AfterApart (Numbered_ Apart) (Put id m) Apart
-put_apart id m kept_only b notes r to (staging.put frame is (outgoings.unwritten h)) e p =
+put_apart id m kept_only b calls r to (staging.put frame is (outgoings.unwritten h)) e p =
     leads_nowhere id e (Apart to) (record { certain = p.0.certain; here = p.0.here; unwritten = unwritten_push b.stage.frames p.0.unwritten })
-put_apart id m kept_only b notes r to (staging.put frame is (outgoings.framed text h f)) e p = absurd (let both : true ≡ false = sym h ∙ kept_only in cc)
-put_apart id m kept_only b notes r to staging.put_memory e p = leads_nowhere id e (IsCertain to.numbers) p.0.certain
+put_apart id m kept_only b calls r to (staging.put frame is (outgoings.framed text h f)) e p = absurd (let both : true ≡ false = sym h ∙ kept_only in cc)
+put_apart id m kept_only b calls r to staging.put_memory e p = leads_nowhere id e (IsCertain to.numbers) p.0.certain
 
 -- a message that isn't written
 pub made_apart : (id : Identity) (m : Outgoing) → m.written ≡ false → LeadsFrom id AfterApart Apart (MakesAndStages id m) Apart
@@ -301,7 +301,7 @@ pub record WasShown (read : List ℕ) (n : ℕ) (h : Handling) : Type 0 where
 pub put_reject : (id : Identity) (read given : List ℕ) (n time : ℕ) (h : Handling) (m : Outgoing) → m.entry ≡ Admin time REJECT n → IsValidIdentity id → (IsOutgoing m → AsksNoReset id m) → WasShown read n h
     → ((e : EndState) → (f : Connection) → e.role ≡ Acceptor → e.connection ≡ Some f → f.read ≡ read → IsBlocked e → ⊥)
     → LeadsFrom id (AfterFault id read given n) (Numbered_ (Fits id read given n)) (Put id m) (Rejected id read given n)
-put_reject id read given n time h m entry valid free shown unblocked b notes r to (staging.put frame is f) e p =
+put_reject id read given n time h m entry valid free shown unblocked b calls r to (staging.put frame is f) e p =
     let a = p.0.ahead in
     let c = p.0.on.connection in
     let seen = ahead_seen id read given n b e p.0 in
@@ -324,7 +324,7 @@ put_reject id read given n time h m entry valid free shown unblocked b notes r t
         is = shown.number;
       };
     })
-put_reject id read given n time h m entry valid free shown unblocked b notes r to staging.put_memory e p = leads_nowhere id e (IsCertain to.numbers) p.0.certain
+put_reject id read given n time h m entry valid free shown unblocked b calls r to staging.put_memory e p = leads_nowhere id e (IsCertain to.numbers) p.0.certain
 
 pub staged_reject : (id : Identity) (read given : List ℕ) (n time : ℕ) (h : Handling) (m : Outgoing) → m.entry ≡ Admin time REJECT n → IsValidIdentity id → (IsOutgoing m → AsksNoReset id m) → WasShown read n h
     → ((e : EndState) → (f : Connection) → e.role ≡ Acceptor → e.connection ≡ Some f → f.read ≡ read → IsBlocked e → ⊥)

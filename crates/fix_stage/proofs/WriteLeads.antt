@@ -12,7 +12,8 @@ use Rattle.fix_base.specs.Wrote as wrote
 use Rattle.fix_base.specs.Wrote.{Wrote, WroteWhole}
 use Rattle.fix_base.specs.EndStep as steps
 use Rattle.fix_base.specs.EndStep.{Acceptor, Connection, EndState, LogonRule}
-use Rattle.fix_base.specs.Trace.{Note, acts_of}
+use Rattle.fix_outside.specs.declared.connection.WriteTurn.TheVariants as write
+use Rattle.fix_outside.specs.Calls.{Call, Write}
 use Rattle.fix_base.proofs.ListLemmas.{prefix_refl, prefix_under}
 use Rattle.fix_base.proofs.WholeLemmas.{whole_more, whole_wrote, front_wrote}
 use Rattle.fix_stage.specs.Combine as combine
@@ -22,7 +23,7 @@ use Rattle.fix_stage.specs.declared.fault.StageFault.TheVariants as fault
 use Rattle.fix_stage.specs.Flush as flush
 use Rattle.fix_stage.specs.Flush.{WroteOne}
 use Rattle.fix_stage.specs.Lawful.{IsPlainly, IsPlainOriginal, AreOriginals, LawfulRunTo}
-use Rattle.fix_stage.proofs.LeadsLemmas.{leads_nowhere, leads_step, leads_weaker}
+use Rattle.fix_stage.proofs.LeadsLemmas.{leads_nowhere, leads_step, leads_weaker, leads_call}
 use Rattle.fix_stage.proofs.PlainLemmas.{plain_more, plain_rule, original_frame}
 
 -- nothing but the connection changed
@@ -123,8 +124,8 @@ some_rule id n many e c text role g = plain_rule id e c (take many text) (c.writ
 rest_originals : (id : Identity) (x : Entry) (before es : List Entry) (frames : List (Option (List ℕ))) → AreOriginals id (length before + 1) es frames → AreOriginals id (length (before ++ x ∷ [])) es frames
 rest_originals id x before es frames h = subst (λ n. AreOriginals id n es frames) (sym (length-append before (x ∷ []))) h
 
-pub write_leads : (id : Identity) (es before : List Entry) (frames : List (Option (List ℕ))) (c : Connection) (last : ℕ) (e : EndState) (notes : List Note) (r : Result ⊤ StageFault) (u : ⊤) → AreOriginals id (length before) es frames → Writes id es before c last e → Each WroteOne tt frames notes r u → LawfulRunTo id e (acts_of notes) (AfterWrite id r e c)
-write_leads id [] before [] c last e notes r u are h combine.none =
+pub write_leads : (id : Identity) (es before : List Entry) (frames : List (Option (List ℕ))) (c : Connection) (last : ℕ) (e : EndState) (calls : List Call) (r : Result ⊤ StageFault) (u : ⊤) → AreOriginals id (length before) es frames → Writes id es before c last e → Each WroteOne tt frames calls r u → LawfulRunTo id e calls (AfterWrite id r e c)
+write_leads id [] before [] c last e calls r u are h combine.none =
     leads_nowhere id e (StillOpen id e c) (record {
       same = record { end = refl; role = refl; expected = refl; handled = refl; doubt = h.doubt };
       connection = c;
@@ -138,27 +139,28 @@ write_leads id [] before [] c last e notes r u are h combine.none =
       whole = h.whole;
       plain = h.plain;
     })
-write_leads id [] before (frame ∷ frames) c last e notes r u are h d = absurd are
-write_leads id (x ∷ es) before [] c last e notes r u are h d = absurd are
-write_leads id (x ∷ es) before (None ∷ frames) c last e notes r u are h (combine.ends d) = elim d [ ]
-write_leads id (x ∷ es) before (None ∷ frames) c last e notes r u are h (combine.goes {more = others} flush.no_frame rest) =
+write_leads id [] before (frame ∷ frames) c last e calls r u are h d = absurd are
+write_leads id (x ∷ es) before [] c last e calls r u are h d = absurd are
+write_leads id (x ∷ es) before (None ∷ frames) c last e calls r u are h (combine.ends d) = elim d [ ]
+write_leads id (x ∷ es) before (None ∷ frames) c last e calls r u are h (combine.goes {more = others} flush.no_frame rest) =
     write_leads id es (before ++ x ∷ []) frames c last e others r u (rest_originals id x before es frames are)
     (record { doubt = h.doubt; role = h.role; is_open = h.is_open; out = h.out ∙ sym (append_assoc before (x ∷ []) es); low = omega (arith, h.low, length-append before (x ∷ [])); whole = h.whole; plain = h.plain }) rest
-write_leads id (x ∷ es) before (Some text ∷ frames) c last e notes r u are h (combine.ends (flush.write_lost t sent)) =
+write_leads id (x ∷ es) before (Some text ∷ frames) c last e calls r u are h (combine.ends (flush.write_lost t sent)) =
     let w : List ℕ = take sent text in
     let g = next_goes id x es before c last e text h are.0 in
     let to : EndState = connected e (writing c w) in
-    leads_step id e to (act.Wrote w) [] (AfterWrite id (Err fault.LinkFault) e c)
-    (record { certain = h.doubt; row = steps.wrote w c h.is_open (some_wrote id (length before + 1) sent e c text g) (some_rule id (length before + 1) sent e c text h.role g) }) (λ held k. k)
+    leads_step id e to (act.Wrote w) (Write text (write.Failed sent)) [] (AfterWrite id (Err fault.LinkFault) e c) refl
+    (record { certain = h.doubt; row = steps.wrote w c h.is_open (some_wrote id (length before + 1) sent e c text g) (some_rule id (length before + 1) sent e c text h.role g) }) (λ held k. k.stores.2 ∙ k.stores.1)
     (leads_nowhere id to (AfterWrite id (Err fault.LinkFault) e c) (record { end = refl; role = refl; expected = refl; handled = refl; doubt = h.doubt }, tt))
-write_leads id (x ∷ es) before (Some text ∷ frames) c last e notes r u are h (combine.ends (flush.write_memory t)) =
-    leads_nowhere id e (AfterWrite id (Err fault.OutOfMemory) e c) (record { end = refl; role = refl; expected = refl; handled = refl; doubt = h.doubt }, tt)
-write_leads id (x ∷ es) before (Some text ∷ frames) c last e notes r u are h (combine.goes {more = others} (flush.wrote t) rest) =
+write_leads id (x ∷ es) before (Some text ∷ frames) c last e calls r u are h (combine.ends (flush.write_memory t)) =
+    leads_call id e (Write text write.OutOfMemory) [] (AfterWrite id (Err fault.OutOfMemory) e c) refl (λ held k. k.stores)
+    (λ so. leads_nowhere id e (AfterWrite id (Err fault.OutOfMemory) e c) (record { end = refl; role = refl; expected = refl; handled = refl; doubt = h.doubt }, tt))
+write_leads id (x ∷ es) before (Some text ∷ frames) c last e calls r u are h (combine.goes {more = others} (flush.wrote t) rest) =
     let g = next_goes id x es before c last e text h are.0 in
     let to : EndState = connected e (writing c text) in
     let size : length (before ++ x ∷ []) ≡ length before + 1 = length-append before (x ∷ []) in
-    leads_step id e to (act.Wrote text) (acts_of others) (AfterWrite id r e c)
-    (record { certain = h.doubt; row = steps.wrote text c h.is_open (all_wrote id (length before + 1) e c text g) (all_rule id (length before + 1) e c text h.role g) }) (λ held k. k)
-    (leads_weaker id to (acts_of others) (AfterWrite id r to (writing c text)) (AfterWrite id r e c) (again id r e c text)
+    leads_step id e to (act.Wrote text) (Write text write.Done) others (AfterWrite id r e c) refl
+    (record { certain = h.doubt; row = steps.wrote text c h.is_open (all_wrote id (length before + 1) e c text g) (all_rule id (length before + 1) e c text h.role g) }) (λ held k. k.stores.2 ∙ k.stores.1)
+    (leads_weaker id to others (AfterWrite id r to (writing c text)) (AfterWrite id r e c) (again id r e c text)
     (write_leads id es (before ++ x ∷ []) frames (writing c text) (length before + 1) to others r u (rest_originals id x before es frames are.1)
     (record { doubt = h.doubt; role = h.role; is_open = refl; out = h.out ∙ sym (append_assoc before (x ∷ []) es); low = omega (arith, size); whole = g.whole; plain = g.plain }) rest))

@@ -5,9 +5,10 @@ use Rattle.std.specs.List.{AllByRecursion}
 use Rattle.fix_base.specs.declared.entry.Entry.{Entry}
 use Rattle.fix_base.specs.declared.entry.Record.{Record}
 use Rattle.fix_base.specs.declared.entry.Record.TheVariants.{Push, Expect, Many}
-use Rattle.fix_base.specs.declared.act.Act.TheVariants as act
 use Rattle.fix_base.specs.Payload.{HasPayload, LONGEST_PAYLOAD}
-use Rattle.fix_base.specs.Trace.{Note, Did, Failed, StorePart, LinkPart}
+use Rattle.fix_outside.specs.declared.connection.WriteTurn.TheVariants as write
+use Rattle.fix_outside.specs.declared.outside.KeepFault.TheVariants as keep
+use Rattle.fix_outside.specs.Calls.{Call, Keep, Write}
 use Rattle.fix_stage.specs.Combine.{Each}
 use Rattle.fix_stage.specs.Stage.{staged_size, is_something}
 use Rattle.fix_stage.specs.Sender.{Sender, StageFault, NumbersSpent, OutOfMemory, StoreFault, LinkFault}
@@ -42,35 +43,35 @@ sender_kept b count expect = record {
 }
 
 -- one record of these entries is kept
-pub data Keeping (entries : List Entry) (expect : ℕ) (b : Sender) : List Note → Result ⊤ StageFault → Sender
+pub data Keeping (entries : List Entry) (expect : ℕ) (b : Sender) : List Call → Result ⊤ StageFault → Sender
     → Type 0 where
-  kept : Keeping entries expect b (Did (act.Kept (record_of entries expect)) ∷ []) (Ok tt)
+  kept : Keeping entries expect b (Keep (record_of entries expect) (Ok tt) ∷ []) (Ok tt)
       (sender_kept b (length entries) expect)
-  keep_lost : Keeping entries expect b (Did (act.KeepLost (record_of entries expect)) ∷ Failed StorePart ∷ [])
-      (Err StoreFault) (with_pending b (lost_draft b.pending))
-  keep_memory : Keeping entries expect b [] (Err OutOfMemory) (with_pending b (unstaged_draft b.pending))
+  keep_lost : Keeping entries expect b (Keep (record_of entries expect) (Err keep.Failed) ∷ []) (Err StoreFault)
+      (with_pending b (lost_draft b.pending))
+  keep_memory : Keeping entries expect b (Keep (record_of entries expect) (Err keep.OutOfMemory) ∷ [])
+      (Err OutOfMemory) (with_pending b (unstaged_draft b.pending))
 
 -- one frame is written, where there is one
-pub data WroteOne (u : ⊤) : Option (List ℕ) → List Note → Result ⊤ StageFault → ⊤ → Type 0 where
+pub data WroteOne (u : ⊤) : Option (List ℕ) → List Call → Result ⊤ StageFault → ⊤ → Type 0 where
   no_frame : WroteOne u None [] (Ok tt) u
-  wrote : (frame : List ℕ) → WroteOne u (Some frame) (Did (act.Wrote frame) ∷ []) (Ok tt) u
-  write_lost : (frame : List ℕ) (sent : ℕ)
-      → WroteOne u (Some frame)
-      (Did (act.Wrote (take sent frame)) ∷ Failed (LinkPart (length frame - sent)) ∷ []) (Err LinkFault) u
-  write_memory : (frame : List ℕ) → WroteOne u (Some frame) [] (Err OutOfMemory) u
+  wrote : (frame : List ℕ) → WroteOne u (Some frame) (Write frame write.Done ∷ []) (Ok tt) u
+  write_lost : (frame : List ℕ) (sent : ℕ) → WroteOne u (Some frame) (Write frame (write.Failed sent) ∷ [])
+      (Err LinkFault) u
+  write_memory : (frame : List ℕ) → WroteOne u (Some frame) (Write frame write.OutOfMemory ∷ []) (Err OutOfMemory) u
 
 -- All that is staged is kept as one record, with the expected number where it isn't 0, and then the frames go out in
 -- their order, one write each. Nothing is staged after it
-pub data Flushed (expect : ℕ) (b : Sender) : List Note → Result ⊤ StageFault → Sender → Type 0 where
+pub data Flushed (expect : ℕ) (b : Sender) : List Call → Result ⊤ StageFault → Sender → Type 0 where
   nothing_due : is_due b expect ≡ false → Flushed expect b [] (Ok tt) (emptied b)
-  not_kept : {to : Sender} {notes : List Note} {e : StageFault} → is_due b expect ≡ true
-      → Keeping b.stage.entries expect (emptied b) notes (Err e) to → Flushed expect b notes (Err e) to
-  kept_and_written : {to : Sender} {first more : List Note} {r : Result ⊤ StageFault} → is_due b expect ≡ true
+  not_kept : {to : Sender} {calls : List Call} {e : StageFault} → is_due b expect ≡ true
+      → Keeping b.stage.entries expect (emptied b) calls (Err e) to → Flushed expect b calls (Err e) to
+  kept_and_written : {to : Sender} {first more : List Call} {r : Result ⊤ StageFault} → is_due b expect ≡ true
       → Keeping b.stage.entries expect (emptied b) first (Ok tt) to → Each WroteOne tt b.stage.frames more r tt
       → Flushed expect b (first ++ more) r to
 
 -- at the end of a turn: the expected number is kept with what is staged, where it changed
-abbrev pub Settled : Sender → List Note → Result ⊤ StageFault → Sender → Type 0
+abbrev pub Settled : Sender → List Call → Result ⊤ StageFault → Sender → Type 0
 Settled b = Flushed (due_number b.numbers) b
 
 -- after it the expected number is the one that is kept, unless the record was not kept

@@ -12,7 +12,7 @@ use Rattle.fix_base.specs.Logon.{IsResetLogon}
 use Rattle.fix_base.specs.End.{End, folded}
 use Rattle.fix_base.specs.Wrote.{IsOriginal, WroteWhole}
 use Rattle.fix_base.specs.EndStep.{Acceptor, Connection, EndState, Chain, EndRun}
-use Rattle.fix_base.specs.Trace.{Stores, Note, acts_of}
+use Rattle.fix_outside.specs.Calls.{Call, CallsStore, acts_in}
 use Rattle.fix_stage.specs.Stage.{no_stage}
 use Rattle.fix_stage.specs.Sender.{Numbers, Sender, StageFault, NumbersSpent, OutOfMemory, StoreFault, LinkFault}
 use Rattle.fix_stage.specs.Flush.{record_of}
@@ -133,13 +133,17 @@ abbrev pub IsStoredOrInDoubt : Option Record → End → Option End → Type 0
 IsStoredOrInDoubt None end held = held ≡ Some end
 IsStoredOrInDoubt (Some r) end held = (held ≡ Some end) ⊎ (held ≡ Some (folded end r))
 
--- these acts are a run of a lawful end, to one that has P. A store that held the old end, and did the acts,
--- holds the new one
-pub record LawfulRunTo (id : Identity) (e : EndState) (acts : List Act) (P : EndState → Type 0) : Type 0 where
+-- a run of a lawful end with these acts, to one that has P. A store that held the old end holds this now
+pub record RunTo (id : Identity) (e : EndState) (acts : List Act) (P : EndState → Type 0) (held : Option End)
+    : Type 0 where
   pub to : EndState
   pub run : EndRun id e acts to
   pub holds : P to
-  pub store : (held : Option End) → Stores acts (Some e.end) held → IsStoredOrInDoubt to.doubt to.end held
+  pub store : IsStoredOrInDoubt to.doubt to.end held
+
+-- the acts of these calls are such a run, where a store that held the old end did what they say, and told the truth
+abbrev pub LawfulRunTo : Identity → EndState → List Call → (EndState → Type 0) → Type 0
+LawfulRunTo id e calls P = (held : Option End) → CallsStore calls (Some e.end) held → RunTo id e (acts_in calls) P held
 
 -- the end after a part: where it went well it has Q, and else what this fault leaves
 abbrev pub After : {S E : Type 0} → (E → S → EndState → Type 0) → (S → EndState → Type 0) → Result ⊤ E → S → EndState
@@ -147,11 +151,11 @@ abbrev pub After : {S E : Type 0} → (E → S → EndState → Type 0) → (S �
 After Failed Q (Ok x) s e = Q s e
 After Failed Q (Err fault) s e = Failed fault s e
 
--- a part leads from P to Q: whatever end has P before it, its acts are a run of it
+-- a part leads from P to Q: whatever end has P before it, the acts of its calls are a run of it
 abbrev pub LeadsFrom : {S E : Type 0} → Identity → (E → S → EndState → Type 0) → (S → EndState → Type 0)
-    → (S → List Note → Result ⊤ E → S → Type 0) → (S → EndState → Type 0) → Type 0
-LeadsFrom {S} {E} id Failed P R Q = (s : S) (notes : List Note) (r : Result ⊤ E) (to : S) → R s notes r to
-    → (e : EndState) → P s e → LawfulRunTo id e (acts_of notes) (After Failed Q r to)
+    → (S → List Call → Result ⊤ E → S → Type 0) → (S → EndState → Type 0) → Type 0
+LeadsFrom {S} {E} id Failed P R Q = (s : S) (calls : List Call) (r : Result ⊤ E) (to : S) → R s calls r to
+    → (e : EndState) → P s e → LawfulRunTo id e calls (After Failed Q r to)
 
 -- the end after a fault of sending. Where no number is left all that was staged is kept
 abbrev pub AfterFault : Identity → List ℕ → List ℕ → ℕ → StageFault → Sender → EndState → Type 0

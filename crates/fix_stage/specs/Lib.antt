@@ -4,7 +4,7 @@ pub mod Sender
 pub mod Flush
 pub mod Outgoing
 pub mod Staging
-pub mod Notes
+pub mod Sendings
 pub mod Causes
 pub mod Stated
 pub mod Lawful

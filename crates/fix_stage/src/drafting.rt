@@ -2,7 +2,7 @@
 ghost use Rattle.std.specs.Prelude.{◌≡◌, IfOk, Some};
 ghost use Rattle.fix_base.specs.declared.entry.Entry.TheVariants.{App};
 ghost use Rattle.fix_base.specs.declared.entry.By.TheVariants.{Caller};
-ghost use Rattle.fix_base.specs.Trace.{HasTrace};
+ghost use Rattle.fix_outside.specs.Calls.{HasCalls};
 ghost use Rattle.fix_fields.specs.Drafted.{draft_body};
 ghost use Rattle.fix_stage.specs.Sender.{IsReady, open_after};
 ghost use Rattle.fix_stage.specs.Causes.{HasCause};
@@ -27,8 +27,8 @@ pub fn stage_draft<O: Outside>(
 ) -> Result<(), StageFault>
     requires ready { IsReady context.now.identity (O.seen o.old) (Some sender.old.numbers.last) sender.old }
     ensures ready { IsReady context.now.identity (O.seen o.new) (open_after result sender.new) sender.new }
-    ensures notes { HasTrace (O.seen o.old) (O.seen o.new) (λ notes. MakesAndStages context.now.identity
-        (draft_outgoing sender.old.numbers.reading draft.now written) sender.old notes result sender.new) }
+    ensures calls { HasCalls (O.seen o.old) (O.seen o.new) (λ calls. MakesAndStages context.now.identity
+        (draft_outgoing sender.old.numbers.reading draft.now written) sender.old calls result sender.new) }
     ensures cause { HasCause result (O.seen o.old).faults (O.seen o.new).faults }
 {
     let Ok(entry) = entry_of(context.alloc, sender.numbers.reading, draft) else {
@@ -53,8 +53,8 @@ pub fn stage_pending<O: Outside>(
 ) -> Result<(), StageFault>
     requires ready { IsReady context.now.identity (O.seen o.old) (Some sender.old.numbers.last) sender.old }
     ensures ready { IsReady context.now.identity (O.seen o.new) (open_after result sender.new) sender.new }
-    ensures notes { HasTrace (O.seen o.old) (O.seen o.new)
-        (λ notes. StagesPending context.now.identity sender.old notes result sender.new) }
+    ensures calls { HasCalls (O.seen o.old) (O.seen o.new)
+        (λ calls. StagesPending context.now.identity sender.old calls result sender.new) }
     ensures cause { HasCause result (O.seen o.old).faults (O.seen o.new).faults }
 {
     let Some(draft) = &sender.pending.draft else {

@@ -1,7 +1,7 @@
 //! Keeps what is staged as one record, and then writes its frames. `numbering` calls this where a message
 //! takes no further number or has no room, and a session before a hand-over and at the end of a turn.
 ghost use Rattle.std.specs.Prelude.{◌≡◌, ◌≤◌, ◌+◌, Some, length};
-ghost use Rattle.fix_base.specs.Trace.{HasTrace};
+ghost use Rattle.fix_outside.specs.Calls.{HasCalls};
 ghost use Rattle.fix_stage.specs.Stage.{no_stage};
 ghost use Rattle.fix_stage.specs.Sender.{IsReady, open_after, numbers_kept, due_number};
 ghost use Rattle.fix_stage.specs.Flush.{record_of, CanKeep, Keeping, Flushed, Settled, IsSettled};
@@ -24,8 +24,8 @@ pub fn flush<O: Outside>(
     requires ready { IsReady context.now.identity (O.seen o.old) (Some sender.old.numbers.last) sender.old }
     requires expect { expect ≤ 1000000000 }
     ensures ready { IsReady context.now.identity (O.seen o.new) (open_after result sender.new) sender.new }
-    ensures notes { HasTrace (O.seen o.old) (O.seen o.new)
-        (λ notes. Flushed expect sender.old notes result sender.new) }
+    ensures calls { HasCalls (O.seen o.old) (O.seen o.new)
+        (λ calls. Flushed expect sender.old calls result sender.new) }
     ensures empty { sender.new.stage ≡ no_stage }
     ensures cause { HasCause result (O.seen o.old).faults (O.seen o.new).faults }
 {
@@ -46,7 +46,7 @@ pub fn settle<O: Outside>(
 ) -> Result<(), StageFault>
     requires ready { IsReady context.now.identity (O.seen o.old) (Some sender.old.numbers.last) sender.old }
     ensures ready { IsReady context.now.identity (O.seen o.new) (open_after result sender.new) sender.new }
-    ensures notes { HasTrace (O.seen o.old) (O.seen o.new) (λ notes. Settled sender.old notes result sender.new) }
+    ensures calls { HasCalls (O.seen o.old) (O.seen o.new) (λ calls. Settled sender.old calls result sender.new) }
     ensures empty { sender.new.stage ≡ no_stage }
     ensures settled { IsSettled result sender.new }
     ensures cause { HasCause result (O.seen o.old).faults (O.seen o.new).faults }
@@ -79,8 +79,8 @@ fn keep_all<O: Outside>(
     requires keepable { CanKeep entries expect }
     requires place { sender.old.numbers.last + length entries ≤ 999999999 }
     ensures ready { IsReady context.now.identity (O.seen o.new) (open_after result sender.new) sender.new }
-    ensures notes { HasTrace (O.seen o.old) (O.seen o.new)
-        (λ notes. Keeping entries expect sender.old notes result sender.new) }
+    ensures calls { HasCalls (O.seen o.old) (O.seen o.new)
+        (λ calls. Keeping entries expect sender.old calls result sender.new) }
 {
     let count = entries.as_slice().len() as u32;
     match o.keep(&record_from(entries, expect)) {

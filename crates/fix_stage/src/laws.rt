@@ -5,12 +5,12 @@ ghost use Rattle.fix_base.specs.Session.{IsValidIdentity};
 ghost use Rattle.std.specs.List.{AllByRecursion};
 ghost use Rattle.fix_base.specs.Payload.{IsPersistentEntry};
 ghost use Rattle.fix_base.specs.EndStep.{EndState};
-ghost use Rattle.fix_base.specs.Trace.{Note, acts_of};
+ghost use Rattle.fix_outside.specs.Calls.{Call};
 ghost use Rattle.fix_stage.specs.Sender.{Sender, StageFault};
 ghost use Rattle.fix_stage.specs.Flush.{Flushed, Settled};
 ghost use Rattle.fix_stage.specs.Outgoing.{Outgoing, IsOutgoing};
 ghost use Rattle.fix_stage.specs.Staging.{Staging, MakesAndStages, StagesPending};
-ghost use Rattle.fix_stage.specs.Notes.{SendsOnly};
+ghost use Rattle.fix_stage.specs.Sendings.{SendsOnly};
 ghost use Rattle.fix_stage.specs.Stated.{Total, Resumes, IsTimely};
 ghost use Rattle.fix_stage.specs.Lawful.{AsksNoReset, Fits, Level, Apart, Bare, LawfulRunTo, After, AfterFault};
 ghost use Rattle.fix_stage.specs.Lawful.{AfterApart, LeadsFrom};
@@ -18,9 +18,9 @@ ghost use Rattle.fix_stage.specs.Lawful.{AfterApart, LeadsFrom};
 /// A flush is a run of a lawful end: whatever end is in step with the session before it, its acts are a run of
 /// that end. Where it goes well the end has passed what the session has counted.
 pub fn a_flush_is_lawful()
-    ensures { (id : Identity) (read given : List ℕ) (n k : ℕ) (b : Sender) (notes : List Note) (r : Result ⊤ StageFault)
-        (to : Sender) → (k ≡ 0) ⊎ (k ≡ n) → Flushed k b notes r to → (e : EndState) → Fits id read given n b e
-        → LawfulRunTo id e (acts_of notes) (After (AfterFault id read given n) (Level id read given n) r to) }
+    ensures { (id : Identity) (read given : List ℕ) (n k : ℕ) (b : Sender) (calls : List Call) (r : Result ⊤ StageFault)
+        (to : Sender) → (k ≡ 0) ⊎ (k ≡ n) → Flushed k b calls r to → (e : EndState) → Fits id read given n b e
+        → LawfulRunTo id e calls (After (AfterFault id read given n) (Level id read given n) r to) }
 {}
 
 /// So is the flush at the end of a turn.
@@ -65,14 +65,14 @@ pub fn what_is_out_of_memory_would_have_gone_on()
 /// Sending keeps records of what was staged, writes, and does nothing else. What is staged may be sent again,
 /// where each message that is staged may be; so may each entry of a record that is kept or lost.
 pub fn sending_keeps_and_writes()
-    ensures flush { (k : ℕ) (b : Sender) (notes : List Note) (r : Result ⊤ StageFault) (to : Sender)
-        → AllByRecursion IsPersistentEntry b.stage.entries → Flushed k b notes r to
-        → SendsOnly IsPersistentEntry notes to }
-    ensures message { (id : Identity) (m : Outgoing) → IsPersistentEntry m.entry → (b : Sender) (notes : List Note)
+    ensures flush { (k : ℕ) (b : Sender) (calls : List Call) (r : Result ⊤ StageFault) (to : Sender)
+        → AllByRecursion IsPersistentEntry b.stage.entries → Flushed k b calls r to
+        → SendsOnly IsPersistentEntry calls to }
+    ensures message { (id : Identity) (m : Outgoing) → IsPersistentEntry m.entry → (b : Sender) (calls : List Call)
         (r : Result ⊤ StageFault) (to : Sender) → AllByRecursion IsPersistentEntry b.stage.entries
-        → Staging id m b notes r to → SendsOnly IsPersistentEntry notes to }
-    ensures draft { (id : Identity) (b : Sender) → IsTimely b → (notes : List Note) (r : Result ⊤ StageFault)
+        → Staging id m b calls r to → SendsOnly IsPersistentEntry calls to }
+    ensures draft { (id : Identity) (b : Sender) → IsTimely b → (calls : List Call) (r : Result ⊤ StageFault)
         (to : Sender)
-        → AllByRecursion IsPersistentEntry b.stage.entries → StagesPending id b notes r to
-        → SendsOnly IsPersistentEntry notes to }
+        → AllByRecursion IsPersistentEntry b.stage.entries → StagesPending id b calls r to
+        → SendsOnly IsPersistentEntry calls to }
 {}

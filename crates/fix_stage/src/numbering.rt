@@ -1,6 +1,6 @@
 //! A number for one message more, and room for its entry. `staging` calls these first.
 ghost use Rattle.std.specs.Prelude.{◌≡◌, ◌≤◌, IsTrue, OnOk, Some};
-ghost use Rattle.fix_base.specs.Trace.{HasTrace};
+ghost use Rattle.fix_outside.specs.Calls.{HasCalls};
 ghost use Rattle.fix_stage.specs.Stage.{has_room};
 ghost use Rattle.fix_stage.specs.Sender.{IsReady, open_after, next_number};
 ghost use Rattle.fix_stage.specs.Staging.{Numbered, Roomy};
@@ -21,7 +21,7 @@ pub fn number<O: Outside>(
     requires ready { IsReady context.now.identity (O.seen o.old) (Some sender.old.numbers.last) sender.old }
     ensures ready { IsReady context.now.identity (O.seen o.new) (open_after result sender.new) sender.new }
     ensures free { OnOk result (next_number sender.new ≤ 999999999) }
-    ensures notes { HasTrace (O.seen o.old) (O.seen o.new) (λ notes. Numbered sender.old notes result sender.new) }
+    ensures calls { HasCalls (O.seen o.old) (O.seen o.new) (λ calls. Numbered sender.old calls result sender.new) }
 {
     if sender.numbers.last + sender.stage.len() < LAST_SEQ_NUM {
         return Ok(());
@@ -44,7 +44,7 @@ pub fn make_room<O: Outside>(
     ensures ready { IsReady context.now.identity (O.seen o.new) (open_after result sender.new) sender.new }
     ensures free { OnOk result (next_number sender.new ≤ 999999999) }
     ensures room { OnOk result (IsTrue (has_room sender.new.stage size)) }
-    ensures notes { HasTrace (O.seen o.old) (O.seen o.new) (λ notes. Roomy size sender.old notes result sender.new) }
+    ensures calls { HasCalls (O.seen o.old) (O.seen o.new) (λ calls. Roomy size sender.old calls result sender.new) }
 {
     if sender.stage.has_room(size) {
         return Ok(());

@@ -1,7 +1,7 @@
 //! Stages one message more: it takes the next number, and its entry is staged with its frame.
 ghost use Rattle.std.specs.Prelude.{◌≡◌, ◌≤◌, IsTrue, Some, IfOk};
 ghost use Rattle.fix_base.specs.Session.{IsValidIdentity};
-ghost use Rattle.fix_base.specs.Trace.{HasTrace};
+ghost use Rattle.fix_outside.specs.Calls.{HasCalls};
 ghost use Rattle.fix_stage.specs.Combine.{AndThen};
 ghost use Rattle.fix_stage.specs.Stage.{size_in_stage, has_room};
 ghost use Rattle.fix_stage.specs.Sender.{IsReady, open_after, next_number};
@@ -30,8 +30,8 @@ pub fn stage<O: Outside>(
     requires ready { IsReady context.now.identity (O.seen o.old) (Some sender.old.numbers.last) sender.old }
     requires outgoing { IsOutgoing (outgoing entry kind.now rest.now written) }
     ensures ready { IsReady context.now.identity (O.seen o.new) (open_after result sender.new) sender.new }
-    ensures notes { HasTrace (O.seen o.old) (O.seen o.new) (λ notes. Staging context.now.identity
-        (outgoing entry kind.now rest.now written) sender.old notes result sender.new) }
+    ensures calls { HasCalls (O.seen o.old) (O.seen o.new) (λ calls. Staging context.now.identity
+        (outgoing entry kind.now rest.now written) sender.old calls result sender.new) }
     ensures cause { HasCause result (O.seen o.old).faults (O.seen o.new).faults }
 {
     number(o, context, sender)?;
@@ -52,9 +52,9 @@ fn make_room_and_put<O: Outside>(
     requires outgoing { IsOutgoing (outgoing entry kind.now rest.now written) }
     requires free { next_number sender.old ≤ 999999999 }
     ensures ready { IsReady context.now.identity (O.seen o.new) (open_after result sender.new) sender.new }
-    ensures notes { HasTrace (O.seen o.old) (O.seen o.new)
-        (λ notes. AndThen (Roomy (size_in_stage entry)) (Put context.now.identity
-        (outgoing entry kind.now rest.now written)) sender.old notes result sender.new) }
+    ensures calls { HasCalls (O.seen o.old) (O.seen o.new)
+        (λ calls. AndThen (Roomy (size_in_stage entry)) (Put context.now.identity
+        (outgoing entry kind.now rest.now written)) sender.old calls result sender.new) }
 {
     make_room(o, context, sender, size_of(&entry))?;
     put(o, context, sender, entry, kind, rest, written)
@@ -75,8 +75,8 @@ fn put<O: Outside>(
     requires free { next_number sender.old ≤ 999999999 }
     requires room { IsTrue (has_room sender.old.stage (size_in_stage entry)) }
     ensures ready { IsReady context.now.identity (O.seen o.new) (open_after result sender.new) sender.new }
-    ensures notes { HasTrace (O.seen o.old) (O.seen o.new) (λ notes. Put context.now.identity
-        (outgoing entry kind.now rest.now written) sender.old notes result sender.new) }
+    ensures calls { HasCalls (O.seen o.old) (O.seen o.new) (λ calls. Put context.now.identity
+        (outgoing entry kind.now rest.now written) sender.old calls result sender.new) }
 {
     let number = sender.numbers.last + sender.stage.len() + 1;
     // Memory is taken first: where there is none nothing is staged.

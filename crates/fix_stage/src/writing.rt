@@ -1,6 +1,6 @@
 //! Writes frames on the connection, one write each. `flushing` calls this.
 ghost use Rattle.std.specs.Prelude.{◌≡◌, ◌≢◌, Err};
-ghost use Rattle.fix_base.specs.Trace.{HasTrace};
+ghost use Rattle.fix_outside.specs.Calls.{HasCalls};
 ghost use Rattle.fix_stage.specs.Combine.{Each};
 ghost use Rattle.fix_stage.specs.Flush.{WroteOne};
 
@@ -12,7 +12,7 @@ use fix_outside::{Outside, WriteTurn};
 pub fn write_all<O: Outside>(o: &mut O, frames: &[Option<Bytes>]) -> Result<(), StageFault>
     ensures opens { (O.seen o.new).open_at ≡ (O.seen o.old).open_at }
     ensures open { result ≢ Err StageFault.StoreFault }
-    ensures notes { HasTrace (O.seen o.old) (O.seen o.new) (λ notes. Each WroteOne tt frames.now notes result tt) }
+    ensures calls { HasCalls (O.seen o.old) (O.seen o.new) (λ calls. Each WroteOne tt frames.now calls result tt) }
 {
     for frame in frames {
         write_one(o, frame)?;
@@ -24,7 +24,7 @@ pub fn write_all<O: Outside>(o: &mut O, frames: &[Option<Bytes>]) -> Result<(), 
 fn write_one<O: Outside>(o: &mut O, frame: &Option<Bytes>) -> Result<(), StageFault>
     ensures opens { (O.seen o.new).open_at ≡ (O.seen o.old).open_at }
     ensures open { result ≢ Err StageFault.StoreFault }
-    ensures notes { HasTrace (O.seen o.old) (O.seen o.new) (λ notes. WroteOne tt frame.now notes result tt) }
+    ensures calls { HasCalls (O.seen o.old) (O.seen o.new) (λ calls. WroteOne tt frame.now calls result tt) }
 {
     match frame {
         None => Ok(()),

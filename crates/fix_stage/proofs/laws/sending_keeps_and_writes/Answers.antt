@@ -1,5 +1,5 @@
 use Rattle.fix_base.specs.Payload.{IsPersistentEntry}
-use Rattle.fix_stage.proofs.NoteLemmas.{Flushed-sends, Staging-sends, drafts_send}
+use Rattle.fix_stage.proofs.SendsLemmas.{Flushed-sends, Staging-sends, drafts_send}
 use Rattle.fix_stage.proofs.laws.sending_keeps_and_writes.Goals as goal
 
 pub returns-clause-flush : goal.returns-clause-flush

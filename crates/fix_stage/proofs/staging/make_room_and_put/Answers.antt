@@ -1,16 +1,16 @@
 use Rattle.std.proofs.lemmas.Result.{err_from_is_err_and}
-use Rattle.fix_base.proofs.SeenLemmas.{Trace-append}
+use Rattle.fix_outside.proofs.CallLemmas.{Called-append}
 use Rattle.fix_stage.specs.Combine.{first_ends, both}
 use Rattle.fix_stage.proofs.staging.make_room_and_put.Goals as goal
 
-pub returns-in_err-make_room-clause-notes : goal.returns-in_err-make_room-clause-notes
-returns-in_err-make_room-clause-notes g c =
+pub returns-in_err-make_room-clause-calls : goal.returns-in_err-make_room-clause-calls
+returns-in_err-make_room-clause-calls g c =
     let p = err_from_is_err_and c.from_residual.result c.from_residual.ensures.1 in
-    let h = rw c.size_of.ensures at c.in_err-make_room.ensures.notes in
+    let h = rw c.size_of.ensures at c.in_err-make_room.ensures.calls in
     rw (p.1, p.2) (h.0, h.1, first_ends h.2)
 
-pub returns-clause-notes : goal.returns-clause-notes
-returns-clause-notes g c =
-    let h = rw c.size_of.ensures at c.in_ok-make_room.ensures.notes in
-    let k = c.put.ensures.notes in
-    (_, Trace-append _ _ _ _ _ h.1 k.1, both h.2 k.2)
+pub returns-clause-calls : goal.returns-clause-calls
+returns-clause-calls g c =
+    let h = rw c.size_of.ensures at c.in_ok-make_room.ensures.calls in
+    let k = c.put.ensures.calls in
+    (_, Called-append _ _ _ _ _ h.1 k.1, both h.2 k.2)
