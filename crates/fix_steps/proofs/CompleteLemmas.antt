@@ -3,7 +3,8 @@ use Rattle.std.proofs.Common.{◌≡◌, List, [], ◌∷◌, Option, Some, None
 use Rattle.std.specs.Prelude.{⊤}
 use Rattle.std.specs.List.{AllByRecursion}
 use Rattle.fix_base.specs.declared.identity.Identity.{Identity}
-use Rattle.fix_base.specs.Trace.{Note, Did}
+use Rattle.fix_outside.specs.declared.handing.Said.TheVariants as said
+use Rattle.fix_outside.specs.Calls.{Call, Hand}
 use Rattle.fix_admin.specs.Say.{SaySeen}
 use Rattle.fix_machine.specs.Event.{StepSeen}
 use Rattle.fix_machine.specs.Event as event
@@ -14,8 +15,8 @@ use Rattle.fix_stage.specs.declared.fault.StageFault.TheVariants as fault
 use Rattle.fix_stage.specs.Flush.{Flushed}
 use Rattle.fix_stage.specs.Outgoing.{Outgoing}
 use Rattle.fix_stage.specs.Staging.{MakesAndStages}
-use Rattle.fix_stage.specs.Stated.{Onward, Total, Resumes, Stays, IsTimely}
-use Rattle.fix_stage.proofs.CombineLemmas.{went_well, onward_as, each_total, each_resumes, then_total, then_resumes, lifted_total, lifted_resumes, lifted_stays}
+use Rattle.fix_stage.specs.Stated.{Onward, handing, Total, Resumes, Stays, IsTimely}
+use Rattle.fix_stage.proofs.CombineLemmas.{went_well, onward_as, short_alone, short_at, would_as, each_total, each_resumes, then_total, then_resumes, lifted_total, lifted_resumes, lifted_stays}
 use Rattle.fix_stage.proofs.SendingLemmas.{flushed_total, flushed_resumes, Flushed-stays, makes_total, makes_resumes, MakesAndStages-stays}
 use Rattle.fix_steps.specs.Said.{said_outgoing, IsSayable}
 use Rattle.fix_steps.specs.declared.ending.Ending.{Ending}
@@ -38,7 +39,7 @@ only_memory fault.LinkFault h = cc
 
 -- ---- something of sending
 
-module _ (R : Sender → List Note → Result ⊤ StageFault → Sender → Type 0) where
+module _ (R : Sender → List Call → Result ⊤ StageFault → Sender → Type 0) where
   answer_total : Total fault.OutOfMemory IsTimely R → Total OM IsTimely (InAnswer R)
   answer_total h = lifted_total itself instead ending_of fault.OutOfMemory OM IsTimely IsTimely R only_memory (λ t s ok g. g) (λ t ok. ok) h
 
@@ -58,19 +59,19 @@ module _ (id : Identity) (say : SaySeen) where
       (answer_total (MakesAndStages id (said_at b)) (makes_total id (said_at b) (said_is_outgoing id.begin b.numbers.reading say ok.reading fit)) b ok)
 
   saying_resumes : IsSayable say → Resumes OM IsTimely (Saying id say)
-  saying_resumes fit b notes to ok d =
-      λ hold. answer_resumes (MakesAndStages id (said_at b)) (makes_resumes id (said_at b) (said_is_outgoing id.begin b.numbers.reading say ok.reading fit)) b notes to ok d
-      (λ g. hold (onward_as OM IsTimely (InAnswer (MakesAndStages id (said_at b))) (Saying id say) b b notes (λ more r to d. d) g))
+  saying_resumes fit b calls to ok d =
+      λ hold. answer_resumes (MakesAndStages id (said_at b)) (makes_resumes id (said_at b) (said_is_outgoing id.begin b.numbers.reading say ok.reading fit)) b calls to ok d
+      (λ w. hold (would_as OM IsTimely (InAnswer (MakesAndStages id (said_at b))) (Saying id say) b b calls (λ calls g. onward_as OM IsTimely (InAnswer (MakesAndStages id (said_at b))) (Saying id say) b b calls (λ more r to d. d) g) w))
 
   saying_stays : Stays IsTimely (Saying id say)
-  saying_stays b notes r to ok d = answer_stays (MakesAndStages id (said_at b)) (MakesAndStages-stays id (said_at b)) b notes r to ok d
+  saying_stays b calls r to ok d = answer_stays (MakesAndStages id (said_at b)) (MakesAndStages-stays id (said_at b)) b calls r to ok d
 
 -- ---- a hand-over
 
 handing_total : (frame : Option (List ℕ)) → IsRead frame → steps.IsThere frame → Total OM IsTimely (Handing frame)
 handing_total None read there b ok = absurd there
 handing_total (Some text) read there b ok = record {
-  more = Did _ ∷ [];
+  more = steps.hand_call (fields_in read) said.Taken ∷ [];
   faultless = tt;
   r = Ok tt;
   to = b;
@@ -80,24 +81,28 @@ handing_total (Some text) read there b ok = record {
 }
 
 handing_resumes : (frame : Option (List ℕ)) → IsRead frame → steps.IsThere frame → Resumes OM IsTimely (Handing frame)
-handing_resumes frame read there b notes to ok steps.hand_memory = λ hold. hold (handing_total frame read there b ok)
+handing_resumes frame read there b calls to ok (steps.hand_memory text fields is has) =
+    λ hold. hold (short_at OM IsTimely (Handing frame) b (steps.hand_call fields said.OutOfMemory) (handing _ _ _) (handing_total frame read there b ok))
+handing_resumes frame read there b calls to ok steps.body_memory =
+    λ hold. hold (short_alone OM IsTimely (Handing frame) b [] (handing_total frame read there b ok))
 
 handing_stays : (frame : Option (List ℕ)) → Stays IsTimely (Handing frame)
-handing_stays frame b notes r to ok (steps.taken text fields is has) = ok
-handing_stays frame b notes r to ok (steps.hand_lost text fields is has) = ok
-handing_stays frame b notes r to ok steps.hand_memory = ok
+handing_stays frame b calls r to ok (steps.taken text fields is has) = ok
+handing_stays frame b calls r to ok (steps.hand_lost text fields is has) = ok
+handing_stays frame b calls r to ok (steps.hand_memory text fields is has) = ok
+handing_stays frame b calls r to ok steps.body_memory = ok
 
 -- ---- a step
 
 pub step_stays : (id : Identity) (frame : Option (List ℕ)) (x : StepSeen) → Stays IsTimely (λ b. Performed id frame b x)
-step_stays id frame x b notes r to ok (steps.says say d) = saying_stays id say b notes r to ok d
-step_stays id frame x b notes r to ok (steps.hands d) = handing_stays frame b notes r to ok d
-step_stays id frame x b notes r to ok (steps.expects number) = record { reading = ok.reading; draft = ok.draft }
-step_stays id frame x b notes r to ok (steps.closes why) = ok
-step_stays id frame x b notes r to ok steps.nothing = ok
+step_stays id frame x b calls r to ok (steps.says say d) = saying_stays id say b calls r to ok d
+step_stays id frame x b calls r to ok (steps.hands d) = handing_stays frame b calls r to ok d
+step_stays id frame x b calls r to ok (steps.expects number) = record { reading = ok.reading; draft = ok.draft }
+step_stays id frame x b calls r to ok (steps.closes why) = ok
+step_stays id frame x b calls r to ok steps.nothing = ok
 
 module _ (id : Identity) (frame : Option (List ℕ)) (read : IsRead frame) where
-  abbrev One : StepSeen → Sender → List Note → Result ⊤ Ending → Sender → Type 0
+  abbrev One : StepSeen → Sender → List Call → Result ⊤ Ending → Sender → Type 0
   One x b = Performed id frame b x
 
   step_total : (x : StepSeen) → IsCarried frame x → Total OM IsTimely (One x)
@@ -128,10 +133,10 @@ module _ (id : Identity) (frame : Option (List ℕ)) (read : IsRead frame) where
   step_total event.Nothing fit b ok = went_well OM IsTimely (One event.Nothing) b b ok steps.nothing
 
   step_resumes : (x : StepSeen) → IsCarried frame x → Resumes OM IsTimely (One x)
-  step_resumes x fit b notes to ok (steps.says say d) =
-      λ hold. saying_resumes id say fit b notes to ok d (λ g. hold (onward_as OM IsTimely (Saying id say) (One (event.Send say)) b b notes (λ more r to d. steps.says say d) g))
-  step_resumes x fit b notes to ok (steps.hands d) =
-      λ hold. handing_resumes frame read fit b notes to ok d (λ g. hold (onward_as OM IsTimely (Handing frame) (One event.Hand) b b notes (λ more r to d. steps.hands d) g))
+  step_resumes x fit b calls to ok (steps.says say d) =
+      λ hold. saying_resumes id say fit b calls to ok d (λ w. hold (would_as OM IsTimely (Saying id say) (One (event.Send say)) b b calls (λ calls g. onward_as OM IsTimely (Saying id say) (One (event.Send say)) b b calls (λ more r to d. steps.says say d) g) w))
+  step_resumes x fit b calls to ok (steps.hands d) =
+      λ hold. handing_resumes frame read fit b calls to ok d (λ w. hold (would_as OM IsTimely (Handing frame) (One event.Hand) b b calls (λ calls g. onward_as OM IsTimely (Handing frame) (One event.Hand) b b calls (λ more r to d. steps.hands d) g) w))
 
 -- ---- what an answer begins with
 
@@ -143,12 +148,12 @@ begins_total xs b ok = by (begins_with_a_flush xs) refl
     by false h = went_well OM IsTimely (Begins xs) b b ok (steps.at_once h)
 
 begins_resumes : (xs : List StepSeen) → Resumes OM IsTimely (Begins xs)
-begins_resumes xs b notes to ok (steps.flushes h d) =
-    λ hold. answer_resumes (Flushed 0) (flushed_resumes 0) b notes to ok d (λ g. hold (onward_as OM IsTimely (InAnswer (Flushed 0)) (Begins xs) b b notes (λ more r to d. steps.flushes h d) g))
+begins_resumes xs b calls to ok (steps.flushes h d) =
+    λ hold. answer_resumes (Flushed 0) (flushed_resumes 0) b calls to ok d (λ w. hold (would_as OM IsTimely (InAnswer (Flushed 0)) (Begins xs) b b calls (λ calls g. onward_as OM IsTimely (InAnswer (Flushed 0)) (Begins xs) b b calls (λ more r to d. steps.flushes h d) g) w))
 
 pub begins_stays : (xs : List StepSeen) → Stays IsTimely (Begins xs)
-begins_stays xs b notes r to ok (steps.flushes h d) = answer_stays (Flushed 0) (Flushed-stays 0) b notes r to ok d
-begins_stays xs b notes r to ok (steps.at_once h) = ok
+begins_stays xs b calls r to ok (steps.flushes h d) = answer_stays (Flushed 0) (Flushed-stays 0) b calls r to ok d
+begins_stays xs b calls r to ok (steps.at_once h) = ok
 
 -- ---- the answer
 

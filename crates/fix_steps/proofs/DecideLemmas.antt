@@ -8,7 +8,6 @@ use Rattle.fix_base.specs.Fields.{Field}
 use Rattle.fix_base.specs.Message.{Message}
 use Rattle.fix_base.specs.Says.{HasFields, message_of}
 use Rattle.fix_base.specs.EndStep.{EndState}
-use Rattle.fix_base.specs.Trace.{acts_of}
 use Rattle.fix_admin.specs.Say as say
 use Rattle.fix_admin.specs.declared.say.LogoutText.TheVariants as text
 use Rattle.fix_machine.specs.declared.event.Why.TheVariants.{Silent, LogonLate, LogoutLate, OutOfWindow}
@@ -121,10 +120,10 @@ next_in_step id read to m is (Ok x) b e h = fresh id read to m b e is h
 next_in_step id read to m is (Err end) b e h = h
 
 pub done_leads : (id : Identity) (read : List ℕ) (frame : Option (List ℕ)) (x : Option Message) (n : ℕ) (a : Answered) → IsValidIdentity id → IsAnswered read frame x → AllByRecursion (IsCarried frame) a.steps → MayBeDone x n a → LeadsFrom id (AfterEnding id read) (InStep id read n) (Carried id frame a.steps) (InStep id read (expected_after a.steps n))
-done_leads id read frame x n a valid answered fit h b notes r to d e p =
-    leads_weaker id e (acts_of notes) (After (AfterEnding id read) (Stands id read h.to (expected_after a.steps n)) r to) (After (AfterEnding id read) (InStep id read (expected_after a.steps n)) r to)
+done_leads id read frame x n a valid answered fit h b calls r to d e p =
+    leads_weaker id e calls (After (AfterEnding id read) (Stands id read h.to (expected_after a.steps n)) r to) (After (AfterEnding id read) (InStep id read (expected_after a.steps n)) r to)
     (λ e' q. next_in_step id read h.to (expected_after a.steps n) h.fresh r to e' q)
-    (carried_leads id read valid frame x answered n (expected_after a.steps n) a.steps h.to h.may fit b notes r to d e p)
+    (carried_leads id read valid frame x answered n (expected_after a.steps n) a.steps h.to h.may fit b calls r to d e p)
 
 -- the message of a frame, by its fields
 answered_by : (read text : List ℕ) (fs : List Field) (x : Option Message) → message_of fs ≡ x → HasFields text fs → BeginsPlainly read → ((y : Message) → x ≡ Some y → WasReadIn read y) → IsAnswered read (Some text) x

@@ -3,7 +3,7 @@ pub mod FrameLemmas
 pub mod SaidLemmas
 pub mod CauseLemmas
 pub mod CompleteLemmas
-pub mod NoteLemmas
+pub mod AnsweringLemmas
 pub mod ReadLemmas
 pub mod StepLeads
 pub mod ToldLemmas

@@ -16,7 +16,8 @@ use Rattle.fix_base.specs.Says.{value_of, message_of, HasFields, Says, Shows}
 use Rattle.fix_base.specs.Wrote.{original_fields}
 use Rattle.fix_base.specs.EndStep as steps
 use Rattle.fix_base.specs.EndStep.{Handling, Connection, EndState, IsBlocked, Chain, Move, WasRead, Grew, MayHand}
-use Rattle.fix_base.specs.Trace.{Note, acts_of}
+use Rattle.fix_outside.specs.declared.handing.Said.TheVariants as said
+use Rattle.fix_outside.specs.Calls.{Call, Hand}
 use Rattle.fix_base.proofs.ListLemmas.{some_same, Among-append_right, Among-cons_cases}
 use Rattle.fix_base.proofs.WrittenLemmas.{original_is}
 use Rattle.fix_admin.specs.Say as say
@@ -35,7 +36,7 @@ use Rattle.fix_stage.specs.Staging as staging
 use Rattle.fix_stage.specs.Staging.{MakesAndStages}
 use Rattle.fix_stage.specs.Lawful.{IsCertain, AsksNoReset, Fits, Level, LawfulRunTo, After, AfterFault, LeadsFrom}
 use Rattle.fix_stage.proofs.ChainLemmas.{level_fits}
-use Rattle.fix_stage.proofs.LeadsLemmas.{leads_nowhere, leads_step, leads_move, leads_weaker, HasNoDoubt, none_leads, first_leads, then_leads}
+use Rattle.fix_stage.proofs.LeadsLemmas.{leads_nowhere, leads_step, leads_call, leads_move, leads_weaker, HasNoDoubt, none_leads, first_leads, then_leads}
 use Rattle.fix_stage.proofs.OutgoingLemmas.{carried, frame_original}
 use Rattle.fix_stage.proofs.PlainLemmas.{has_same, sealed_free}
 use Rattle.fix_stage.proofs.SendingLemmas.{Flushed-empty}
@@ -80,9 +81,9 @@ ended id read given n fault.StoreFault b e h = h
 ended id read given n fault.LinkFault b e h = h
 
 -- something of sending, in an answer
-in_answer : (id : Identity) (read given : List ℕ) (n : ℕ) (R : Sender → List Note → Result ⊤ StageFault → Sender → Type 0) (Q Q' : Sender → EndState → Type 0) (b : Sender) (e : EndState) → ((notes : List Note) (r : Result ⊤ StageFault) (to : Sender) → R b notes r to → LawfulRunTo id e (acts_of notes) (After (AfterFault id read given n) Q r to)) → ((notes : List Note) (to : Sender) (e' : EndState) → R b notes (Ok tt) to → Q to e' → Q' to e') → (notes : List Note) (r : Result ⊤ Ending) (to : Sender) → InAnswer R b notes r to → LawfulRunTo id e (acts_of notes) (After (AfterEnding id read) Q' r to)
-in_answer id read given n R Q Q' b e one back notes r to (goes_well {s = s} d) = leads_weaker id e (acts_of notes) (Q s) (Q' s) (λ e' q. back notes s e' d q) (one notes (Ok tt) s d)
-in_answer id read given n R Q Q' b e one back notes r to (fails {s = s} {e = f} d) = leads_weaker id e (acts_of notes) (AfterFault id read given n f s) (AfterEnding id read (ending_of f) s) (λ e' q. ended id read given n f s e' q) (one notes (Err f) s d)
+in_answer : (id : Identity) (read given : List ℕ) (n : ℕ) (R : Sender → List Call → Result ⊤ StageFault → Sender → Type 0) (Q Q' : Sender → EndState → Type 0) (b : Sender) (e : EndState) → ((calls : List Call) (r : Result ⊤ StageFault) (to : Sender) → R b calls r to → LawfulRunTo id e calls (After (AfterFault id read given n) Q r to)) → ((calls : List Call) (to : Sender) (e' : EndState) → R b calls (Ok tt) to → Q to e' → Q' to e') → (calls : List Call) (r : Result ⊤ Ending) (to : Sender) → InAnswer R b calls r to → LawfulRunTo id e calls (After (AfterEnding id read) Q' r to)
+in_answer id read given n R Q Q' b e one back calls r to (goes_well {s = s} d) = leads_weaker id e calls (Q s) (Q' s) (λ e' q. back calls s e' d q) (one calls (Ok tt) s d)
+in_answer id read given n R Q Q' b e one back calls r to (fails {s = s} {e = f} d) = leads_weaker id e calls (AfterFault id read given n f s) (AfterEnding id read (ending_of f) s) (λ e' q. ended id read given n f s e' q) (one calls (Err f) s d)
 
 -- ---- a message is said
 
@@ -116,27 +117,27 @@ module _ (id : Identity) (read : List ℕ) (valid : IsValidIdentity id) (frame :
   Leads P x Q = LeadsFrom id (AfterEnding id read) P (λ b. Performed id frame b x) Q
 
   say_leads : (n : ℕ) (s : SaySeen) → IsSayable s → IsNoReset s → Leads (InStep id read n) (event.Send s) (InStep id read n)
-  say_leads n s fit free b notes r to (done.says t d) e h =
+  say_leads n s fit free b calls r to (done.says t d) e h =
       let m = said_outgoing id.begin b.numbers.reading s in
-      in_answer id read h.given n (MakesAndStages id m) (Fits id read h.given n) (InStep id read n) b e (made m (said_free id b.numbers.reading s valid fit free)) (λ notes to e' d q. record { given = h.given; fits = q; below = h.below }) notes r to d
+      in_answer id read h.given n (MakesAndStages id m) (Fits id read h.given n) (InStep id read n) b e (made m (said_free id b.numbers.reading s valid fit free)) (λ calls to e' d q. record { given = h.given; fits = q; below = h.below }) calls r to d
     where
-      made : (m : Outgoing) → (IsOutgoing m → AsksNoReset id m) → (notes : List Note) (r : Result ⊤ StageFault) (to : Sender) → MakesAndStages id m b notes r to → LawfulRunTo id e (acts_of notes) (After (AfterFault id read h.given n) (Fits id read h.given n) r to)
-      made m asks notes r to (staging.made d) = staged_fits id read h.given n m valid asks b notes r to d e h.fits
-      made m asks notes r to staging.not_made = leads_nowhere id e (IsCertain b.numbers) h.fits.certain
+      made : (m : Outgoing) → (IsOutgoing m → AsksNoReset id m) → (calls : List Call) (r : Result ⊤ StageFault) (to : Sender) → MakesAndStages id m b calls r to → LawfulRunTo id e calls (After (AfterFault id read h.given n) (Fits id read h.given n) r to)
+      made m asks calls r to (staging.made d) = staged_fits id read h.given n m valid asks b calls r to d e h.fits
+      made m asks calls r to staging.not_made = leads_nowhere id e (IsCertain b.numbers) h.fits.certain
 
   -- the message of the expected number is rejected
   reject_leads : (n : ℕ) (marked : Bool) (body type : List ℕ) (f : _) → IsSayable (say.Reject n type f) → BeginsPlainly read → WasReadIn read (message.App n marked body) → Leads (InStep id read n) (event.Send (say.Reject n type f)) (HasHandled id read n)
-  reject_leads n marked body type f fit plain shown b notes r to (done.says t d) e h =
+  reject_leads n marked body type f fit plain shown b calls r to (done.says t d) e h =
       let s = say.Reject n type f in
       let m = said_outgoing id.begin b.numbers.reading s in
-      in_answer id read h.given n (MakesAndStages id m) (Rejected id read h.given n) (HasHandled id read n) b e made (λ notes to e' d q. record { given = h.given; fits = q.fits; within = λ k a. (let low = h.below k a in omega arith); grew = q.grew }) notes r to d
+      in_answer id read h.given n (MakesAndStages id m) (Rejected id read h.given n) (HasHandled id read n) b e made (λ calls to e' d q. record { given = h.given; fits = q.fits; within = λ k a. (let low = h.below k a in omega arith); grew = q.grew }) calls r to d
     where
-      made : (notes : List Note) (r : Result ⊤ StageFault) (to : Sender) → MakesAndStages id (said_outgoing id.begin b.numbers.reading (say.Reject n type f)) b notes r to → LawfulRunTo id e (acts_of notes) (After (AfterFault id read h.given n) (Rejected id read h.given n) r to)
-      made notes r to (staging.made d) =
+      made : (calls : List Call) (r : Result ⊤ StageFault) (to : Sender) → MakesAndStages id (said_outgoing id.begin b.numbers.reading (say.Reject n type f)) b calls r to → LawfulRunTo id e calls (After (AfterFault id read h.given n) (Rejected id read h.given n) r to)
+      made calls r to (staging.made d) =
           let first = has_first n marked body shown.messages shown.among in
           staged_reject id read h.given n b.numbers.reading first.item (said_outgoing id.begin b.numbers.reading (say.Reject n type f)) refl valid (said_free id b.numbers.reading (say.Reject n type f) valid fit tt)
-          (record { messages = shown.messages; shows = shown.shows; first = first.first; number = first.number }) (read_free read plain) b notes r to d e h.fits
-      made notes r to staging.not_made = leads_nowhere id e (IsCertain b.numbers) h.fits.certain
+          (record { messages = shown.messages; shows = shown.shows; first = first.first; number = first.number }) (read_free read plain) b calls r to d e h.fits
+      made calls r to staging.not_made = leads_nowhere id e (IsCertain b.numbers) h.fits.certain
 
 -- ---- a message is handed over
 
@@ -204,21 +205,21 @@ module _ (id : Identity) (read : List ℕ) (valid : IsValidIdentity id) where
     unseen = λ m. (let low = h.below n (subst (λ l. Among n l) h.level.on.gives m) in omega arith);
   }
 
-  handed_leads : (n : ℕ) (marked : Bool) (body : List ℕ) → BeginsPlainly read → WasReadIn read (message.App n marked body) → (b : Sender) (e : EndState) → InStepClear id read n b e → LawfulRunTo id e (act.Handed n marked body ∷ []) (HasHandled id read n b)
+  handed_leads : (n : ℕ) (marked : Bool) (body : List ℕ) → BeginsPlainly read → WasReadIn read (message.App n marked body) → (b : Sender) (e : EndState) → InStepClear id read n b e → LawfulRunTo id e (Hand n marked body said.Taken ∷ []) (HasHandled id read n b)
   handed_leads n marked body plain shown b e h =
       let c = h.level.on.connection in
       let free = read_free read plain e c h.level.certain.kept.role h.level.on.is_open h.level.on.reads in
-      leads_step id e (gave e c n marked body) (act.Handed n marked body) [] (HasHandled id read n b)
-      (record { certain = h.level.certain.doubt; row = steps.handed c n marked body free (may_hand n marked body b e h shown) }) (λ held s. s)
+      leads_step id e (gave e c n marked body) (act.Handed n marked body) (Hand n marked body said.Taken) [] (HasHandled id read n b) refl
+      (record { certain = h.level.certain.doubt; row = steps.handed c n marked body free (may_hand n marked body b e h shown) }) (λ held s. s.stores.2 ∙ s.stores.1)
       (leads_nowhere id (gave e c n marked body) (HasHandled id read n b) (given_stands id read n marked body b e h))
 
-  lost_leads : (n : ℕ) (marked : Bool) (body : List ℕ) → BeginsPlainly read → WasReadIn read (message.App n marked body) → (b : Sender) (e : EndState) → InStepClear id read n b e → LawfulRunTo id e (act.HandLost n marked body ∷ []) (AfterEnding id read ending.AppFault b)
+  lost_leads : (n : ℕ) (marked : Bool) (body : List ℕ) → BeginsPlainly read → WasReadIn read (message.App n marked body) → (b : Sender) (e : EndState) → InStepClear id read n b e → LawfulRunTo id e (Hand n marked body said.Failed ∷ []) (AfterEnding id read ending.AppFault b)
   lost_leads n marked body plain shown b e h =
       let c = h.level.on.connection in
       let left : EndState = record e { connection = None } in
       let free = read_free read plain e c h.level.certain.kept.role h.level.on.is_open h.level.on.reads in
-      leads_step id e left (act.HandLost n marked body) [] (AfterEnding id read ending.AppFault b)
-      (record { certain = h.level.certain.doubt; row = steps.hand_lost c n marked body free (may_hand n marked body b e h shown) }) (λ held s. s)
+      leads_step id e left (act.HandLost n marked body) (Hand n marked body said.Failed) [] (AfterEnding id read ending.AppFault b) refl
+      (record { certain = h.level.certain.doubt; row = steps.hand_lost c n marked body free (may_hand n marked body b e h shown) }) (λ held s. s.stores.2 ∙ s.stores.1)
       (leads_nowhere id left (AfterEnding id read ending.AppFault b) (record {
         certain = record { doubt = h.level.certain.doubt; kept = record { stored = h.level.certain.kept.stored; out = h.level.certain.kept.out; role = h.level.certain.kept.role } };
         here = h.level.here ∙ sym h.level.expected;
@@ -227,13 +228,16 @@ module _ (id : Identity) (read : List ℕ) (valid : IsValidIdentity id) where
 
   -- the frame is this message
   hand_leads : (frame : Option (List ℕ)) (text : List ℕ) (n : ℕ) (marked : Bool) (body : List ℕ) → frame ≡ Some text → Says text (message.App n marked body) → BeginsPlainly read → WasReadIn read (message.App n marked body) → LeadsFrom id (AfterEnding id read) (InStepClear id read n) (Handing frame) (HasHandled id read n)
-  hand_leads frame text n marked body at s plain shown b notes r to (done.taken other fields is has) e h =
+  hand_leads frame text n marked body at s plain shown b calls r to (done.taken other fields is has) e h =
       let a = app_of text other n marked body fields s (some_same other text (sym is ∙ at)) has in
       rw (a.number, a.mark, a.text) (handed_leads n marked body plain shown b e h)
-  hand_leads frame text n marked body at s plain shown b notes r to (done.hand_lost other fields is has) e h =
+  hand_leads frame text n marked body at s plain shown b calls r to (done.hand_lost other fields is has) e h =
       let a = app_of text other n marked body fields s (some_same other text (sym is ∙ at)) has in
       rw (a.number, a.mark, a.text) (lost_leads n marked body plain shown b e h)
-  hand_leads frame text n marked body at s plain shown b notes r to done.hand_memory e h = leads_nowhere id e (IsCertain b.numbers) h.level.certain
+  hand_leads frame text n marked body at s plain shown b calls r to (done.hand_memory other fields is has) e h =
+      leads_call id e (done.hand_call fields said.OutOfMemory) [] (IsCertain b.numbers) refl (λ held s. s.stores)
+      (λ so. leads_nowhere id e (IsCertain b.numbers) h.level.certain)
+  hand_leads frame text n marked body at s plain shown b calls r to done.body_memory e h = leads_nowhere id e (IsCertain b.numbers) h.level.certain
 
 -- ---- a message is passed
 
@@ -248,7 +252,7 @@ module _ (id : Identity) (read : List ℕ) (frame : Option (List ℕ)) (plain : 
   Expects P k Q = LeadsFrom id (AfterEnding id read) P (λ b. Performed id frame b (event.Expect k)) Q
 
   admin_leads : (n : ℕ) (y : Message) → IsAdminNumbered n y → WasReadIn read y → Expects (InStep id read n) (n + 1) (InStep id read (n + 1))
-  admin_leads n y at shown b notes r to (done.expects k) e h =
+  admin_leads n y at shown b calls r to (done.expects k) e h =
       let f = h.fits in
       let seen = ahead_seen id read h.given n b e f in
       let one : Move f.ahead.to (record f.ahead.to { expected = f.ahead.to.expected + 1 }) = steps.past_admin f.on.connection y (ahead_free h.given n b e f) seen.connection (read_on read y f.on.connection f.on.reads shown) (subst (λ (m : ℕ). IsAdminNumbered m y) (sym f.ahead.expected) at) in
@@ -256,7 +260,7 @@ module _ (id : Identity) (read : List ℕ) (frame : Option (List ℕ)) (plain : 
       leads_nowhere id e (InStep id read (n + 1) to) (record { given = h.given; fits = counted id read h.given n (n + 1) b e f move; below = λ m a. (let low = h.below m a in omega arith) })
 
   app_leads : (n : ℕ) (marked : Bool) (body : List ℕ) → WasReadIn read (message.App n marked body) → Expects (HasHandled id read n) (n + 1) (InStep id read (n + 1))
-  app_leads n marked body shown b notes r to (done.expects k) e h =
+  app_leads n marked body shown b calls r to (done.expects k) e h =
       let f = h.fits in
       let seen = ahead_seen id read h.given n b e f in
       let one : Move f.ahead.to (record f.ahead.to { expected = f.ahead.to.expected + 1 }) = steps.past_app f.on.connection n marked body (ahead_free h.given n b e f) seen.connection (read_on read (message.App n marked body) f.on.connection f.on.reads shown) (sym f.ahead.expected) h.grew in
@@ -264,14 +268,14 @@ module _ (id : Identity) (read : List ℕ) (frame : Option (List ℕ)) (plain : 
       leads_nowhere id e (InStep id read (n + 1) to) (record { given = h.given; fits = counted id read h.given n (n + 1) b e f move; below = λ m a. (let low = h.within m a in omega arith) })
 
   gap_leads : (n m : ℕ) → n < m → WasReadIn read (message.GapFill n m) → Expects (InStep id read n) m (InStep id read m)
-  gap_leads n m up shown b notes r to (done.expects k) e h =
+  gap_leads n m up shown b calls r to (done.expects k) e h =
       let f = h.fits in
       let seen = ahead_seen id read h.given n b e f in
       let move : Move f.ahead.to (record f.ahead.to { expected = m }) = steps.past_gap f.on.connection n m (ahead_free h.given n b e f) seen.connection (read_on read (message.GapFill n m) f.on.connection f.on.reads shown) (sym f.ahead.expected) (subst (λ (j : ℕ). j < m) (sym f.ahead.expected) up) in
       leads_nowhere id e (InStep id read m to) (record { given = h.given; fits = counted id read h.given n m b e f move; below = λ j a. (let low = h.below j a in omega (arith, up)) })
 
   reset_leads : (n j m : ℕ) → n ≤ m → WasReadIn read (message.ResetTo j m) → Expects (InStep id read n) m (InStep id read m)
-  reset_leads n j m up shown b notes r to (done.expects k) e h =
+  reset_leads n j m up shown b calls r to (done.expects k) e h =
       let f = h.fits in
       let seen = ahead_seen id read h.given n b e f in
       let move : Move f.ahead.to (record f.ahead.to { expected = m }) = steps.reset_to f.on.connection j m (ahead_free h.given n b e f) seen.connection (read_on read (message.ResetTo j m) f.on.connection f.on.reads shown) (subst (λ (i : ℕ). i ≤ m) (sym f.ahead.expected) up) in
@@ -310,19 +314,19 @@ module _ (id : Identity) (read : List ℕ) (frame : Option (List ℕ)) (plain : 
   clear_free n b e h = let l = h.level in read_free read plain e l.on.connection l.certain.kept.role l.on.is_open l.on.reads
 
   admin_clear : (n : ℕ) (y : Message) → IsAdminNumbered n y → WasReadIn read y → Expects (InStepClear id read n) (n + 1) (InStepClear id read (n + 1))
-  admin_clear n y at shown b notes r to (done.expects k) e h =
+  admin_clear n y at shown b calls r to (done.expects k) e h =
       let l = h.level in
       let one : Move e (record e { expected = e.expected + 1 }) = steps.past_admin l.on.connection y (clear_free n b e h) l.on.is_open (read_on read y l.on.connection l.on.reads shown) (subst (λ (m : ℕ). IsAdminNumbered m y) (sym l.here) at) in
       clear_passes n (n + 1) b e h (omega arith) (subst (λ (m : ℕ). Move e (record e { expected = m + 1 })) l.here one)
 
   gap_clear : (n m : ℕ) → n < m → WasReadIn read (message.GapFill n m) → Expects (InStepClear id read n) m (InStepClear id read m)
-  gap_clear n m up shown b notes r to (done.expects k) e h =
+  gap_clear n m up shown b calls r to (done.expects k) e h =
       let l = h.level in
       clear_passes n m b e h (omega (arith, up))
       (steps.past_gap l.on.connection n m (clear_free n b e h) l.on.is_open (read_on read (message.GapFill n m) l.on.connection l.on.reads shown) (sym l.here) (subst (λ (j : ℕ). j < m) (sym l.here) up))
 
   reset_clear : (n j m : ℕ) → n ≤ m → WasReadIn read (message.ResetTo j m) → Expects (InStepClear id read n) m (InStepClear id read m)
-  reset_clear n j m up shown b notes r to (done.expects k) e h =
+  reset_clear n j m up shown b calls r to (done.expects k) e h =
       let l = h.level in
       clear_passes n m b e h up
       (steps.reset_to l.on.connection j m (clear_free n b e h) l.on.is_open (read_on read (message.ResetTo j m) l.on.connection l.on.reads shown) (subst (λ (i : ℕ). i ≤ m) (sym l.here) up))
@@ -357,23 +361,23 @@ module _ (id : Identity) (read : List ℕ) (valid : IsValidIdentity id) (frame :
   message_as y e = as_message read frame x y answered e
 
   may_leads : {at at' : Standing} {n n' : ℕ} {step : StepSeen} → MayDo x at n step at' n' → IsCarried frame step → LeadsFrom id Failed (Stands id read at n) (λ b. Performed id frame b step) (Stands id read at' n')
-  may_leads {at = at} {n = n} (lawful.may_say said is free) fit b notes r to d e h = say_leads id read valid frame n said fit free b notes r to d e (fresh id read at n b e is h)
-  may_leads {at = at} {n = n} (lawful.may_reject marked body type f same is) fit b notes r to d e h =
+  may_leads {at = at} {n = n} (lawful.may_say said is free) fit b calls r to d e h = say_leads id read valid frame n said fit free b calls r to d e (fresh id read at n b e is h)
+  may_leads {at = at} {n = n} (lawful.may_reject marked body type f same is) fit b calls r to d e h =
       let m = message_as (message.App n marked body) same in
-      reject_leads id read valid frame n marked body type f fit m.plain m.shown b notes r to d e (fresh id read at n b e is h)
-  may_leads {n = n} (lawful.may_hand marked body same) fit b notes r to (done.hands d) e h =
+      reject_leads id read valid frame n marked body type f fit m.plain m.shown b calls r to d e (fresh id read at n b e is h)
+  may_leads {n = n} (lawful.may_hand marked body same) fit b calls r to (done.hands d) e h =
       let m = message_as (message.App n marked body) same in
-      hand_leads id read valid frame m.text n marked body m.is m.says m.plain m.shown b notes r to d e h
-  may_leads {n = n} (lawful.passes_app marked body same) fit b notes r to d e h =
-      let m = message_as (message.App n marked body) same in app_leads id read frame m.plain n marked body m.shown b notes r to d e h
-  may_leads {at = at} {n = n} (lawful.passes_admin y same numbered is) fit b notes r to d e h =
-      let m = message_as y same in passes_at id read frame m.plain at is n (n + 1) (admin_clear id read frame m.plain n y numbered m.shown) (admin_leads id read frame m.plain n y numbered m.shown) b notes r to d e h
-  may_leads {at = at} {n = n} (lawful.passes_gap k same up is) fit b notes r to d e h =
-      let m = message_as (message.GapFill n k) same in passes_at id read frame m.plain at is n k (gap_clear id read frame m.plain n k up m.shown) (gap_leads id read frame m.plain n k up m.shown) b notes r to d e h
-  may_leads {at = at} {n = n} (lawful.resets_to j k same up is) fit b notes r to d e h =
-      let m = message_as (message.ResetTo j k) same in passes_at id read frame m.plain at is n k (reset_clear id read frame m.plain n j k up m.shown) (reset_leads id read frame m.plain n j k up m.shown) b notes r to d e h
-  may_leads {at = at} {n = n} (lawful.may_close why) fit b notes r to (done.closes w) e h = leads_nowhere id e (IsStillOn id read b) (still_on id read at n b e h)
-  may_leads {at = at} {n = n} lawful.may_rest fit b notes r to done.nothing e h = leads_nowhere id e (Stands id read at n b) h
+      hand_leads id read valid frame m.text n marked body m.is m.says m.plain m.shown b calls r to d e h
+  may_leads {n = n} (lawful.passes_app marked body same) fit b calls r to d e h =
+      let m = message_as (message.App n marked body) same in app_leads id read frame m.plain n marked body m.shown b calls r to d e h
+  may_leads {at = at} {n = n} (lawful.passes_admin y same numbered is) fit b calls r to d e h =
+      let m = message_as y same in passes_at id read frame m.plain at is n (n + 1) (admin_clear id read frame m.plain n y numbered m.shown) (admin_leads id read frame m.plain n y numbered m.shown) b calls r to d e h
+  may_leads {at = at} {n = n} (lawful.passes_gap k same up is) fit b calls r to d e h =
+      let m = message_as (message.GapFill n k) same in passes_at id read frame m.plain at is n k (gap_clear id read frame m.plain n k up m.shown) (gap_leads id read frame m.plain n k up m.shown) b calls r to d e h
+  may_leads {at = at} {n = n} (lawful.resets_to j k same up is) fit b calls r to d e h =
+      let m = message_as (message.ResetTo j k) same in passes_at id read frame m.plain at is n k (reset_clear id read frame m.plain n j k up m.shown) (reset_leads id read frame m.plain n j k up m.shown) b calls r to d e h
+  may_leads {at = at} {n = n} (lawful.may_close why) fit b calls r to (done.closes w) e h = leads_nowhere id e (IsStillOn id read b) (still_on id read at n b e h)
+  may_leads {at = at} {n = n} lawful.may_rest fit b calls r to done.nothing e h = leads_nowhere id e (Stands id read at n b) h
 
   all_lead : {at to : Standing} {n m : ℕ} {xs : List StepSeen} → MayDoAll x at n xs to m → AllByRecursion (IsCarried frame) xs → LeadsFrom id Failed (Stands id read at n) (Done id frame xs) (Stands id read to m)
   all_lead {at = at} {n = n} lawful.all_done fit = none_leads id Failed (Performed id frame) (Stands id read at n)
@@ -382,15 +386,15 @@ module _ (id : Identity) (read : List ℕ) (valid : IsValidIdentity id) (frame :
 
   -- ---- what an answer begins with
 
-  flush_leads : (n : ℕ) (b : Sender) (e : EndState) → InStep id read n b e → (notes : List Note) (r : Result ⊤ Ending) (to : Sender) → InAnswer (Flushed 0) b notes r to → LawfulRunTo id e (acts_of notes) (After Failed (InStepClear id read n) r to)
+  flush_leads : (n : ℕ) (b : Sender) (e : EndState) → InStep id read n b e → (calls : List Call) (r : Result ⊤ Ending) (to : Sender) → InAnswer (Flushed 0) b calls r to → LawfulRunTo id e calls (After Failed (InStepClear id read n) r to)
   flush_leads n b e h =
-      in_answer id read h.given n (Flushed 0) (Level id read h.given n) (InStepClear id read n) b e (λ notes r to d. flush_fits id read h.given n b notes r to d e h.fits)
-      (λ notes to e' d l. record { given = h.given; level = l; empty = Flushed-empty 0 b notes (Ok tt) to d; below = h.below })
+      in_answer id read h.given n (Flushed 0) (Level id read h.given n) (InStepClear id read n) b e (λ calls r to d. flush_fits id read h.given n b calls r to d e h.fits)
+      (λ calls to e' d l. record { given = h.given; level = l; empty = Flushed-empty 0 b calls (Ok tt) to d; below = h.below })
 
   begins_leads : (n : ℕ) (xs : List StepSeen) → LeadsFrom id Failed (InStep id read n) (Begins xs) (Stands id read (standing_first xs) n)
-  begins_leads n xs b notes r to (done.flushes due d) e h =
-      subst (λ (t : Bool). LawfulRunTo id e (acts_of notes) (After Failed (Stands id read (if t then Clear else Open) n) r to)) (sym due) (flush_leads n b e h notes r to d)
-  begins_leads n xs b notes r to (done.at_once none) e h =
+  begins_leads n xs b calls r to (done.flushes due d) e h =
+      subst (λ (t : Bool). LawfulRunTo id e calls (After Failed (Stands id read (if t then Clear else Open) n) r to)) (sym due) (flush_leads n b e h calls r to d)
+  begins_leads n xs b calls r to (done.at_once none) e h =
       subst (λ (t : Bool). LawfulRunTo id e [] (Stands id read (if t then Clear else Open) n b)) (sym none) (leads_nowhere id e (InStep id read n b) h)
 
   pub carried_leads : (n m : ℕ) (xs : List StepSeen) (to : Standing) → MayAnswer x n xs to m → AllByRecursion (IsCarried frame) xs → LeadsFrom id Failed (InStep id read n) (Carried id frame xs) (Stands id read to m)

@@ -1,16 +1,18 @@
 -- The steps of an answer, done in order until one ends it.
 use Rattle.std.specs.Prelude.{◌≡◌, ◌≤◌, ℕ, List, [], ◌∷◌, true, false, Option, Some, None, Result, Ok, Err, ⊤}
 use Rattle.fix_base.specs.declared.identity.Identity.{Identity}
-use Rattle.fix_base.specs.declared.act.Act.TheVariants as act
 use Rattle.fix_base.specs.Fields.{Field}
 use Rattle.fix_base.specs.Shape.{IsFrame}
 use Rattle.fix_base.specs.Says.{HasFields, value_of, seq_num_of, is_yes, body_of}
-use Rattle.fix_base.specs.Trace.{Note, Did, Failed, AppPart}
+use Rattle.fix_outside.specs.declared.handing.Said.{Said}
+use Rattle.fix_outside.specs.declared.handing.Said.TheVariants as said
+use Rattle.fix_outside.specs.Calls.{Call, Hand}
 use Rattle.fix_fields.specs.declared.header.Envelope.{Envelope}
 use Rattle.fix_fields.specs.Header.{header_of, header_of_fields}
 use Rattle.fix_admin.specs.Say.{SaySeen}
 use Rattle.fix_machine.specs.declared.event.Why.{Why}
-use Rattle.fix_machine.specs.Event.{StepSeen, Send, Serve, Hand, Stash, Expect, Reset, Confirm, Close, Nothing}
+use Rattle.fix_machine.specs.Event as step
+use Rattle.fix_machine.specs.Event.{StepSeen, Send, Serve, Stash, Expect, Reset, Confirm, Close, Nothing}
 use Rattle.fix_machine.specs.Answer.{number_or_0}
 use Rattle.fix_machine.specs.Numbers.{begins_with_a_flush}
 use Rattle.fix_stage.specs.Combine.{Each, AndThen, Lifted}
@@ -52,7 +54,7 @@ IsThere (Some text) = Unit {0}
 abbrev pub IsCarried : Option (List ℕ) → StepSeen → Type 0
 IsCarried frame (Send say) = IsSayable say
 IsCarried frame (Serve from to) = ⊥
-IsCarried frame Hand = IsThere frame
+IsCarried frame step.Hand = IsThere frame
 IsCarried frame Stash = ⊥
 IsCarried frame (Expect number) = (1 ≤ number) × (number ≤ 1000000000)
 IsCarried frame Reset = ⊥
@@ -69,34 +71,37 @@ abbrev pub instead : Sender → Sender → Sender
 instead b to = to
 
 -- something of sending is done in an answer: its fault ends the answer
-abbrev pub InAnswer : (Sender → List Note → Result ⊤ StageFault → Sender → Type 0) → Sender → List Note
+abbrev pub InAnswer : (Sender → List Call → Result ⊤ StageFault → Sender → Type 0) → Sender → List Call
     → Result ⊤ Ending → Sender → Type 0
 InAnswer R = Lifted itself instead ending_of R
 
 -- a message is said at the time of the last reading
-abbrev pub Saying : Identity → SaySeen → Sender → List Note → Result ⊤ Ending → Sender → Type 0
+abbrev pub Saying : Identity → SaySeen → Sender → List Call → Result ⊤ Ending → Sender → Type 0
 Saying id say b = InAnswer (MakesAndStages id (said_outgoing id.begin b.numbers.reading say)) b
 
 -- the message is handed over: with its number, its mark and its body
-pub data Handing (frame : Option (List ℕ)) (b : Sender) : List Note → Result ⊤ Ending → Sender → Type 0 where
+abbrev pub hand_call : List Field → Said → Call
+hand_call fields said = Hand (number_or_0 (seq_num_of fields)) (is_yes (value_of 43 fields)) (body_of fields) said
+
+pub data Handing (frame : Option (List ℕ)) (b : Sender) : List Call → Result ⊤ Ending → Sender → Type 0 where
   taken : (text : List ℕ) (fields : List Field) → frame ≡ Some text → HasFields text fields
-      → Handing frame b
-      (Did (act.Handed (number_or_0 (seq_num_of fields)) (is_yes (value_of 43 fields)) (body_of fields)) ∷ []) (Ok tt) b
+      → Handing frame b (hand_call fields said.Taken ∷ []) (Ok tt) b
   hand_lost : (text : List ℕ) (fields : List Field) → frame ≡ Some text → HasFields text fields
-      → Handing frame b
-      (Did (act.HandLost (number_or_0 (seq_num_of fields)) (is_yes (value_of 43 fields)) (body_of fields))
-      ∷ Failed AppPart ∷ []) (Err ending.AppFault) b
-  hand_memory : Handing frame b [] (Err ending.OutOfMemory) b
+      → Handing frame b (hand_call fields said.Failed ∷ []) (Err ending.AppFault) b
+  hand_memory : (text : List ℕ) (fields : List Field) → frame ≡ Some text → HasFields text fields
+      → Handing frame b (hand_call fields said.OutOfMemory ∷ []) (Err ending.OutOfMemory) b
+  -- out of memory for its body
+  body_memory : Handing frame b [] (Err ending.OutOfMemory) b
 
 -- One step. A message that finds no number left ends the answer: what was counted before it stays counted, and
 -- nothing after it is done. After a close nothing more is done either; what is staged is kept and written at the end of
 -- the turn
-pub data Performed (id : Identity) (frame : Option (List ℕ)) (b : Sender) : StepSeen → List Note → Result ⊤ Ending
+pub data Performed (id : Identity) (frame : Option (List ℕ)) (b : Sender) : StepSeen → List Call → Result ⊤ Ending
     → Sender → Type 0 where
-  says : (say : SaySeen) {notes : List Note} {r : Result ⊤ Ending} {to : Sender} → Saying id say b notes r to
-      → Performed id frame b (Send say) notes r to
-  hands : {notes : List Note} {r : Result ⊤ Ending} {to : Sender} → Handing frame b notes r to
-      → Performed id frame b Hand notes r to
+  says : (say : SaySeen) {calls : List Call} {r : Result ⊤ Ending} {to : Sender} → Saying id say b calls r to
+      → Performed id frame b (Send say) calls r to
+  hands : {calls : List Call} {r : Result ⊤ Ending} {to : Sender} → Handing frame b calls r to
+      → Performed id frame b step.Hand calls r to
   expects : (number : ℕ)
       → Performed id frame b (Expect number) [] (Ok tt) (with_numbers b (with_expected b.numbers number))
   closes : (why : Why) → Performed id frame b (Close why) [] (Err (ending.Closed why)) b
@@ -104,15 +109,15 @@ pub data Performed (id : Identity) (frame : Option (List ℕ)) (b : Sender) : St
 
 -- what is staged is kept and written first, where one of the steps is one that this is done before. So nothing of the
 -- answer is counted where that failed
-pub data Begins (steps : List StepSeen) (b : Sender) : List Note → Result ⊤ Ending → Sender → Type 0 where
-  flushes : {notes : List Note} {r : Result ⊤ Ending} {to : Sender} → begins_with_a_flush steps ≡ true
-      → InAnswer (Flushed 0) b notes r to → Begins steps b notes r to
+pub data Begins (steps : List StepSeen) (b : Sender) : List Call → Result ⊤ Ending → Sender → Type 0 where
+  flushes : {calls : List Call} {r : Result ⊤ Ending} {to : Sender} → begins_with_a_flush steps ≡ true
+      → InAnswer (Flushed 0) b calls r to → Begins steps b calls r to
   at_once : begins_with_a_flush steps ≡ false → Begins steps b [] (Ok tt) b
 
 -- the steps in order
-abbrev pub Done : Identity → Option (List ℕ) → List StepSeen → Sender → List Note → Result ⊤ Ending → Sender → Type 0
+abbrev pub Done : Identity → Option (List ℕ) → List StepSeen → Sender → List Call → Result ⊤ Ending → Sender → Type 0
 Done id frame steps b = Each (Performed id frame) b steps
 
 -- the answer
-abbrev pub Carried : Identity → Option (List ℕ) → List StepSeen → Sender → List Note → Result ⊤ Ending → Sender → Type 0
+abbrev pub Carried : Identity → Option (List ℕ) → List StepSeen → Sender → List Call → Result ⊤ Ending → Sender → Type 0
 Carried id frame steps = AndThen (Begins steps) (Done id frame steps)

@@ -1,7 +1,7 @@
 //! Does the steps of a decision in order. A session calls this with what `fix_machine` decided.
 ghost use Rattle.std.specs.Prelude.{◌≡◌, ◌≢◌, Some, Err};
 ghost use Rattle.std.specs.List.{AllByRecursion};
-ghost use Rattle.fix_base.specs.Trace.{HasTrace};
+ghost use Rattle.fix_outside.specs.Calls.{HasCalls};
 ghost use Rattle.fix_machine.specs.Event.{step_seen};
 ghost use Rattle.fix_machine.specs.Answer.{steps_of};
 ghost use Rattle.fix_machine.specs.Numbers as numbers;
@@ -32,9 +32,9 @@ pub fn carry_out<O: Outside>(
     requires source { IsSource source.now }
     requires carried { AllByRecursion (IsCarried (frame_in source.now)) (steps_of decision.now) }
     ensures ready { IsReady context.now.identity (O.seen o.new) (open_after result sender.new) sender.new }
-    ensures notes { HasTrace (O.seen o.old) (O.seen o.new)
-        (λ notes. Carried context.now.identity (frame_in source.entry.now) (steps_of decision.entry.now)
-        sender.old notes result sender.new) }
+    ensures calls { HasCalls (O.seen o.old) (O.seen o.new)
+        (λ calls. Carried context.now.identity (frame_in source.entry.now) (steps_of decision.entry.now)
+        sender.old calls result sender.new) }
     ensures cause { HasCause result (O.seen o.old).faults (O.seen o.new).faults }
 {
     begin(o, context, sender, decision)?;
@@ -50,8 +50,8 @@ fn begin<O: Outside>(
 ) -> Result<(), Ending>
     requires ready { IsReady context.now.identity (O.seen o.old) (Some sender.old.numbers.last) sender.old }
     ensures ready { IsReady context.now.identity (O.seen o.new) (open_after result sender.new) sender.new }
-    ensures notes { HasTrace (O.seen o.old) (O.seen o.new)
-        (λ notes. Begins (steps_of decision.now) sender.old notes result sender.new) }
+    ensures calls { HasCalls (O.seen o.old) (O.seen o.new)
+        (λ calls. Begins (steps_of decision.now) sender.old calls result sender.new) }
 {
     if !begins_with_a_flush(decision) {
         return Ok(());
@@ -100,8 +100,8 @@ fn do_all<O: Outside>(
     requires source { IsSource source.now }
     requires carried { AllByRecursion (IsCarried (frame_in source.now)) (steps_of decision.now) }
     ensures ready { IsReady context.now.identity (O.seen o.new) (open_after result sender.new) sender.new }
-    ensures notes { HasTrace (O.seen o.old) (O.seen o.new)
-        (λ notes. Done context.now.identity (frame_in source.entry.now) (steps_of decision.entry.now) sender.old notes
+    ensures calls { HasCalls (O.seen o.old) (O.seen o.new)
+        (λ calls. Done context.now.identity (frame_in source.entry.now) (steps_of decision.entry.now) sender.old calls
         result sender.new) }
 {
     perform(o, context, sender, source, &decision.first)?;
@@ -122,8 +122,8 @@ fn perform<O: Outside>(
     requires source { IsSource source.now }
     requires carried { IsCarried (frame_in source.now) (step_seen step.now) }
     ensures ready { IsReady context.now.identity (O.seen o.new) (open_after result sender.new) sender.new }
-    ensures notes { HasTrace (O.seen o.old) (O.seen o.new)
-        (λ notes. Performed context.now.identity (frame_in source.entry.now) sender.old (step_seen step.entry.now) notes
+    ensures calls { HasCalls (O.seen o.old) (O.seen o.new)
+        (λ calls. Performed context.now.identity (frame_in source.entry.now) sender.old (step_seen step.entry.now) calls
         result sender.new) }
 {
     match step {
@@ -154,8 +154,8 @@ fn hand_over<O: Outside>(
     requires there { IsThere (frame_in source.now) }
     ensures opens { (O.seen o.new).open_at ≡ (O.seen o.old).open_at }
     ensures open { result ≢ Err Ending.StoreFault }
-    ensures notes { HasTrace (O.seen o.old) (O.seen o.new)
-        (λ notes. Handing (frame_in source.entry.now) sender.now notes result sender.now) }
+    ensures calls { HasCalls (O.seen o.old) (O.seen o.new)
+        (λ calls. Handing (frame_in source.entry.now) sender.now calls result sender.now) }
 {
     match source {
         Source::Message { frame, head } => hand(o, context, sender, frame, head),

@@ -1,7 +1,7 @@
 //! Hands the message that is answered over to the application. `carrying` calls this.
 ghost use Rattle.std.specs.Prelude.{◌≡◌, ◌≢◌, Some, Err, option_map};
 ghost use Rattle.fix_base.specs.Says.{is_yes};
-ghost use Rattle.fix_base.specs.Trace.{HasTrace};
+ghost use Rattle.fix_outside.specs.Calls.{HasCalls};
 ghost use Rattle.fix_machine.specs.Answer as answers;
 ghost use Rattle.fix_steps.specs.Steps.{IsMessage, Handing};
 
@@ -22,8 +22,8 @@ pub fn hand<O: Outside>(
     requires is { IsMessage frame.now head.now }
     ensures opens { (O.seen o.new).open_at ≡ (O.seen o.old).open_at }
     ensures open { result ≢ Err Ending.StoreFault }
-    ensures notes { HasTrace (O.seen o.old) (O.seen o.new)
-        (λ notes. Handing (Some frame.now) sender.now notes result sender.now) }
+    ensures calls { HasCalls (O.seen o.old) (O.seen o.new)
+        (λ calls. Handing (Some frame.now) sender.now calls result sender.now) }
 {
     let Ok(body) = body_of(context.alloc, frame) else {
         return Err(Ending::OutOfMemory);

@@ -7,7 +7,7 @@ ghost use Rattle.fix_base.specs.Fields.{Field};
 ghost use Rattle.fix_base.specs.Message.{Message};
 ghost use Rattle.fix_base.specs.Payload.{IsPersistentEntry};
 ghost use Rattle.fix_base.specs.Says.{HasFields, message_of};
-ghost use Rattle.fix_base.specs.Trace.{Note};
+ghost use Rattle.fix_outside.specs.Calls.{Call};
 ghost use Rattle.fix_machine.specs.declared.state.MachineState.{MachineState};
 ghost use Rattle.fix_machine.specs.declared.state.Options.{Options};
 ghost use Rattle.fix_machine.specs.Event.{Inbound, StepSeen, EventSeen, Frame};
@@ -19,7 +19,7 @@ ghost use Rattle.fix_stage.specs.Lawful.{LeadsFrom};
 ghost use Rattle.fix_steps.specs.Steps.{IsCarried, Carried};
 ghost use Rattle.fix_steps.specs.declared.ending.Ending.{Ending};
 ghost use Rattle.fix_steps.specs.declared.ending.Ending.TheVariants as ending;
-ghost use Rattle.fix_steps.specs.Notes.{AnswersOnly};
+ghost use Rattle.fix_steps.specs.Answering.{AnswersOnly};
 ghost use Rattle.fix_steps.specs.Stated.{IsRead};
 ghost use Rattle.fix_steps.specs.Lawful.{Standing, MayAnswer, BeginsPlainly, WasReadIn, IsAnswered, InStep};
 ghost use Rattle.fix_steps.specs.Lawful.{Stands, AfterEnding};
@@ -46,9 +46,9 @@ pub fn an_answer_is_lawful()
 /// entry of a record that is kept or lost.
 pub fn an_answer_sends_and_hands_over()
     ensures { (id : Identity) (frame : Option (List ℕ)) (steps : List StepSeen) → AllByRecursion (IsCarried frame) steps
-        → (b : Sender) → IsTimely b → (notes : List Note) (r : Result ⊤ Ending) (to : Sender)
-        → AllByRecursion IsPersistentEntry b.stage.entries → Carried id frame steps b notes r to
-        → AnswersOnly IsPersistentEntry frame notes to }
+        → (b : Sender) → IsTimely b → (calls : List Call) (r : Result ⊤ Ending) (to : Sender)
+        → AllByRecursion IsPersistentEntry b.stage.entries → Carried id frame steps b calls r to
+        → AnswersOnly IsPersistentEntry frame calls to }
 {}
 
 /// Whatever the machine decides may be done, where it is carried out here: at a message, of which it was told what the

@@ -1,6 +1,6 @@
 //! Stages the session messages that an answer sends. `carrying` calls this.
 ghost use Rattle.std.specs.Prelude.{◌≡◌, ◌<◌, Some, ◌∷◌, []};
-ghost use Rattle.fix_base.specs.Trace.{HasTrace};
+ghost use Rattle.fix_outside.specs.Calls.{HasCalls};
 ghost use Rattle.fix_admin.specs.Say.{say_seen};
 ghost use Rattle.fix_admin.specs.Say as says;
 ghost use Rattle.fix_stage.specs.Sender.{IsReady};
@@ -28,8 +28,8 @@ pub fn say<O: Outside>(
     requires ready { IsReady context.now.identity (O.seen o.old) (Some sender.old.numbers.last) sender.old }
     requires sayable { IsSayable (say_seen said.now) }
     ensures ready { IsReady context.now.identity (O.seen o.new) (open_after result sender.new) sender.new }
-    ensures notes { HasTrace (O.seen o.old) (O.seen o.new)
-        (λ notes. Saying context.now.identity (say_seen said.entry.now) sender.old notes result sender.new) }
+    ensures calls { HasCalls (O.seen o.old) (O.seen o.new)
+        (λ calls. Saying context.now.identity (say_seen said.entry.now) sender.old calls result sender.new) }
 {
     match stage_said(o, context, sender, said) {
         Ok(()) => Ok(()),
@@ -47,8 +47,8 @@ fn stage_said<O: Outside>(
     requires ready { IsReady context.now.identity (O.seen o.old) (Some sender.old.numbers.last) sender.old }
     requires sayable { IsSayable (say_seen said.now) }
     ensures ready { IsReady context.now.identity (O.seen o.new) (senders.open_after result sender.new) sender.new }
-    ensures notes { HasTrace (O.seen o.old) (O.seen o.new) (λ notes. MakesAndStages context.now.identity
-        (said_outgoing context.now.identity.begin sender.old.numbers.reading (say_seen said.entry.now)) sender.old notes
+    ensures calls { HasCalls (O.seen o.old) (O.seen o.new) (λ calls. MakesAndStages context.now.identity
+        (said_outgoing context.now.identity.begin sender.old.numbers.reading (say_seen said.entry.now)) sender.old calls
         result sender.new) }
 {
     let kind = type_of(said);

@@ -1,23 +1,23 @@
 use Rattle.std.proofs.lemmas.Result.{err_from_is_err_and}
-use Rattle.fix_base.proofs.SeenLemmas.{Trace-append}
+use Rattle.fix_outside.proofs.CallLemmas.{Called-append}
 use Rattle.fix_stage.specs.Combine.{first_ends, both}
 use Rattle.fix_steps.proofs.CauseLemmas.{caused}
 use Rattle.fix_steps.proofs.carrying.carry_out.Goals as goal
 
-pub returns-in_err-begin-clause-notes : goal.returns-in_err-begin-clause-notes
-returns-in_err-begin-clause-notes g c =
+pub returns-in_err-begin-clause-calls : goal.returns-in_err-begin-clause-calls
+returns-in_err-begin-clause-calls g c =
     let p = err_from_is_err_and c.from_residual.result c.from_residual.ensures.1 in
-    let h = c.in_err-begin.ensures.notes in
+    let h = c.in_err-begin.ensures.calls in
     rw (p.1, p.2) (h.0, h.1, first_ends h.2)
 
-pub returns-clause-notes : goal.returns-clause-notes
-returns-clause-notes g c =
-    let h = c.in_ok-begin.ensures.notes in
-    let k = c.do_all.ensures.notes in
-    (_, Trace-append _ _ _ _ _ h.1 k.1, both h.2 k.2)
+pub returns-clause-calls : goal.returns-clause-calls
+returns-clause-calls g c =
+    let h = c.in_ok-begin.ensures.calls in
+    let k = c.do_all.ensures.calls in
+    (_, Called-append _ _ _ _ _ h.1 k.1, both h.2 k.2)
 
 pub returns-in_err-begin-clause-cause : goal.returns-in_err-begin-clause-cause
-returns-in_err-begin-clause-cause g c = caused _ _ _ _ _ _ _ _ (returns-in_err-begin-clause-notes g c)
+returns-in_err-begin-clause-cause g c = caused _ _ _ _ _ _ _ _ (returns-in_err-begin-clause-calls g c)
 
 pub returns-clause-cause : goal.returns-clause-cause
-returns-clause-cause g c = caused _ _ _ _ _ _ _ _ (returns-clause-notes g c)
+returns-clause-cause g c = caused _ _ _ _ _ _ _ _ (returns-clause-calls g c)
