@@ -1,12 +1,15 @@
 -- What calls come to, one after another.
-use Rattle.std.proofs.Common.{◌≡◌, ◌+◌, List, [], ◌∷◌, ◌++◌, Option, Some, None, refl, sym, ◌∙◌, ap, subst, append_assoc, arith}
+use Rattle.std.proofs.Common.{◌≡◌, ℕ, ◌+◌, Result, Ok, Err, List, [], ◌∷◌, ◌++◌, Option, Some, refl, sym, ◌∙◌, ap, subst, append_assoc, arith}
 use Rattle.std.proofs.lemmas.List.{append-nil}
-use Rattle.fix_base.specs.declared.act.Act.{Act}
 use Rattle.fix_base.specs.End.{End}
 use Rattle.fix_base.specs.Parts.{PartsSeen}
-use Rattle.fix_base.specs.Trace.{Note, Stores, Follows, HoldsOn, OutsideSeen, SameFile, Trace, acts_of, grown, store_failures, link_failures, app_failures}
+use Rattle.fix_base.specs.Trace.{Stores, Follows, OutsideSeen, SameFile, Trace, acts_of, grown, store_failures, link_failures, app_failures}
 use Rattle.fix_base.proofs.SeenLemmas.{grown-append, Stores-append, acts_of-append, Follows-append, Trace-nil, store_failures-append, link_failures-append, app_failures-append}
-use Rattle.fix_outside.specs.Calls.{Call, notes_of, notes_in, acts_in, IsTrueIn, CallStores, CallsStore, CallsHold, IsFilled, CallMoves, CallsMove, Called}
+use Rattle.fix_outside.specs.declared.outside.FetchFault.{FetchFault}
+use Rattle.fix_outside.specs.declared.outside.Kind.{Kind}
+use Rattle.fix_outside.specs.declared.outside.Kind.TheVariants as kind
+use Rattle.fix_outside.specs.Outside.{IsSo, FetchAnswers}
+use Rattle.fix_outside.specs.Calls.{Call, notes_of, notes_in, acts_in, IsTrueIn, CallsStore, CallsHold, IsFilled, CallsMove, Called}
 
 pub notes_in-append : (xs ys : List Call) → notes_in (xs ++ ys) ≡ notes_in xs ++ notes_in ys
 notes_in-append [] ys = refl
@@ -121,3 +124,10 @@ called a b call t so filled =
       };
       parts = (b.parts, record { follows = t.parts; filled = filled }, refl);
     }
+
+-- what a fetch answered is so in each end that is held
+pub answers_so : (answer : Result Kind FetchFault) (n : ℕ) (body : List ℕ) (w : OutsideSeen) → FetchAnswers answer n body w → (e : End) → w.Holds e → IsSo answer n body e
+answers_so (Ok (kind.App time)) n body w h e holds = (h.told e holds, h.free e holds)
+answers_so (Ok kind.Admin) n body w h e holds = h.told e holds
+answers_so (Ok kind.Withheld) n body w h e holds = (h.app e holds, h.withheld e holds)
+answers_so (Err fault) n body w h e holds = tt

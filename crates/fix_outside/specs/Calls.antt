@@ -1,5 +1,5 @@
 -- The calls of a session on what is outside it, each with what it answered, and what they come to.
-use Rattle.std.specs.Prelude.{◌≡◌, ℕ, ◌≤◌, min, length, List, [], ◌∷◌, ◌++◌, Bool, Option, Some, IfSome, Result, Ok, Err, ⊤}
+use Rattle.std.specs.Prelude.{◌≡◌, ℕ, min, length, List, [], ◌∷◌, ◌++◌, Bool, Option, Some, IfSome, Result, ⊤}
 use Rattle.fix_base.specs.declared.act.Act.{Act}
 use Rattle.fix_base.specs.declared.bytes.OutOfMemory.{OutOfMemory}
 use Rattle.fix_base.specs.declared.entry.Record.{Record}

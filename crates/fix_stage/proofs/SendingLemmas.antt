@@ -27,7 +27,7 @@ use Rattle.fix_stage.specs.Outgoing.{header_fields, Outgoing, draft_outgoing, Is
 use Rattle.fix_stage.specs.Staging as staging
 use Rattle.fix_stage.specs.Staging.{Numbered, Roomy, Put, Staging, with_staged, MakesAndStages, StagesPending}
 use Rattle.fix_stage.specs.Causes.{Blaming, HasCause, blame_of}
-use Rattle.fix_stage.specs.Stated.{Onward, writing, keeping, IsShortAfter, WouldGoOn, Total, Resumes, Stays, IsTimely}
+use Rattle.fix_stage.specs.Stated.{Onward, writing, keeping, IsShortAfter, Total, Resumes, Stays, IsTimely}
 use Rattle.fix_stage.proofs.CombineLemmas.{Each-blames, Then-blames, Blames-after, has_risen, went_well, onward_as}
 use Rattle.fix_stage.proofs.CombineLemmas.{short_after, short_alone, short_at, would_as}
 use Rattle.fix_outside.specs.declared.outside.KeepFault.TheVariants as keep

@@ -1,14 +1,11 @@
 -- What is stated of a doing in which no part failed: it is as said, or out of memory, and would have gone on.
-use Rattle.std.specs.Prelude.{◌≢◌, ◌≤◌, ℕ, Bool, List, [], ◌∷◌, ◌++◌, Result, Ok, Err, IfSome, Option, ⊤}
+use Rattle.std.specs.Prelude.{◌≢◌, ◌≤◌, ℕ, Bool, List, [], ◌∷◌, ◌++◌, Result, Err, IfSome, ⊤}
 use Rattle.fix_base.specs.Payload.{LAST_TIME}
 use Rattle.fix_base.specs.declared.entry.Record.{Record}
 use Rattle.fix_base.specs.declared.bytes.OutOfMemory.{OutOfMemory}
 use Rattle.fix_base.specs.Trace.{Note, Did, Failed, Asked}
-use Rattle.fix_outside.specs.declared.connection.WriteTurn.{WriteTurn}
 use Rattle.fix_outside.specs.declared.connection.WriteTurn.TheVariants as write
-use Rattle.fix_outside.specs.declared.handing.Said.{Said}
 use Rattle.fix_outside.specs.declared.handing.Said.TheVariants as said
-use Rattle.fix_outside.specs.declared.outside.KeepFault.{KeepFault}
 use Rattle.fix_outside.specs.declared.outside.KeepFault.TheVariants as keep
 use Rattle.fix_outside.specs.declared.outside.LoadFault.TheVariants as load
 use Rattle.fix_outside.specs.declared.outside.FetchFault.TheVariants as fetch

@@ -4,7 +4,7 @@ use Rattle.std.specs.Prelude.{⊤}
 use Rattle.std.specs.List.{AllByRecursion}
 use Rattle.fix_base.specs.declared.identity.Identity.{Identity}
 use Rattle.fix_outside.specs.declared.handing.Said.TheVariants as said
-use Rattle.fix_outside.specs.Calls.{Call, Hand}
+use Rattle.fix_outside.specs.Calls.{Call}
 use Rattle.fix_admin.specs.Say.{SaySeen}
 use Rattle.fix_machine.specs.Event.{StepSeen}
 use Rattle.fix_machine.specs.Event as event
