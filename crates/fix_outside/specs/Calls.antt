@@ -9,12 +9,13 @@ use Rattle.fix_base.specs.Parts.{PartsSeen}
 use Rattle.fix_base.specs.Trace.{Note, Asked, Stores, Follows, OutsideSeen, SameFile, Counts, acts_of, grown}
 use Rattle.fix_outside.specs.declared.connection.WriteTurn.{WriteTurn}
 use Rattle.fix_outside.specs.declared.handing.Said.{Said}
+use Rattle.fix_outside.specs.declared.handing.Again as whether
 use Rattle.fix_outside.specs.declared.outside.KeepFault.{KeepFault}
 use Rattle.fix_outside.specs.declared.outside.LoadFault.{LoadFault}
 use Rattle.fix_outside.specs.declared.outside.FetchFault.{FetchFault}
 use Rattle.fix_outside.specs.declared.outside.Kind.{Kind}
 use Rattle.fix_outside.specs.Outside.{Came, Bytes, NothingYet, TheEnd, ReadFailed, NoMemory, IsSo}
-use Rattle.fix_outside.specs.Outside.{marks, tells_time, notes_of_read, writes, keeps, notes_of_hand, loads, fetches}
+use Rattle.fix_outside.specs.Outside.{marks, tells_time, notes_of_read, writes, keeps, notes_of_hand, notes_of_again, loads, fetches}
 
 -- one call, and what it answered; also where that is that it was out of memory
 pub data Call : Type 0 where
@@ -26,6 +27,7 @@ pub data Call : Type 0 where
   Keep : (kept : Record) → (answer : Result ⊤ KeepFault) → Call
   Fetch : (number : ℕ) → (answer : Result Kind FetchFault) → (body : List ℕ) → Call
   Hand : (number : ℕ) → (marked : Bool) → (body : List ℕ) → (said : Said) → Call
+  Again : (number : ℕ) → (body : List ℕ) → (said : whether.Again) → Call  -- whether a message is sent again
   Ask : (draft : Option (List ℕ)) → Call  -- the body of the draft that the application gave, or none
 
 -- ---- what is noted of them
@@ -39,6 +41,7 @@ notes_of (Write bytes turn) = writes turn bytes
 notes_of (Keep kept answer) = keeps answer kept
 notes_of (Fetch number answer body) = fetches answer
 notes_of (Hand number marked body said) = notes_of_hand said number marked body
+notes_of (Again number body said) = notes_of_again said number
 notes_of (Ask draft) = Asked draft ∷ []
 
 abbrev pub notes_in : List Call → List Note
@@ -61,6 +64,7 @@ IsTrueIn (Write bytes turn) held = Unit {0}
 IsTrueIn (Keep kept answer) held = Unit {0}
 IsTrueIn (Fetch number answer body) held = IfSome held (IsSo answer number body)
 IsTrueIn (Hand number marked body said) held = Unit {0}
+IsTrueIn (Again number body said) held = Unit {0}
 IsTrueIn (Ask draft) held = Unit {0}
 
 -- what one call does to a store that is told or not
@@ -106,6 +110,7 @@ IsFilled (Write bytes turn) to_come = Unit {0}
 IsFilled (Keep kept answer) to_come = Unit {0}
 IsFilled (Fetch number answer body) to_come = Unit {0}
 IsFilled (Hand number marked body said) to_come = Unit {0}
+IsFilled (Again number body said) to_come = Unit {0}
 IsFilled (Ask draft) to_come = Unit {0}
 
 pub record CallMoves (call : Call) (old new : PartsSeen) : Type 0 where

@@ -20,6 +20,8 @@ use Rattle.fix_outside.specs.declared.connection.WriteTurn.TheVariants as write
 use Rattle.fix_outside.specs.declared.handing.Said.{Said}
 use Rattle.fix_outside.specs.declared.handing.Said.TheVariants as said
 use Rattle.fix_outside.specs.declared.handing.Handed.{Handed}
+use Rattle.fix_outside.specs.declared.handing.Again.{Again}
+use Rattle.fix_outside.specs.declared.handing.Again.TheVariants as again
 use Rattle.fix_outside.specs.declared.outside.KeepFault.{KeepFault}
 use Rattle.fix_outside.specs.declared.outside.KeepFault.TheVariants as keep
 use Rattle.fix_outside.specs.declared.outside.LoadFault.{LoadFault}
@@ -84,6 +86,12 @@ notes_of_hand said.OutOfMemory number marked body = []
 
 abbrev pub hands : Said → Handed → List Note
 hands said h = notes_of_hand said h.number h.marked h.body.now
+
+-- the application was asked whether the message of this number is sent again
+abbrev pub notes_of_again : Again → ℕ → List Note
+notes_of_again again.Send number = Did (act.Allowed number) ∷ []
+notes_of_again again.Withhold number = Did (act.Withheld number) ∷ []
+notes_of_again again.OutOfMemory number = []
 
 -- ---- the store: whether it is open, and what it answers
 

@@ -7,5 +7,5 @@ mod handing;
 mod outside;
 
 pub use connection::{ReadTurn, WriteTurn};
-pub use handing::{Handed, Said};
+pub use handing::{Again, Handed, Said};
 pub use outside::{FetchFault, KeepFault, Kind, LoadFault, Outside};

@@ -5,13 +5,14 @@ ghost use Rattle.fix_outside.specs.Calls.{Called, Look, Load, Mark, Read, Write,
 ghost use Rattle.fix_base.specs.Payload.{IsKeepable};
 ghost use Rattle.fix_base.specs.Trace.{OutsideSeen, Trace, Asked};
 ghost use Rattle.fix_fields.specs.Drafted.{draft_body};
-ghost use Rattle.fix_outside.specs.Handing.{HasKind};
+ghost use Rattle.fix_outside.specs.Handing.{HasKind, IsKindOf};
+ghost use Rattle.fix_outside.specs.Calls as calls;
 ghost use Rattle.fix_outside.specs.Connection.{IsInRoom, IsInBytes};
-ghost use Rattle.fix_outside.specs.Outside.{marks, tells_time, reads, writes, keeps, hands, loads, fetches, came};
+ghost use Rattle.fix_outside.specs.Outside.{marks, tells_time, reads, writes, keeps, hands, loads, fetches, came, notes_of_again};
 ghost use Rattle.fix_outside.specs.Outside.{HasPlace, NamesApp, HasEntry, open_kept, open_loaded, open_fetched, LoadAnswers};
 ghost use Rattle.fix_outside.specs.Outside.{FetchAnswers};
 
-use crate::{Handed, ReadTurn, Said, WriteTurn};
+use crate::{Again, Handed, ReadTurn, Said, WriteTurn};
 use fix_base::{OutOfMemory, Record, SeqNum, Stored};
 use fix_fields::Draft;
 
@@ -127,6 +128,14 @@ pub trait Outside {
         requires { HasKind h.now }
         ensures noted { Trace (seen self.old) (seen self.new) (hands result h.now) }
         ensures called { Called (seen self.old) (seen self.new) (Hand h.now.number h.now.marked h.now.body.now result ∷ []) }
+        ensures opens { (seen self.new).open_at ≡ (seen self.old).open_at };
+
+    /// Asks the application whether the message of this number may be sent again. Its kind is the MsgType (35)
+    /// that its body begins with.
+    fn again(&mut self, n: SeqNum, kind: &[u8], body: &[u8]) -> Again
+        requires { IsKindOf kind.now body.now }
+        ensures noted { Trace (seen self.old) (seen self.new) (notes_of_again result n) }
+        ensures called { Called (seen self.old) (seen self.new) (calls.Again n body.now result ∷ []) }
         ensures opens { (seen self.new).open_at ≡ (seen self.old).open_at };
 
     /// Asks the application for a message to be sent.

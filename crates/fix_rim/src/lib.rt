@@ -8,5 +8,5 @@ mod rim;
 mod slot_contents;
 mod store_slot;
 
-pub use fix_outside::{FetchFault, KeepFault, Kind, LoadFault, Outside};
+pub use fix_outside::{Again, FetchFault, KeepFault, Kind, LoadFault, Outside};
 pub use rim::Rim;

@@ -3,7 +3,7 @@
 use crate::optional_link::OptionalLink;
 use crate::reserving::reserve_read;
 use crate::store_slot::StoreSlot;
-use crate::{FetchFault, KeepFault, Kind, LoadFault, Outside};
+use crate::{Again, FetchFault, KeepFault, Kind, LoadFault, Outside};
 use fix_base::{OutOfMemory, Record, SeqNum, Stored};
 use fix_disk::Disk;
 use fix_fields::Draft;
@@ -100,9 +100,11 @@ impl<D: Disk, L: Link, A: App, C: Clock, T: Tape> Outside for Rim<D, L, A, C, T>
     ghost use Rattle.fix_parts.specs.Link.{LinkReads, LinkWrites};
     ghost use Rattle.fix_outside.specs.Connection.{IsInRoom, IsInBytes};
     ghost use Rattle.fix_parts.specs.App.{AppTakes, AppAsks};
-    ghost use Rattle.fix_outside.specs.Handing.{HasKind};
+    ghost use Rattle.fix_outside.specs.Handing.{HasKind, IsKindOf};
     ghost use Rattle.fix_outside.specs.declared.outside.KeepFault.TheVariants as TheKeepFault;
     ghost use Rattle.fix_outside.specs.Outside.{marks, tells_time, reads, writes, keeps, hands, loads, fetches, came};
+    ghost use Rattle.fix_outside.specs.Outside.{notes_of_again};
+    ghost use Rattle.fix_outside.specs.Calls as calls;
     ghost use Rattle.fix_outside.specs.Calls.{Called, Look, Load, Mark, Read, Write, Keep, Fetch, Hand, Ask};
     ghost use Rattle.fix_outside.specs.Outside.{HasPlace, NamesApp, HasEntry, open_kept, open_loaded, open_fetched};
     ghost use Rattle.fix_outside.specs.Outside.{LoadAnswers, FetchAnswers};
@@ -364,6 +366,39 @@ impl<D: Disk, L: Link, A: App, C: Clock, T: Tape> Outside for Rim<D, L, A, C, T>
                 Said::Failed
             }
             Said::OutOfMemory => Said::OutOfMemory,
+        }
+    }
+
+    #[tactic(auto, using(crate::proofs::Carrying::calls))]
+    fn again(&mut self, n: SeqNum, kind: &[u8], body: &[u8]) -> Again
+        requires { IsKindOf kind.now body.now }
+        ensures noted { Trace (seen_of (T.told self.old.tape) (seen_on D.disk self.old.slot.device) self.old.slot.open_at
+            (plug_of L.link self.old.optional_link) (A.app self.old.app) (C.readings self.old.clock))
+            (seen_of (T.told self.new.tape) (seen_on D.disk self.new.slot.device) self.new.slot.open_at
+            (plug_of L.link self.new.optional_link) (A.app self.new.app) (C.readings self.new.clock))
+            (notes_of_again result n) }
+        ensures called { Called (seen_of (T.told self.old.tape) (seen_on D.disk self.old.slot.device) self.old.slot.open_at
+            (plug_of L.link self.old.optional_link) (A.app self.old.app) (C.readings self.old.clock))
+            (seen_of (T.told self.new.tape) (seen_on D.disk self.new.slot.device) self.new.slot.open_at
+            (plug_of L.link self.new.optional_link) (A.app self.new.app) (C.readings self.new.clock))
+            (calls.Again n body.now result ∷ []) }
+        ensures opens { self.new.slot.open_at ≡ self.old.slot.open_at }
+        ensures app { A.app (app_in self.new) ≡ A.app (app_in self.old) }
+        ensures others { self.new ≡ with_app_of self.old self.new }
+    {
+        if self.tape.reserve(&Noted::Allowed(0)).is_err() {
+            return Again::OutOfMemory;
+        }
+        match self.app.again(n, kind, body) {
+            Again::Send => {
+                self.tape.note(&Noted::Allowed(n.get()));
+                Again::Send
+            }
+            Again::Withhold => {
+                self.tape.note(&Noted::Withheld(n.get()));
+                Again::Withhold
+            }
+            Again::OutOfMemory => Again::OutOfMemory,
         }
     }
 

@@ -9,7 +9,7 @@ use crate::{
 use fix_base::{Begin, Bytes, Identity, OutOfMemory, Record, SeqNum, Stored, Tag, is_comp_id};
 use fix_fields::{Draft, DraftFields};
 use fix_outside::{
-    FetchFault, Handed, KeepFault, Kind, LoadFault, Outside, ReadTurn, Said, WriteTurn,
+    Again, FetchFault, Handed, KeepFault, Kind, LoadFault, Outside, ReadTurn, Said, WriteTurn,
 };
 use std::alloc::Global;
 use std::test::Fail;
@@ -131,6 +131,10 @@ impl Outside for Quiet {
 
     fn hand(&mut self, _h: &Handed<'_>) -> Said {
         Said::OutOfMemory
+    }
+
+    fn again(&mut self, _n: SeqNum, _kind: &[u8], _body: &[u8]) -> Again {
+        Again::OutOfMemory
     }
 
     fn ask(&mut self) -> Option<Draft> {

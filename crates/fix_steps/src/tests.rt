@@ -12,7 +12,7 @@ use fix_fields::{Draft, envelope};
 use fix_frame::{Framed, frame_at};
 use fix_machine::{Decision, Refusal, Step, Why};
 use fix_outside::{
-    FetchFault, Handed, KeepFault, Kind, LoadFault, Outside, ReadTurn, Said, WriteTurn,
+    Again, FetchFault, Handed, KeepFault, Kind, LoadFault, Outside, ReadTurn, Said, WriteTurn,
 };
 use fix_stage::{Context, Numbers, PendingDraft, Sender, Stage, settle};
 use std::alloc::Global;
@@ -147,6 +147,10 @@ impl Outside for Quiet {
         self.keeps_before = self.keeps;
         self.writes_before = self.writes;
         Said::Taken
+    }
+
+    fn again(&mut self, _n: SeqNum, _kind: &[u8], _body: &[u8]) -> Again {
+        Again::OutOfMemory
     }
 
     fn ask(&mut self) -> Option<Draft> {

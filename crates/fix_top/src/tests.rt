@@ -8,7 +8,7 @@ use super::*;
 use crate::words::{identity_from, read_words};
 use fix_base::{Act, By, Bytes, Entry, OutOfMemory, Record, SeqNum, Status, Stored, Tag};
 use fix_disk::{Disk, MemoryDisk, MemorySink};
-use fix_engine::{FetchFault, KeepFault, Kind, LoadFault, Outside, SendFault, Session};
+use fix_engine::{Again, FetchFault, KeepFault, Kind, LoadFault, Outside, SendFault, Session};
 use fix_fields::{Draft, DraftFields};
 use fix_parts::{Handed, KeptTape, LineApp, MemoryClock, MemoryLink, ReadTurn, Said, WriteTurn};
 use fix_rim::Rim;
@@ -596,6 +596,10 @@ impl Outside for Spent {
     fn hand(&mut self, _h: &Handed<'_>) -> Said {
         self.count();
         Said::OutOfMemory
+    }
+
+    fn again(&mut self, _n: SeqNum, _kind: &[u8], _body: &[u8]) -> Again {
+        Again::OutOfMemory
     }
 
     fn ask(&mut self) -> Option<Draft> {

@@ -10,7 +10,7 @@ use crate::words::{identity_from, read_words};
 use fix_base::{Act, By, Bytes, Entry, OutOfMemory, Record, SeqNum, Status, Stored, Tag};
 use fix_disk::MemoryDisk;
 use fix_engine::{
-    FetchFault, KeepFault, Kind, LoadFault, Outside, Phase, RunEnd, SendFault, Session, StopCause,
+    Again, FetchFault, KeepFault, Kind, LoadFault, Outside, Phase, RunEnd, SendFault, Session, StopCause,
 };
 use fix_fields::{Draft, DraftFields};
 use fix_parts::{Handed, KeptTape, MemoryApp, MemoryClock, MemoryLink, ReadTurn, Said, WriteTurn};
@@ -412,6 +412,10 @@ impl Outside for Full {
 
     fn hand(&mut self, _h: &Handed<'_>) -> Said {
         Said::OutOfMemory
+    }
+
+    fn again(&mut self, _n: SeqNum, _kind: &[u8], _body: &[u8]) -> Again {
+        Again::OutOfMemory
     }
 
     fn ask(&mut self) -> Option<Draft> {
