@@ -6,3 +6,4 @@ pub mod AllowedLemmas
 pub mod JsonLemmas
 pub mod TwiceLemmas
 mod NoteLemmas
+pub mod RoleLemmas

@@ -10,13 +10,13 @@ use Rattle.fix_dict.specs.Notes.{note_of, AreNotes}
 pub no_notes : (fields : FieldTable) (header trailer : Shapes) → AreNotes fields header trailer []
 no_notes fields header trailer i d h = absurd (omega (arith, h))
 
-old_one : {X : Type 0} (xs : List X) (x d : X) (i : ℕ) → i < length xs → get_or (xs ++ x ∷ []) i d ≡ get_or xs i d
+pub old_one : {X : Type 0} (xs : List X) (x d : X) (i : ℕ) → i < length xs → get_or (xs ++ x ∷ []) i d ≡ get_or xs i d
 old_one xs x d i h = grind (arith, common_steps)
 
-new_one : {X : Type 0} (xs : List X) (x d : X) (i : ℕ) → i ≡ length xs → get_or (xs ++ x ∷ []) i d ≡ x
+pub new_one : {X : Type 0} (xs : List X) (x d : X) (i : ℕ) → i ≡ length xs → get_or (xs ++ x ∷ []) i d ≡ x
 new_one xs x d i h = grind (arith, common_steps)
 
-longer : {X : Type 0} (xs : List X) (x : X) → length (xs ++ x ∷ []) ≡ length xs + 1
+pub longer : {X : Type 0} (xs : List X) (x : X) → length (xs ++ x ∷ []) ≡ length xs + 1
 longer xs x = grind (arith, common_steps)
 
 -- with the note of the next tag
@@ -30,5 +30,5 @@ notes_more fields header trailer old new i tag note are n t is e k d h =
           new_one old note d k same ∙ is ∙ ap (note_of fields header trailer) (t ∙ ap (λ m. m + 1) (sym n ∙ sym same))
     ]
 
-pub one_more : (old new : List TagNote) (i : ℕ) (note : TagNote) → length old ≡ i → new ≡ old ++ note ∷ [] → length new ≡ i + 1
+pub one_more : {X : Type 0} (old new : List X) (i : ℕ) (note : X) → length old ≡ i → new ≡ old ++ note ∷ [] → length new ≡ i + 1
 one_more old new i note n e = ap length e ∙ longer old note ∙ ap (λ m. m + 1) n

@@ -6,6 +6,7 @@ pub mod Fields
 pub mod Members
 pub mod Keyed
 pub mod Messages
+pub mod Roles
 pub mod Notes
 pub mod Dictionary
 pub mod Allowed

@@ -18,6 +18,7 @@ use crate::members::judge_members;
 use crate::message::{MOST_GROUPS, read_messages};
 use crate::messages::Messages;
 use crate::note::{TagNote, note_of, notes_of};
+use crate::noted::NotedLayout;
 use crate::parts::{list_at, text_at};
 use crate::paths::bad_shape;
 use crate::tags::Tags;
@@ -33,8 +34,8 @@ use std::marker::Model;
 pub struct Dictionary {
     begin: Begin,
     fields: Fields,
-    header: Layout,
-    trailer: Layout,
+    header: NotedLayout,
+    trailer: NotedLayout,
     messages: Messages,
     notes: Vec<TagNote>,
 }
@@ -108,6 +109,16 @@ impl Dictionary {
     pub fn layout(&self, kind: &[u8]) -> Option<&Layout>
         ensures { option_copied result ≡ layout_of self.now kind.now }
     {
+        match self.messages.get(kind) {
+            Some(noted) => Some(noted.layout()),
+            None => None,
+        }
+    }
+
+    /// The same with what is kept of each tag.
+    pub fn noted_layout(&self, kind: &[u8]) -> Option<&NotedLayout>
+        ensures { option_copied result ≡ layout_of self.now kind.now }
+    {
         self.messages.get(kind)
     }
 
@@ -115,11 +126,25 @@ impl Dictionary {
     pub fn header(&self) -> &Layout
         ensures { result.now ≡ self.now.header }
     {
+        self.header.layout()
+    }
+
+    /// The same with what is kept of each tag.
+    pub fn noted_header(&self) -> &NotedLayout
+        ensures { result.now ≡ self.now.header }
+    {
         &self.header
     }
 
     /// The members of the trailer of every message.
     pub fn trailer(&self) -> &Layout
+        ensures { result.now ≡ self.now.trailer }
+    {
+        self.trailer.layout()
+    }
+
+    /// The same with what is kept of each tag.
+    pub fn noted_trailer(&self) -> &NotedLayout
         ensures { result.now ≡ self.now.trailer }
     {
         &self.trailer
@@ -221,6 +246,8 @@ fn dictionary_of(alloc: Global, value: &Value) -> Result<Dictionary, DictFault>
     let trailer = Layout {
         members: members_of(alloc, MOST_GROUPS, trailer_items)?,
     };
+    let header = NotedLayout::new(alloc, header)?;
+    let trailer = NotedLayout::new(alloc, trailer)?;
     let notes = notes_of(alloc, &fields, &header, &trailer)?;
     Ok(Dictionary {
         begin,

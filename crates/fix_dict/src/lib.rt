@@ -13,6 +13,7 @@ mod members;
 mod message;
 mod messages;
 mod note;
+mod noted;
 mod parts;
 mod paths;
 #[cfg(test)]
@@ -26,4 +27,5 @@ mod tags;
 pub use dictionary::Dictionary;
 pub use fault::DictFault;
 pub use note::{Standing, TagNote};
+pub use noted::{NotedLayout, Role};
 pub use samples::{SAMPLE_42, SAMPLE_44};

@@ -13,6 +13,7 @@ use crate::build::members_of;
 use crate::fields::Fields;
 use crate::members::judge_members;
 use crate::messages::Messages;
+use crate::noted::NotedLayout;
 use crate::parts::{list_at, text_at};
 use crate::paths::{bad_shape, within};
 use crate::tags::Tags;
@@ -124,6 +125,7 @@ fn read_message(
         items,
     )?;
     let members = members_of(alloc, MOST_GROUPS, items)?;
-    messages.insert(kind, Layout { members })?;
+    let layout = NotedLayout::new(alloc, Layout { members })?;
+    messages.insert(kind, layout)?;
     Ok(())
 }

@@ -2,7 +2,7 @@
 ghost use Rattle.std.specs.Prelude.{◌≡◌, OnOk, option_copied};
 ghost use Rattle.std.specs.FinMap as table;
 
-use fix_fields::Layout;
+use crate::noted::NotedLayout;
 use std::alloc::{AllocFailed, Global};
 use std::collections::BTreeMap;
 use std::marker::Model;
@@ -10,7 +10,7 @@ use std::marker::Model;
 /// The layouts of messages by their MsgType (35). Contracts see it as the map.
 #[derive(Drop)]
 pub struct Messages {
-    layouts: BTreeMap<Vec<u8>, Layout>,
+    layouts: BTreeMap<Vec<u8>, NotedLayout>,
 }
 
 impl Model for Messages {
@@ -39,7 +39,7 @@ impl Messages {
     }
 
     /// The layout of messages of the type. It costs the logarithm of the number of types.
-    pub fn get(&self, kind: &[u8]) -> Option<&Layout>
+    pub fn get(&self, kind: &[u8]) -> Option<&NotedLayout>
         ensures { option_copied result ≡ table.get self.now kind.now }
     {
         self.layouts.get(kind)
@@ -54,8 +54,8 @@ impl Messages {
     pub fn insert(
         &mut self,
         kind: Vec<u8>,
-        layout: Layout,
-    ) -> Result<(), AllocFailed<(Vec<u8>, Layout)>>
+        layout: NotedLayout,
+    ) -> Result<(), AllocFailed<(Vec<u8>, NotedLayout)>>
         ensures { OnOk result (self.new ≡ table.insert self.old kind.items layout) }
     {
         self.layouts.insert(kind, layout)?;

@@ -1,12 +1,13 @@
 //! What is kept of each tag beside the tables, so that it is looked up in one step. `dictionary` makes it last,
 //! and fix_validate asks it for each field.
 ghost use Rattle.std.specs.Prelude.{◌≡◌, IfOk};
-ghost use Rattle.fix_dict.specs.Notes.{note_of, standing_of, is_any, is_own, AreNotes};
+ghost use Rattle.fix_dict.specs.declared.noted.Role.TheVariants.{Absent};
+ghost use Rattle.fix_dict.specs.Notes.{note_of, standing_of, is_any, is_own, is_in_group, AreNotes};
 
 use crate::fields::Fields;
+use crate::noted::{NotedLayout, Role};
 use fix_base::Tag;
-use fix_fields::{Layout, ValueKind, is_header_tag, is_trailer_tag};
-use fix_groups::has_tag;
+use fix_fields::{ValueKind, is_header_tag, is_trailer_tag};
 use std::alloc::{AllocError, Global};
 
 /// Notes of so many tags are kept, from 1 on: of all that FIX 4.4 has.
@@ -19,8 +20,10 @@ pub enum Standing {
     Neither,
     /// By the standard alone.
     Standard,
-    /// The dictionary's header, or its trailer, has it as a member or in a group.
+    /// The dictionary's header, or its trailer, has it as a field of no group.
     Own,
+    /// The dictionary's header, or its trailer, has it as the count of a group, or inside one.
+    Grouped,
 }
 
 impl Standing {
@@ -30,7 +33,7 @@ impl Standing {
     {
         match self {
             Standing::Neither => false,
-            Standing::Standard | Standing::Own => true,
+            Standing::Standard | Standing::Own | Standing::Grouped => true,
         }
     }
 
@@ -40,7 +43,17 @@ impl Standing {
     {
         match self {
             Standing::Neither | Standing::Standard => false,
-            Standing::Own => true,
+            Standing::Own | Standing::Grouped => true,
+        }
+    }
+
+    /// Whether the dictionary has it there as the count of a group, or inside one.
+    pub fn is_in_group(self) -> bool
+        ensures { result ≡ is_in_group self }
+    {
+        match self {
+            Standing::Neither | Standing::Standard | Standing::Own => false,
+            Standing::Grouped => true,
         }
     }
 }
@@ -62,8 +75,8 @@ pub struct TagNote {
 pub fn notes_of(
     alloc: Global,
     fields: &Fields,
-    header: &Layout,
-    trailer: &Layout,
+    header: &NotedLayout,
+    trailer: &NotedLayout,
 ) -> Result<Vec<TagNote>, AllocError>
     ensures { IfOk result (λ notes. AreNotes fields.now header.now trailer.now notes.items) }
 {
@@ -78,25 +91,34 @@ pub fn notes_of(
 }
 
 /// The note of a tag, by the tables.
-pub fn note_of(fields: &Fields, header: &Layout, trailer: &Layout, tag: Tag) -> TagNote
+pub fn note_of(fields: &Fields, header: &NotedLayout, trailer: &NotedLayout, tag: Tag) -> TagNote
     ensures { result ≡ note_of fields.now header.now trailer.now tag }
 {
     TagNote {
-        header: standing_of(has_tag(header, tag), is_header_tag(tag)),
+        header: standing_of(header.role(tag), is_header_tag(tag)),
         kind: fields.kind_of(tag),
-        trailer: standing_of(has_tag(trailer, tag), is_trailer_tag(tag)),
+        trailer: standing_of(trailer.role(tag), is_trailer_tag(tag)),
         has_values: fields.has_values(tag),
     }
 }
 
-fn standing_of(own: bool, standard: bool) -> Standing
-    ensures { result ≡ standing_of own standard }
+fn standing_of(role: Role, standard: bool) -> Standing
+    ensures { result ≡ standing_of role standard }
 {
-    if own {
-        return Standing::Own;
+    match role {
+        Role::Grouped => Standing::Grouped,
+        Role::Plain => Standing::Own,
+        Role::Absent => standing_by(standard),
     }
+}
+
+// Of a tag that the dictionary has neither in its header nor in its trailer.
+fn standing_by(standard: bool) -> Standing
+    ensures { result ≡ standing_of Absent standard }
+{
     if standard {
-        return Standing::Standard;
+        Standing::Standard
+    } else {
+        Standing::Neither
     }
-    Standing::Neither
 }

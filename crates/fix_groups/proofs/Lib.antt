@@ -13,4 +13,4 @@ pub mod Splitting
 pub mod ToldLemmas
 pub mod PlainCounts
 pub mod JoinedLemmas
-mod TouchedLemmas
+pub mod TouchedLemmas

@@ -6,3 +6,5 @@ pub mod RequiredLemmas
 pub mod ReadingLemmas
 pub mod FrameLemmas
 mod NoteLemmas
+pub mod SeatLemmas
+pub mod GroupedLemmas

@@ -1,5 +1,7 @@
 -- An index of fields by their tags.
-use Rattle.std.specs.Prelude.{◌≡◌, ℕ, ◌+◌, ◌*◌, ◌<◌, ◌≤◌, List, [], ◌∷◌, length, slice_index_or, IsPermutation}
+use Rattle.std.specs.Prelude.{◌≡◌, ℕ, ◌+◌, ◌*◌, ◌%◌, ◌==◌, ◌<◌, ◌≤◌, Bool, false, List, [], ◌∷◌, length, take}
+use Rattle.std.specs.Prelude.{slice_index_or, slice_set, if◌then◌else◌, IsPermutation}
+use Rattle.std.specs.List.{list_any}
 use Rattle.std.specs.List.Sorted.{IsNonDecreasing}
 use Rattle.fix_base.specs.Fields.{Field}
 
@@ -23,6 +25,22 @@ pub record IsSortedIndex (fs : List Field) (index : List ℕ) : Type 0 where
 -- more than 48 fields have an index
 abbrev pub IsIndexOf : List Field → List ℕ → Type 0
 IsIndexOf fs index = 48 < length fs → IsSortedIndex fs index
+
+-- a field's tag ends in this byte
+abbrev pub ends_in : ℕ → List Field → Bool
+ends_in byte fs = list_any (λ f. f.tag % 256 == byte) fs
+
+-- by the last byte of a tag one more than a place before which no tag ends in it
+pub record IsSeated (fs : List Field) (seats : List ℕ) : Type 0 where
+  pub before : (byte place : ℕ) → slice_index_or seats byte 0 ≡ place + 1 → ends_in byte (take place fs) ≡ false
+
+-- the first that comes is seated
+abbrev pub seat_taken : ℕ → ℕ → List ℕ → List ℕ
+seat_taken byte place seats = if slice_index_or seats byte 0 == 0 then slice_set seats byte (place + 1) else seats
+
+-- of at most 48 fields
+abbrev pub AreSeats : List Field → List ℕ → Type 0
+AreSeats fs seats = length fs ≤ 48 → IsSeated fs seats
 
 -- the key at this place of the index is the least that isn't below what is looked for
 pub record IsLeast (index : List ℕ) (wanted at : ℕ) : Type 0 where

@@ -1,5 +1,5 @@
 -- The required fields that are missing.
-use Rattle.std.specs.Prelude.{ℕ, Bool, not, ◌&&◌, ◌==◌, if◌then◌else◌, List, [], ◌∷◌, ◌++◌}
+use Rattle.std.specs.Prelude.{ℕ, Bool, true, not, ◌&&◌, ◌==◌, if◌then◌else◌, List, [], ◌∷◌, ◌++◌}
 use Rattle.std.specs.List.{list_any}
 use Rattle.fix_fields.specs.Shapes.{Shapes, no_more, plain, group}
 use Rattle.fix_groups.specs.Tagged.{Tagged}
@@ -35,6 +35,11 @@ instances_in count g (f ∷ fs) = if f.tag == count then instances_of (lead g) (
 abbrev pub rows_of_each : (List Tagged → List Row) → List (List Tagged) → List Row
 rows_of_each rows [] = []
 rows_of_each rows (fs ∷ more) = rows fs ++ rows_of_each rows more
+
+-- those of required tags, one by one
+abbrev pub tag_rows : List ℕ → List Tagged → List Row
+tag_rows [] fs = []
+tag_rows (t ∷ ts) fs = required_tag_missing t true fs ∷ tag_rows ts fs
 
 -- the members in their order; those of a group at the group's place, instance by instance
 abbrev pub required_rows : Shapes → List Tagged → List Row

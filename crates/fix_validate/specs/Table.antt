@@ -10,6 +10,10 @@ use Rattle.fix_fields.specs.Shapes.{Shapes}
 use Rattle.fix_fields.specs.NoTwice.{has_tag}
 use Rattle.fix_groups.specs.Looked.{owner}
 use Rattle.fix_dict.specs.Dictionary.{DictionarySeen, kind_of}
+use Rattle.fix_dict.specs.Notes.{is_in_group}
+use Rattle.fix_dict.specs.Roles.{is_of_group}
+use Rattle.fix_dict.specs.declared.note.TagNote.{TagNote}
+use Rattle.fix_dict.specs.declared.noted.Role.{Role}
 use Rattle.fix_dict.specs.Allowed.{allows}
 use Rattle.fix_validate.specs.Rows.{Row, fault_at, tested}
 
@@ -47,6 +51,10 @@ has_trailer dictionary fs = list_any (λ f. is_trailer dictionary f.tag) fs
 abbrev pub is_misplaced : DictionarySeen → List Field → ℕ → Bool
 is_misplaced dictionary before tag = (is_header dictionary tag && has_left_header dictionary before) ||
     (not (is_trailer dictionary tag) && has_trailer dictionary before)
+
+-- a tag is the count of a group of the message, its header or its trailer, or of a field inside one
+abbrev pub is_touching : TagNote → Role → Bool
+is_touching note role = is_of_group role || (is_in_group note.header || is_in_group note.trailer)
 
 -- a value that isn't one of the kind
 abbrev pub IsNoValueOf : Option ValueKind → List ℕ → Type 0

@@ -4,15 +4,13 @@ ghost use Rattle.std.specs.Prelude.{◌≡◌, ◌<◌, ◌≤◌, ℕ, ◌&&◌
 ghost use Rattle.std.specs.Prelude.{length, take, slice_index_or};
 ghost use Rattle.std.specs.List.Sorted.{IsNonDecreasing};
 ghost use Rattle.fix_validate.specs.Table.{has_field, is_member};
-ghost use Rattle.fix_validate.specs.Index.{key, keys_from, HasTagAt, IsIndexOf, IsLeast};
+ghost use Rattle.fix_validate.specs.Index.{key, keys_from, AreSeats, HasTagAt, IsIndexOf, IsLeast};
 
 use crate::reading::has_field;
+use crate::seats::{FEW, last_byte};
 use fix_base::Tag;
 use fix_groups::{Lent, Whole};
 use std::alloc::{AllocError, Global};
-
-/// Among so many fields a tag is looked for one by one; of more an index is made.
-const FEW: usize = 48;
 
 /// One more than the greatest place of a field.
 const PLACES: u128 = 18_446_744_073_709_551_616;
@@ -35,16 +33,18 @@ pub fn index_of(alloc: Global, fields: &[Lent<'_>]) -> Result<Vec<u128>, AllocEr
 pub fn appears_again(
     root: &Whole<'_>,
     fields: &[Lent<'_>],
+    seats: &[u8; 256],
     index: &[u128],
     place: usize,
     tag: Tag,
 ) -> bool
+    requires seats { AreSeats fields.now seats.now }
     requires index { IsIndexOf fields.now index.now }
     requires place { place < length fields.now }
     requires tag { HasTagAt fields.now place tag }
     ensures { result ≡ (has_field tag (take place fields.now) && not (is_member root.now tag)) }
 {
-    if !stands_before(fields, index, place, tag) {
+    if !stands_before(fields, seats, index, place, tag) {
         return false;
     }
     root.owner(tag).is_none()
@@ -68,18 +68,38 @@ fn key(tag: Tag, place: usize) -> u128
     u128::from(tag.get()) * PLACES + place as u128
 }
 
-fn stands_before(fields: &[Lent<'_>], index: &[u128], place: usize, tag: Tag) -> bool
+fn stands_before(
+    fields: &[Lent<'_>],
+    seats: &[u8; 256],
+    index: &[u128],
+    place: usize,
+    tag: Tag,
+) -> bool
+    requires seats { AreSeats fields.now seats.now }
     requires index { IsIndexOf fields.now index.now }
     requires place { place < length fields.now }
     requires tag { HasTagAt fields.now place tag }
     ensures { result ≡ has_field tag (take place fields.now) }
 {
     if fields.len() <= FEW {
-        return has_field(&fields[..place], tag);
+        return stands_among_few(fields, seats, place, tag);
     }
     // The least key with the tag is that of the first field that has it.
     let least = least_from(index, key(tag, 0));
     index[least] < key(tag, place)
+}
+
+fn stands_among_few(fields: &[Lent<'_>], seats: &[u8; 256], place: usize, tag: Tag) -> bool
+    requires few { length fields.now ≤ 48 }
+    requires seats { AreSeats fields.now seats.now }
+    requires place { place < length fields.now }
+    ensures { result ≡ has_field tag (take place fields.now) }
+{
+    // Mostly this field is the first whose tag ends in this byte.
+    if usize::from(seats[last_byte(tag)]) == place + 1 {
+        return false;
+    }
+    has_field(&fields[..place], tag)
 }
 
 // Where the least key stands that isn't below this one.

@@ -1,19 +1,21 @@
 //! The call of this crate, for who checks a frame. It runs `reading`, `again` and `fields`, then
 //! `first_misfit_of` of fix_groups, and then `required`.
-ghost use Rattle.std.specs.Prelude.{◌≡◌, Some, IfOk};
+ghost use Rattle.std.specs.Prelude.{◌≡◌, ◌++◌, Some, false, IfOk};
 ghost use Rattle.fix_base.specs.Shape.{IsFrame};
 ghost use Rattle.fix_groups.specs.Tagged.{all_tagged};
 ghost use Rattle.fix_validate.specs.Rows.{Finds};
-ghost use Rattle.fix_validate.specs.Groups.{group_fault};
-ghost use Rattle.fix_validate.specs.Checks.{rows, rows_by, required_of_all, invalid_type, Checks};
+ghost use Rattle.fix_validate.specs.Groups.{group_fault, groups_rows};
+ghost use Rattle.fix_groups.specs.Touched.{touched};
+ghost use Rattle.fix_validate.specs.Checks.{rows, rows_by, whole, required_of_all, invalid_type, Checks};
 
 use crate::again::index_of;
 use crate::fields::fields_fault;
 use crate::reading::{collect, value_of};
-use crate::required::missing;
+use crate::required::{missing, missing_tag};
+use crate::seats::seats_of;
 use fix_base::tags::MSG_TYPE;
 use fix_base::{Fault, OutOfMemory};
-use fix_dict::Dictionary;
+use fix_dict::{Dictionary, NotedLayout};
 use fix_fields::Layout;
 use fix_groups::{Lent, Misfit, Whole, first_misfit_of};
 use std::alloc::Global;
@@ -48,7 +50,7 @@ fn fault_of(
     let Some(kind) = value_of(fields, MSG_TYPE) else {
         return Ok(Some(invalid_type()));
     };
-    let Some(message) = dict.layout(kind) else {
+    let Some(message) = dict.noted_layout(kind) else {
         return Ok(Some(invalid_type()));
     };
     fault_by(alloc, dict, message, fields, order)
@@ -67,21 +69,58 @@ fn invalid_type() -> Fault
 fn fault_by(
     alloc: Global,
     dict: &Dictionary,
-    message: &Layout,
+    message: &NotedLayout,
     fields: &[Lent<'_>],
     order: bool,
 ) -> Result<Option<Fault>, OutOfMemory>
     ensures { IfOk result (Finds (rows_by dict.now order fields.now (Some message.now))) }
 {
-    let root = Whole::new(dict.header(), message, dict.trailer());
+    let root = Whole::new(dict.header(), message.layout(), dict.trailer());
     let index = index_of(alloc, fields)?;
-    if let Some(fault) = fields_fault(dict, message, &root, order, fields, &index) {
-        return Ok(Some(fault));
+    let seats = seats_of(fields);
+    match fields_fault(dict, message, &root, order, fields, &seats, &index) {
+        Err(fault) => Ok(Some(fault)),
+        // Most messages have no group, and then nothing is asked of groups.
+        Ok(false) => Ok(missing_tag_of(dict, message, fields, &seats)),
+        Ok(true) => behind_fields(alloc, dict, message.layout(), &root, fields),
     }
-    if let Some(misfit) = first_misfit_of(alloc, fields, &root)? {
+}
+
+// The first fault of the groups, and then of the required tags.
+fn behind_fields(
+    alloc: Global,
+    dict: &Dictionary,
+    message: &Layout,
+    root: &Whole<'_>,
+    fields: &[Lent<'_>],
+) -> Result<Option<Fault>, OutOfMemory>
+    requires { root.now ≡ whole dict.now message.now }
+    ensures { IfOk result (Finds (groups_rows (whole dict.now message.now) (all_tagged fields.now)
+        ++ required_of_all dict.now message.now (all_tagged fields.now))) }
+{
+    if let Some(misfit) = first_misfit_of(alloc, fields, root)? {
         return Ok(Some(group_fault(misfit)));
     }
     Ok(missing_of(dict, message, fields))
+}
+
+// The first required tag that is missing, where no field has anything to do with a group.
+fn missing_tag_of(
+    dict: &Dictionary,
+    message: &NotedLayout,
+    fields: &[Lent<'_>],
+    seats: &[u8; 256],
+) -> Option<Fault>
+    requires { touched (whole dict.now message.now) (all_tagged fields.now) ≡ false }
+    ensures { Finds (required_of_all dict.now message.now (all_tagged fields.now)) result }
+{
+    if let Some(fault) = missing_tag(dict.noted_header().required(), fields, seats) {
+        return Some(fault);
+    }
+    if let Some(fault) = missing_tag(message.required(), fields, seats) {
+        return Some(fault);
+    }
+    missing_tag(dict.noted_trailer().required(), fields, seats)
 }
 
 fn group_fault(misfit: Misfit) -> Fault

@@ -8,6 +8,7 @@ mod fields;
 mod laws;
 mod reading;
 mod required;
+mod seats;
 #[cfg(test)]
 mod tests;
 

@@ -1,12 +1,14 @@
 //! Asks for the tags that a layout requires (373=1). `checking` calls this last: for header, message and
 //! trailer.
-ghost use Rattle.std.specs.Prelude.{◌≡◌, ◌+◌, ◌<◌, ◌≤◌, ◌∷◌, not, ◌&&◌, length, take, drop, slice_index_or};
+ghost use Rattle.std.specs.Prelude.{◌≡◌, ◌+◌, ◌<◌, ◌≤◌, ◌∷◌, not, true, ◌&&◌, length, take, drop, slice_index_or};
 ghost use Rattle.fix_base.specs.Fields.{Field};
 ghost use Rattle.fix_groups.specs.Tagged.{tagged, all_tagged};
 ghost use Rattle.fix_groups.specs.Runs.{run_of, lead};
 ghost use Rattle.fix_validate.specs.Rows.{Finds, fault_at};
 ghost use Rattle.fix_validate.specs.Required.{is_there, up_to, instances_of, instances_in, rows_of_each, required_rows};
+ghost use Rattle.fix_validate.specs.Required.{tag_rows};
 
+use crate::seats::last_byte;
 use fix_base::{Fault, Tag};
 use fix_fields::{Layout, Member};
 use fix_groups::{Lent, lead, run_length};
@@ -39,6 +41,39 @@ pub fn missing(layout: &Layout, fields: &[Lent<'_>]) -> Option<Fault>
         }
     }
     None
+}
+
+/// The first of the tags that no field has.
+pub fn missing_tag(tags: &[Tag], fields: &[Lent<'_>], seats: &[u8; 256]) -> Option<Fault>
+    ensures { Finds (tag_rows tags.now (all_tagged fields.now)) result }
+{
+    for tag in tags {
+        if !is_seated(fields, seats, *tag) {
+            return Some(required_fault(*tag));
+        }
+    }
+    None
+}
+
+// Whether a field has the tag: mostly the one whose place the seats tell, and else they are looked at one by one.
+fn is_seated(fields: &[Lent<'_>], seats: &[u8; 256], tag: Tag) -> bool
+    ensures { result ≡ is_there tag (all_tagged fields.now) }
+{
+    let seat = usize::from(seats[last_byte(tag)]);
+    if has_at(fields, seat, tag) {
+        return true;
+    }
+    is_there(fields, tag)
+}
+
+// Whether the field whose place is one less than this has the tag.
+fn has_at(fields: &[Lent<'_>], seat: usize, tag: Tag) -> bool
+    ensures { result ≡ true → is_there tag (all_tagged fields.now) ≡ true }
+{
+    if seat == 0 || seat > fields.len() {
+        return false;
+    }
+    fields[seat - 1].tag() == tag
 }
 
 // The same in each instance of a group among the fields.
