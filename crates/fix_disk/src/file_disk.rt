@@ -54,6 +54,13 @@ impl FileDisk {
             Err(refusal) => Some(*refusal),
         }
     }
+
+    /// How often it failed.
+    pub fn faults(&self) -> u64
+        ensures { result ≡ (file_disk_of self.now).faults }
+    {
+        self.faults
+    }
 }
 
 // Opens the file, or makes it, and holds it alone.

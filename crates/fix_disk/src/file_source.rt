@@ -24,6 +24,13 @@ impl<R: Files> FileSource<R> {
     {
         FileSource { rt, faults: 0 }
     }
+
+    /// How often a read failed.
+    pub fn faults(&self) -> u64
+        ensures { result ≡ (file_source_of self.now).faults }
+    {
+        self.faults
+    }
 }
 
 impl<R: Files> Source for FileSource<R> {

@@ -29,7 +29,7 @@ pub struct MemoryDisk {
 impl MemoryDisk {
     ghost use Rattle.std.specs.Prelude.{IfOk};
     ghost use Rattle.fix_disk.specs.State.{blank};
-    ghost use Rattle.fix_disk.specs.MemoryDisk.{disk_state, disk_script, script_of};
+    ghost use Rattle.fix_disk.specs.MemoryDisk.{disk_of, disk_state, disk_script, script_of};
 
     /// An empty disk for up to `capacity` bytes. Where `past` is above 0 it keeps its writes and
     /// syncs, up to `past` of them with `capacity` written bytes, and tells by them what a crash
@@ -60,6 +60,13 @@ impl MemoryDisk {
         ensures { result.now ≡ (disk_state self.now).bytes }
     {
         self.contents.bytes()
+    }
+
+    /// How often it failed.
+    pub fn faults(&self) -> u64
+        ensures { result ≡ (disk_of self.now).faults }
+    {
+        self.failing.faults
     }
 }
 

@@ -30,6 +30,13 @@ impl MemoryFiles {
             failing: Failing::new(fail),
         }
     }
+
+    /// How often a read failed.
+    pub fn faults(&self) -> u64
+        ensures { result ≡ (files_of self.now).faults }
+    {
+        self.failing.faults
+    }
 }
 
 impl Source for MemoryFiles {

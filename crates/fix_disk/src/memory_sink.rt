@@ -42,6 +42,13 @@ impl MemorySink {
     {
         self.out.as_slice()
     }
+
+    /// How often a write failed.
+    pub fn faults(&self) -> u64
+        ensures { result ≡ (sink_of self.now).faults }
+    {
+        self.failing.faults
+    }
 }
 
 impl Sink for MemorySink {

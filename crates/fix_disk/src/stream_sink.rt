@@ -24,6 +24,13 @@ impl<W: Write> StreamSink<W> {
     {
         StreamSink { output, faults: 0 }
     }
+
+    /// How often a write failed.
+    pub fn faults(&self) -> u64
+        ensures { result ≡ (stream_sink_of self.now).faults }
+    {
+        self.faults
+    }
 }
 
 impl<W: Write> Sink for StreamSink<W> {

@@ -76,7 +76,8 @@ impl<L: Link> Held<L> {
 }
 
 impl<L: Link> Link for Held<L> {
-    ghost use Rattle.std.specs.Prelude.{◌<◌, length};
+    ghost use Rattle.std.specs.Prelude.{◌<◌, length, min};
+    ghost use Rattle.fix_base.specs.Trace.{LAST_COUNT};
     ghost use Rattle.fix_parts.specs.Link.{LinkReads, LinkWrites};
     ghost use Rattle.fix_host.specs.Held.{ahead_of, inner_of, held_seen, HeldReads};
 
@@ -104,6 +105,12 @@ impl<L: Link> Link for Held<L> {
         ensures inner { LinkWrites result bytes.now (L.link (inner_of self.old)) (L.link (inner_of self.new)) }
     {
         self.link.write(bytes)
+    }
+
+    fn faults(&self) -> u64
+        ensures { result ≡ min (L.link (inner_of self.now)).faults LAST_COUNT }
+    {
+        self.link.faults()
     }
 }
 

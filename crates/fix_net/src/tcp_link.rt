@@ -75,6 +75,10 @@ impl<S: Read + Write + OpenStream> Link for TcpLink<S> {
             }
         }
     }
+
+    fn faults(&self) -> u64 {
+        self.faults
+    }
 }
 
 // Has the next read wait so many milliseconds, or not at all.

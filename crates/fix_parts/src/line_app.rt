@@ -42,6 +42,13 @@ impl<S: Sink> LineApp<S> {
     {
         &self.sink
     }
+
+    /// The sink, so that it can be let go where it came from.
+    pub fn into_sink(self) -> S
+        ensures { result ≡ self }
+    {
+        self.sink
+    }
 }
 
 impl<S: Sink> App for LineApp<S> {
@@ -72,7 +79,7 @@ impl<S: Sink> App for LineApp<S> {
 }
 
 // The line of the message, after what is there.
-fn push_line(line: &mut Vec<u8>, h: &Handed<'_>) -> Result<(), AllocError>
+pub(crate) fn push_line(line: &mut Vec<u8>, h: &Handed<'_>) -> Result<(), AllocError>
     ensures { OnOk result (line.new.items ≡ line.old.items ++ line_of h.now) }
 {
     let mut number = Buffer::new();

@@ -1,5 +1,6 @@
 //! How a session reads and writes. `fix_rim` calls it, and `fix_net` has one over TCP.
-ghost use Rattle.std.specs.Prelude.{◌<◌, length};
+ghost use Rattle.std.specs.Prelude.{◌≡◌, ◌<◌, length, min};
+ghost use Rattle.fix_base.specs.Trace.{LAST_COUNT};
 ghost use Rattle.fix_parts.specs.Link.{LinkSeen, LinkReads, LinkWrites};
 
 use fix_outside::{ReadTurn, WriteTurn};
@@ -18,4 +19,8 @@ pub trait Link {
     /// Writes the bytes.
     fn write(&mut self, bytes: &[u8]) -> WriteTurn
         ensures moves { LinkWrites result bytes.now (link self.old) (link self.new) };
+
+    /// How often it failed, up to 2^64 - 1.
+    fn faults(&self) -> u64
+        ensures { result ≡ min (link self.now).faults LAST_COUNT };
 }

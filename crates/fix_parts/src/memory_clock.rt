@@ -24,7 +24,7 @@ impl MemoryClock {
 }
 
 impl Clock for MemoryClock {
-    ghost use Rattle.std.specs.Prelude.{Some};
+    ghost use Rattle.std.specs.Prelude.{◌≡◌, Some};
     ghost use Rattle.fix_parts.specs.Memory.{readings_of};
 
     ghost readings = { λ c. Some (readings_of c) };
@@ -36,4 +36,10 @@ impl Clock for MemoryClock {
         }
         time
     }
+
+    // At once.
+    fn pause(&mut self, _micros: u64)
+        ensures pauses { Some (readings_of self.new) ≡ Some (readings_of self.old) }
+        ensures stays { self.new ≡ self.old }
+    {}
 }

@@ -137,4 +137,8 @@ impl Link for MemoryLink {
         put_bytes(&mut self.out, bytes);
         WriteTurn::Done
     }
+
+    fn faults(&self) -> u64 {
+        self.failing.faults
+    }
 }

@@ -68,4 +68,8 @@ impl<I: Read, O: Write> Link for StdioLink<I, O> {
             }
         }
     }
+
+    fn faults(&self) -> u64 {
+        self.faults
+    }
 }

@@ -4,7 +4,7 @@ ghost use Rattle.std.specs.Duration.{as_nanos};
 
 use crate::Clock;
 use std::time::Duration;
-use std::{io, rt};
+use std::{io, rt, thread};
 
 /// The system's clock: microseconds since 1970-01-01 00:00:00 UTC. Where it can't be read or
 /// stands before 1970, the last reading is given again, at first 0.
@@ -26,7 +26,7 @@ impl<R: rt::Clock> SystemClock<R> {
 }
 
 impl<R: rt::Clock> Clock for SystemClock<R> {
-    ghost use Rattle.std.specs.Prelude.{None};
+    ghost use Rattle.std.specs.Prelude.{◌≡◌, ℕ, List, Option, None};
     ghost use Rattle.fix_parts.specs.Adapters.{last_reading};
     ghost use Rattle.fix_base.specs.Parts.{ClockReads};
 
@@ -38,6 +38,14 @@ impl<R: rt::Clock> Clock for SystemClock<R> {
     {
         self.last = micros_or(self.rt.since_1970(), self.last);
         self.last
+    }
+
+    // The thread sleeps.
+    fn pause(&mut self, micros: u64)
+        ensures pauses { ◌≡◌ {A = Option (List ℕ)} None None }
+        ensures last { last_reading self.new ≡ last_reading self.old }
+    {
+        thread::sleep(&self.rt, Duration::from_micros(micros));
     }
 }
 

@@ -1,6 +1,6 @@
 //! Connections, applications, clocks and tapes: what they answer, when they fail, and what they keep.
 use super::*;
-use fix_base::{Act, By, Bytes, Entries, Entry, OutOfMemory, Record};
+use fix_base::{Act, Begin, By, Bytes, Entries, Entry, Identity, OutOfMemory, Record};
 use fix_disk::{MemorySink, Sink, StreamSink};
 use std::alloc::Global;
 use std::cell::Cell;
@@ -264,6 +264,39 @@ fn messages_are_shown_as_lines(rt: HostRuntime) -> Result<(), Fail> {
     Ok(())
 }
 
+// What an application whose lines begin with a name says to each message.
+fn shows_named(
+    alloc: Global,
+    app: &mut NamedApp<MemorySink>,
+    messages: &[Handed<'_>],
+) -> Result<Vec<Said>, Fail> {
+    let mut turns = Vec::new(alloc);
+    for message in messages {
+        turns.push(app.hand(message))?;
+    }
+    Ok(turns)
+}
+
+#[test]
+fn lines_begin_with_a_name(rt: HostRuntime) -> Result<(), Fail> {
+    let alloc = rt.alloc();
+    let identity = Identity {
+        begin: Begin::Fix42,
+        sender: Bytes::copy(alloc, b"SELL")?,
+        target: Bytes::copy(alloc, b"BUY")?,
+    };
+    let sink = MemorySink::new(alloc, 1000, Vec::from_slice(alloc, &[2])?)?;
+    let mut app = LineApp::named(alloc, sink, identity);
+    let order = message(2, false, b"35=D\x0111=A1\x01");
+    let turns = shows_named(alloc, &mut app, &[order, order])?;
+    assert_eq!(rt; turns.as_slice(), [Said::Taken, Said::Failed].as_slice());
+    let want = b"FIX.4.2:SELL->BUY 2 N 35=D|11=A1|\n".as_slice();
+    assert_eq!(rt; app.sink().written(), want);
+    let sink = app.into_sink();
+    assert_eq!(rt; (sink.written(), sink.faults()), (want, 1));
+    Ok(())
+}
+
 // A stream that moves two bytes a call. One call is interrupted, and one fails.
 #[derive(Drop)]
 struct Slow {
@@ -401,5 +434,27 @@ fn a_clock_gives_its_last_reading_where_there_is_none(rt: HostRuntime) -> Result
     assert_eq!(rt; readings.as_slice(), [0, 3_000_004, 3_000_004].as_slice());
     let readings = times(rt.alloc(), &mut SystemClock::new(&rt))?;
     assert!(rt; readings.as_slice() > [1_500_000_000_000_000].as_slice());
+    Ok(())
+}
+
+#[test]
+fn a_pause_takes_no_reading(rt: HostRuntime) -> Result<(), Fail> {
+    let mut clock = MemoryClock::new(Vec::from_slice(rt.alloc(), &[5, 6])?);
+    clock.pause(u64::MAX);
+    let readings = times(rt.alloc(), &mut clock)?;
+    assert_eq!(rt; readings.as_slice(), [5, 6, 6].as_slice());
+    let mut clock = SystemClock::new(&rt);
+    let before = clock.now();
+    clock.pause(2_000);
+    assert!(rt; clock.now() > before);
+    Ok(())
+}
+
+#[test]
+fn a_link_counts_its_faults(rt: HostRuntime) -> Result<(), Fail> {
+    let mut link = memory_link(rt.alloc(), 5, &[1])?;
+    assert_eq!(rt; link.faults(), 0);
+    reads(rt.alloc(), &mut link, 6)?;
+    assert_eq!(rt; link.faults(), 1);
     Ok(())
 }

@@ -1,15 +1,17 @@
 //! The connection of a session that may have none. `rim` reads and writes by this.
-ghost use Rattle.std.specs.Prelude.{◌≡◌, ◌<◌, length};
+ghost use Rattle.std.specs.Prelude.{◌≡◌, ◌<◌, ◌+◌, length, min};
+ghost use Rattle.fix_base.specs.Trace.{LAST_COUNT, Rises};
 ghost use Rattle.fix_parts.specs.Link.{LinkReads, LinkWrites};
-ghost use Rattle.fix_rim.specs.OptionalLink.{plug_of};
+ghost use Rattle.fix_rim.specs.OptionalLink.{link_seen, plug_of};
 
 use fix_parts::{Link, ReadTurn, WriteTurn};
+use std::mem;
 
 /// A connection, or none. Without one a read ends, and a write fails.
 #[derive(Drop)]
 pub(crate) struct OptionalLink<L> {
     pub(crate) link: Option<L>,
-    // How many writes there were without a connection.
+    // How many writes there were without a connection, with the faults of former connections.
     unlinked: u64,
 }
 
@@ -19,6 +21,28 @@ impl<L: Link> OptionalLink<L> {
         ensures none { result.unlinked ≡ 0 }
     {
         OptionalLink { link, unlinked: 0 }
+    }
+
+    /// Takes another connection, or none, and gives the former one, whose faults stay counted.
+    pub(crate) fn relink(&mut self, link: Option<L>) -> Option<L>
+        ensures former { result ≡ self.old.link }
+        ensures link { self.new.link ≡ link }
+        ensures counted { self.new.unlinked
+            ≡ min (self.old.unlinked + min (link_seen L.link self.old.link).faults LAST_COUNT) LAST_COUNT }
+        ensures faults { Rises 0 (plug_of L.link self.old).faults (plug_of L.link self.new).faults }
+    {
+        self.unlinked = self.unlinked.saturating_add(self.present());
+        mem::replace(&mut self.link, link)
+    }
+
+    // How often the present connection failed.
+    fn present(&self) -> u64
+        ensures { result ≡ min (link_seen L.link self.now.link).faults LAST_COUNT }
+    {
+        match &self.link {
+            Some(link) => link.faults(),
+            None => 0,
+        }
     }
 }
 
@@ -45,5 +69,11 @@ impl<L: Link> Link for OptionalLink<L> {
                 WriteTurn::Failed(0)
             }
         }
+    }
+
+    fn faults(&self) -> u64
+        ensures { result ≡ min (plug_of L.link self.now).faults LAST_COUNT }
+    {
+        self.present().saturating_add(self.unlinked)
     }
 }

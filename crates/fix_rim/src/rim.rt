@@ -22,8 +22,11 @@ pub struct Rim<D: Disk, L, A, C, T> {
 }
 
 impl<D: Disk, L: Link, A: App, C: Clock, T: Tape> Rim<D, L, A, C, T> {
-    ghost use Rattle.std.specs.Prelude.{◌≡◌, Some, None, option_map};
+    ghost use Rattle.std.specs.Prelude.{◌≡◌, ◌+◌, Some, None, min, option_map};
+    ghost use Rattle.fix_base.specs.Trace.{LAST_COUNT, Rises};
+    ghost use Rattle.fix_rim.specs.OptionalLink.{link_seen, with_faults};
     ghost use Rattle.fix_rim.specs.Rim.{disk_in, open_at_of, link_in, unlinked_in, app_in, clock_in, tape_in};
+    ghost use Rattle.fix_rim.specs.Rim.{with_link_of};
 
     /// An outside over these parts. Its store isn't open. Without a connection a read ends, and a
     /// write fails.
@@ -57,6 +60,21 @@ impl<D: Disk, L: Link, A: App, C: Clock, T: Tape> Rim<D, L, A, C, T> {
         ensures { option_map (λ l. l.now) result ≡ link_in self.now }
     {
         self.optional_link.link.as_ref()
+    }
+
+    /// Takes another connection, or none, and gives the former one. The count of the connection's faults doesn't
+    /// fall: those of former connections and the writes without one stay in it.
+    pub fn relink(&mut self, link: Option<L>) -> Option<L>
+        ensures former { result ≡ link_in self.old }
+        ensures link { link_in self.new ≡ link }
+        ensures counted { unlinked_in self.new
+            ≡ min (unlinked_in self.old + min (link_seen L.link (link_in self.old)).faults LAST_COUNT) LAST_COUNT }
+        ensures faults { Rises 0 (with_faults (unlinked_in self.old) (link_seen L.link (link_in self.old))).faults
+            (with_faults (unlinked_in self.new) (link_seen L.link (link_in self.new))).faults }
+        ensures others { self.new ≡ with_link_of self.old self.new }
+        ensures tape { tape_in self.new ≡ tape_in self.old }
+    {
+        self.optional_link.relink(link)
     }
 
     /// The parts, without what the store holds in memory.
