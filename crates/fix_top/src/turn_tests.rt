@@ -10,9 +10,10 @@ use crate::words::{identity_from, read_words};
 use fix_base::{Act, By, Bytes, Entry, OutOfMemory, Record, SeqNum, Status, Stored, Tag};
 use fix_disk::MemoryDisk;
 use fix_engine::{
-    Again, FetchFault, KeepFault, Kind, LoadFault, Outside, Phase, RunEnd, SendFault, Session, StopCause,
+    FetchFault, KeepFault, Kind, LoadFault, Outside, Phase, RunEnd, SendFault, Session, StopCause,
 };
 use fix_fields::{Draft, DraftFields};
+use fix_outside::Again;
 use fix_parts::{Handed, KeptTape, MemoryApp, MemoryClock, MemoryLink, ReadTurn, Said, WriteTurn};
 use fix_rim::Rim;
 use std::alloc::Global;
