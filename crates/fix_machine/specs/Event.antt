@@ -80,6 +80,17 @@ pub data IsEvent : Event → EventSeen → Type 0 where
   ends : IsEvent event.Ended Ended
   wrote : (now : ℕ) → IsEvent (event.Wrote now) (Wrote now)
 
+-- a message was read
+abbrev pub IsFrameEvent : Event → Type 0
+IsFrameEvent (event.Begin role now) = ⊥
+IsFrameEvent event.First = ⊥
+IsFrameEvent (event.Frame head v full gap reset) = Unit {0}
+IsFrameEvent (event.Moved waiting) = ⊥
+IsFrameEvent (event.Clock now inside) = ⊥
+IsFrameEvent (event.Leave now) = ⊥
+IsFrameEvent event.Ended = ⊥
+IsFrameEvent (event.Wrote now) = ⊥
+
 -- one thing to do
 pub data StepSeen : Type 0 where
   Send : (say : SaySeen) → StepSeen

@@ -2,7 +2,7 @@
 //! outside the crate: it calls `await_logon` or `logged_on` for a message, and `clock` for a reading.
 ghost use Rattle.std.specs.Prelude.{◌≡◌, ◌≤◌, Some, option_map};
 ghost use Rattle.fix_base.specs.Payload.{LAST_TIME};
-ghost use Rattle.fix_machine.specs.Event.{EventSeen, Frame, IsEvent, IsSaid};
+ghost use Rattle.fix_machine.specs.Event.{EventSeen, Frame, IsEvent, IsFrameEvent, IsSaid};
 ghost use Rattle.fix_machine.specs.Event.{Inbound as InboundSeen};
 ghost use Rattle.fix_machine.specs.Read.{inbound_seen};
 ghost use Rattle.fix_machine.specs.State.{MachineSeen, IsTimed, stopped_at, resumed_at};
@@ -95,6 +95,8 @@ impl Machine {
             ≡ (table.answer_to self.old.options self.old.state e).steps }
         ensures next { (e : EventSeen) → IsEvent event.now e → self.new
             ≡ record { options = self.old.options; state = (table.answer_to self.old.options self.old.state e).next } }
+        // Each event is one of these.
+        ensures is { (e : EventSeen) × IsEvent event.now e }
     {
         let answer = answer_to(&self.options, self.state, event);
         self.state = answer.next;
@@ -129,6 +131,7 @@ fn answer_to(options: &Options, state: MachineState, event: &Event<'_>) -> Answe
     ensures answers { (e : EventSeen) → IsEvent event.now e → answered_by (texts_in e) result
         ≡ table.answer_to options.now state e }
     ensures timed { IsTimed result.next }
+    ensures is { (e : EventSeen) × IsEvent event.now e }
 {
     match *event {
         Event::Begin { role, now } => silent(begun_as(options, role, read_clock(now, state))),
@@ -148,6 +151,7 @@ fn framed<'a>(options: &Options, state: MachineState, event: &'a Event<'a>) -> A
     ensures answers { (i : InboundSeen) → IsEvent event.now (Frame i) → answered_by (texts_of i) result
         ≡ table.message state.phase options.now state i }
     ensures timed { IsTimed result.next }
+    ensures is { IsFrameEvent event.now → (e : EventSeen) × IsEvent event.now e }
 {
     let Event::Frame {
         head,

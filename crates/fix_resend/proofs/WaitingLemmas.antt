@@ -43,7 +43,7 @@ remove_is old new k at =
 -- ---- one key
 
 -- the test of keys is that they're the same
-tied : (q k : ℕ) → eq_by_cmp nat_cmp q k ≡ true → q ≡ k
+pub tied : (q k : ℕ) → eq_by_cmp nat_cmp q k ≡ true → q ≡ k
 tied q k e = nat_cmp-IsAntisymmetric q k (is_equal (nat_cmp q k) e)
   where
     is_equal : (r : Ordering) → is_eq r ≡ true → r ≡ Equal
@@ -231,7 +231,7 @@ stands_none m w n view none = subst (StandsFrom n) view (λ k some. absurd (noth
 
 -- ---- one after another
 
-some_of : (o : Option (List ℕ)) → IsSome o → (v : List ℕ) × (o ≡ Some v)
+pub some_of : (o : Option (List ℕ)) → IsSome o → (v : List ℕ) × (o ≡ Some v)
 some_of None some = absurd cc
 some_of (Some v) some = (v, refl)
 

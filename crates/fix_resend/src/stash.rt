@@ -99,6 +99,7 @@ impl Stash {
     /// number of frames for each.
     pub fn drop_below(&mut self, n: u32)
         ensures rest { self.new ≡ from_number n self.old }
+        ensures fewer { map.len self.new ≤ map.len self.old }
         ensures bounded { IsBounded self.new }
     {
         while self.drop_first_below(n) {}
@@ -112,7 +113,8 @@ impl Stash {
         self.frames.len() >= MOST_FRAMES || length > MOST_BYTES - self.bytes
     }
 
-    fn waits(&self, n: SeqNum) -> bool
+    /// Whether a frame waits under the number.
+    pub fn waits(&self, n: SeqNum) -> bool
         ensures waits { result ≡ map.contains_key self.now n }
         ensures bounded { IsBounded self.now }
     {

@@ -1,0 +1,11 @@
+pub mod Begun
+pub mod InboundLemmas
+pub mod SoundLemmas
+pub mod TakenLemmas
+pub mod CatchLemmas
+pub mod WaitsLemmas
+pub mod BesideLemmas
+pub mod EventLemmas
+pub mod AnswerLemmas
+pub mod KeepsLemmas
+pub mod LeftLemmas

@@ -5,7 +5,7 @@ ghost use Rattle.fix_base.specs.Fields.{Field};
 ghost use Rattle.fix_base.specs.Shape.{IsFrame};
 ghost use Rattle.fix_base.specs.Says.{HasFields, value_of, is_yes};
 ghost use Rattle.fix_machine.specs.Event.{verdict_seen};
-ghost use Rattle.fix_session.specs.Judged.{Judged, RuledOut};
+ghost use Rattle.fix_session.specs.Judged.{rules_seen, Judged, RuledOut};
 
 use crate::Rules;
 use fix_admin::read_admin;
@@ -26,7 +26,7 @@ pub fn judge<'a>(
 ) -> Result<Verdict<'a>, OutOfMemory>
     requires frame { IsFrame frame.now }
     requires kind { (fs : List Field) → HasFields frame.now fs → value_of 35 fs ≡ Some kind.now }
-    ensures { IfOk result (λ verdict. Judged rules.now frame.now kind.now (verdict_seen verdict)) }
+    ensures { IfOk result (λ verdict. Judged (rules_seen rules.now) frame.now kind.now (verdict_seen verdict)) }
 {
     if !is_admin_type(kind) {
         return match ruled_out(alloc, rules, frame)? {
@@ -46,7 +46,7 @@ pub fn judge<'a>(
 // The first fault by the dictionary, where the rules have one.
 fn ruled_out(alloc: Global, rules: &Rules<'_>, frame: &[u8]) -> Result<Option<Fault>, OutOfMemory>
     requires frame { IsFrame frame.now }
-    ensures { IfOk result (RuledOut rules.now frame.now) }
+    ensures { IfOk result (RuledOut (rules_seen rules.now) frame.now) }
 {
     match rules.dict {
         None => Ok(None),

@@ -2,10 +2,19 @@
 //! built here, part by part.
 #![tactic(auto)]
 
+mod answering;
 mod judging;
+mod offering;
 mod rules;
+mod state;
 #[cfg(test)]
 mod tests;
+mod turn;
+mod waiting;
+mod work;
 
 pub use judging::{asks_for_a_reset, is_gap_fill, judge};
 pub use rules::Rules;
+pub use state::State;
+pub use turn::{ROOM, run};
+pub use work::Work;

@@ -11,7 +11,7 @@ mod source;
 mod tests;
 
 pub use carrying::carry_out;
-pub use ending::Ending;
+pub use ending::{Ending, ending_of};
 pub use laws::{
     an_answer_is_lawful, an_answer_sends_and_hands_over, what_is_decided_is_lawful,
     what_is_decided_is_possible, what_is_decided_may_be_done,

@@ -1,4 +1,5 @@
 use Rattle.std.proofs.Common.{◌≡◌, ◌∙◌, ap}
+use Rattle.fix_machine.specs.Event.{begins, is_first, moves, looks, leaves, ends, wrote}
 use Rattle.fix_machine.specs.State.{MachineState, begun_as, read_clock, sent, closed}
 use Rattle.fix_machine.specs.Answer.{silent, answered_by}
 use Rattle.fix_machine.specs.Decide as table
@@ -13,12 +14,14 @@ returns-in-Begin c =
     record {
       answers = λ e is. rw (begin_is c.in-Begin.role c.in-Begin.now e (rw c.in-Begin.is at is)) (c.silent.ensures no_texts ∙ ap silent k);
       timed = next_timed no_texts c.silent.result _ (c.silent.ensures no_texts ∙ ap silent k) (begun_timed c.args.options.now c.in-Begin.role (read_clock c.in-Begin.now c.args.state) (clock_timed c.in-Begin.now c.args.state c.requires));
+      is = rw c.in-Begin.is (_, begins c.in-Begin.role c.in-Begin.now);
     }
 
 pub returns-in-First : goal.returns-in-First
 returns-in-First c = record {
   answers = λ e is. rw (first_is e (rw c.in-First.is at is)) (c.first_logon.ensures no_texts);
   timed = next_timed no_texts c.first_logon.result _ (c.first_logon.ensures no_texts) (sent_timed c.args.state c.requires);
+  is = rw c.in-First.is (_, is_first);
 }
 
 pub returns-in-Frame : goal.returns-in-Frame
@@ -27,12 +30,14 @@ returns-in-Frame c = record {
       let f = frame_of c.in-Frame.head c.in-Frame.verdict c.in-Frame.full c.in-Frame.gap c.in-Frame.reset e (rw c.in-Frame.is at is) in
       rw f.is (c.framed.ensures.answers f.message (rw c.in-Frame.is f.says) ∙ ap (λ (s : MachineState). table.message s.phase c.args.options.now s f.message) c.heard.ensures);
   timed = c.framed.ensures.timed;
+  is = c.framed.ensures.is (rw c.in-Frame.is tt);
 }
 
 pub returns-in-Moved : goal.returns-in-Moved
 returns-in-Moved c = record {
   answers = λ e is. rw (moved_is c.in-Moved.waiting e (rw c.in-Moved.is at is)) (c.moved.ensures no_texts);
   timed = next_timed no_texts c.moved.result _ (c.moved.ensures no_texts) (moved_timed c.args.state.resend_requested c.args.options.now c.args.state c.requires).timed;
+  is = rw c.in-Moved.is (_, moves c.in-Moved.waiting);
 }
 
 pub returns-in-Clock : goal.returns-in-Clock
@@ -41,6 +46,7 @@ returns-in-Clock c =
     record {
       answers = λ e is. rw (clock_is c.in-Clock.now c.in-Clock.inside e (rw c.in-Clock.is at is)) k;
       timed = next_timed no_texts c.clock.result _ k (looked_timed c.args.options.now (read_clock c.in-Clock.now c.args.state) c.in-Clock.inside (clock_timed c.in-Clock.now c.args.state c.requires)).timed;
+      is = rw c.in-Clock.is (_, looks c.in-Clock.now c.in-Clock.inside);
     }
 
 pub returns-in-Leave : goal.returns-in-Leave
@@ -49,6 +55,7 @@ returns-in-Leave c =
     record {
       answers = λ e is. rw (leave_is c.in-Leave.now e (rw c.in-Leave.is at is)) k;
       timed = next_timed no_texts c.left.result _ k (left_timed c.args.state.phase (read_clock c.in-Leave.now c.args.state) (clock_timed c.in-Leave.now c.args.state c.requires)).timed;
+      is = rw c.in-Leave.is (_, leaves c.in-Leave.now);
     }
 
 pub returns-in-Ended : goal.returns-in-Ended
@@ -57,6 +64,7 @@ returns-in-Ended c =
     record {
       answers = λ e is. rw (ended_is e (rw c.in-Ended.is at is)) k;
       timed = next_timed no_texts c.silent-in-Ended.result _ k c.requires;
+      is = rw c.in-Ended.is (_, ends);
     }
 
 pub returns-in-Wrote : goal.returns-in-Wrote
@@ -65,4 +73,5 @@ returns-in-Wrote c =
     record {
       answers = λ e is. rw (wrote_is c.in-Wrote.now e (rw c.in-Wrote.is at is)) k;
       timed = next_timed no_texts c.silent-in-Wrote.result _ k (sent_timed (read_clock c.in-Wrote.now c.args.state) (clock_timed c.in-Wrote.now c.args.state c.requires));
+      is = rw c.in-Wrote.is (_, wrote c.in-Wrote.now);
     }

@@ -1,5 +1,5 @@
 use Rattle.std.proofs.Common.{◌≡◌, subst}
-use Rattle.fix_machine.specs.Event.{Inbound}
+use Rattle.fix_machine.specs.Event.{Inbound, reads}
 use Rattle.fix_machine.specs.Answer.{answered_by, texts_of}
 use Rattle.fix_machine.specs.Decide.{message}
 use Rattle.fix_machine.proofs.EventLemmas.{frame_is}
@@ -16,3 +16,6 @@ returns-clause-answers c = λ i is.
 
 pub returns-clause-timed : goal.returns-clause-timed
 returns-clause-timed c = next_timed _ c.message.result _ c.message.ensures (message_timed c.args.state.phase c.args.options.now c.args.state _ c.requires).timed
+
+pub returns-clause-is : goal.returns-clause-is
+returns-clause-is c = λ f. rw c.in-Frame.is (_, reads c.in-Frame.head c.in-Frame.verdict c.in-Frame.full c.in-Frame.gap c.in-Frame.reset c.time_of.result c.time_of-2.result c.time_of.ensures c.time_of-2.ensures)
