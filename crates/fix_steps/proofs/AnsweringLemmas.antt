@@ -1,4 +1,4 @@
--- An answer sends, hands the message over, and does nothing else.
+-- An answer sends, hands the message over, keeps what is kept of resets, and does nothing else.
 use Rattle.std.proofs.Common.{◌≢◌, ℕ, List, [], ◌∷◌, Option, Result, Ok, Err, arith}
 use Rattle.std.specs.Prelude.{⊤}
 use Rattle.std.specs.List.{AllByRecursion}
@@ -21,6 +21,8 @@ use Rattle.fix_stage.specs.Stated.{IsTimely}
 use Rattle.fix_stage.proofs.SendsLemmas.{all-append, Flushed-sends, MakesAndStages-sends}
 use Rattle.fix_steps.specs.Said.{said_outgoing, IsSayable}
 use Rattle.fix_steps.specs.declared.ending.Ending.{Ending}
+use Rattle.fix_steps.specs.Resetting as resetting
+use Rattle.fix_steps.specs.Resetting.{Resetting, Confirming}
 use Rattle.fix_steps.specs.Steps as steps
 use Rattle.fix_steps.specs.Steps.{IsCarried, InAnswer, Handing, Performed, Begins, Done, Carried}
 use Rattle.fix_steps.specs.Answering as answers
@@ -59,6 +61,16 @@ module _ (frame : Option (List ℕ)) where
   handing_only b calls r to all (steps.hand_memory text fields is has) = record { each = (answers.hands text fields _ is has, tt); staged = all }
   handing_only b calls r to all steps.body_memory = record { each = tt; staged = all }
 
+  resetting_only : (b : Sender) (calls : List Call) (r : Result ⊤ Ending) (to : Sender) → AllByRecursion Q b.stage.entries → Resetting b calls r to → AnswersOnly Q frame calls to
+  resetting_only b calls r to all resetting.reset_kept = record { each = (answers.resets _ _, tt); staged = all }
+  resetting_only b calls r to all resetting.reset_lost = record { each = (answers.resets _ _, tt); staged = all }
+  resetting_only b calls r to all resetting.reset_memory = record { each = (answers.resets _ _, tt); staged = all }
+
+  confirming_only : (b : Sender) (calls : List Call) (r : Result ⊤ Ending) (to : Sender) → AllByRecursion Q b.stage.entries → Confirming b calls r to → AnswersOnly Q frame calls to
+  confirming_only b calls r to all resetting.confirm_kept = record { each = (answers.confirms _, tt); staged = all }
+  confirming_only b calls r to all resetting.confirm_lost = record { each = (answers.confirms _, tt); staged = all }
+  confirming_only b calls r to all resetting.confirm_memory = record { each = (answers.confirms _, tt); staged = all }
+
   module _ (id : Identity) where
     step_only : (x : StepSeen) → IsCarried frame x → (b : Sender) (calls : List Call) (r : Result ⊤ Ending) (to : Sender) → IsTimely b → AllByRecursion Q b.stage.entries → Performed id frame b x calls r to → AnswersOnly Q frame calls to
     step_only x fit b calls r to ok all (steps.says s d) =
@@ -66,7 +78,10 @@ module _ (frame : Option (List ℕ)) where
         let q : Q m.entry = record { payload = (said_is_outgoing id.begin b.numbers.reading s ok.reading fit).payload; kept = no_once s fit } in
         in_answer (MakesAndStages id m) b (λ calls r to d. MakesAndStages-sends Q id m q b calls r to all d) calls r to d
     step_only x fit b calls r to ok all (steps.hands d) = handing_only b calls r to all d
+    step_only x fit b calls r to ok all steps.waits = record { each = tt; staged = all }
     step_only x fit b calls r to ok all (steps.expects number) = record { each = tt; staged = all }
+    step_only x fit b calls r to ok all (steps.resets d) = resetting_only b calls r to all d
+    step_only x fit b calls r to ok all (steps.confirms d) = confirming_only b calls r to all d
     step_only x fit b calls r to ok all (steps.closes why) = record { each = tt; staged = all }
     step_only x fit b calls r to ok all steps.nothing = record { each = tt; staged = all }
 

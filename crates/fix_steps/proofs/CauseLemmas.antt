@@ -20,6 +20,8 @@ use Rattle.fix_steps.specs.Said.{said_outgoing}
 use Rattle.fix_steps.specs.declared.ending.Ending.{Ending}
 use Rattle.fix_steps.specs.Ending.{ending_of}
 use Rattle.fix_steps.specs.Causes.{blame_of, HasCause}
+use Rattle.fix_steps.specs.Resetting as resetting
+use Rattle.fix_steps.specs.Resetting.{Resetting, Confirming}
 use Rattle.fix_steps.specs.Steps as steps
 use Rattle.fix_steps.specs.Steps.{InAnswer, Saying, Handing, Performed, Begins, Done, Carried}
 
@@ -39,6 +41,16 @@ Handing-blames frame b calls r to (steps.hand_lost text fields is has) = omega a
 Handing-blames frame b calls r to (steps.hand_memory text fields is has) = tt
 Handing-blames frame b calls r to steps.body_memory = tt
 
+Resetting-blames : Blaming blame_of Resetting
+Resetting-blames b calls r to resetting.reset_kept = tt
+Resetting-blames b calls r to resetting.reset_lost = omega arith
+Resetting-blames b calls r to resetting.reset_memory = tt
+
+Confirming-blames : Blaming blame_of Confirming
+Confirming-blames b calls r to resetting.confirm_kept = tt
+Confirming-blames b calls r to resetting.confirm_lost = omega arith
+Confirming-blames b calls r to resetting.confirm_memory = tt
+
 Saying-blames : (id : Identity) (say : SaySeen) → Blaming blame_of (Saying id say)
 Saying-blames id say b calls r to d =
     let m = said_outgoing id.begin b.numbers.reading say in
@@ -47,7 +59,10 @@ Saying-blames id say b calls r to d =
 Performed-blames : (id : Identity) (frame : Option (List ℕ)) (x : StepSeen) → Blaming blame_of (λ b. Performed id frame b x)
 Performed-blames id frame x b calls r to (steps.says say d) = Saying-blames id say b calls r to d
 Performed-blames id frame x b calls r to (steps.hands d) = Handing-blames frame b calls r to d
+Performed-blames id frame x b calls r to steps.waits = tt
 Performed-blames id frame x b calls r to (steps.expects number) = tt
+Performed-blames id frame x b calls r to (steps.resets d) = Resetting-blames b calls r to d
+Performed-blames id frame x b calls r to (steps.confirms d) = Confirming-blames b calls r to d
 Performed-blames id frame x b calls r to (steps.closes why) = tt
 Performed-blames id frame x b calls r to steps.nothing = tt
 

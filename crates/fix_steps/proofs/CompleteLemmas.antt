@@ -3,8 +3,10 @@ use Rattle.std.proofs.Common.{◌≡◌, List, [], ◌∷◌, Option, Some, None
 use Rattle.std.specs.Prelude.{⊤}
 use Rattle.std.specs.List.{AllByRecursion}
 use Rattle.fix_base.specs.declared.identity.Identity.{Identity}
+use Rattle.fix_base.specs.declared.entry.Record.TheVariants.{Reset, Confirm}
 use Rattle.fix_outside.specs.declared.handing.Said.TheVariants as said
-use Rattle.fix_outside.specs.Calls.{Call}
+use Rattle.fix_outside.specs.declared.outside.KeepFault.TheVariants as keep
+use Rattle.fix_outside.specs.Calls.{Call, Keep}
 use Rattle.fix_admin.specs.Say.{SaySeen}
 use Rattle.fix_machine.specs.Event.{StepSeen}
 use Rattle.fix_machine.specs.Event as event
@@ -15,13 +17,15 @@ use Rattle.fix_stage.specs.declared.fault.StageFault.TheVariants as fault
 use Rattle.fix_stage.specs.Flush.{Flushed}
 use Rattle.fix_stage.specs.Outgoing.{Outgoing}
 use Rattle.fix_stage.specs.Staging.{MakesAndStages}
-use Rattle.fix_stage.specs.Stated.{Onward, handing, Total, Resumes, Stays, IsTimely}
+use Rattle.fix_stage.specs.Stated.{Onward, handing, keeping, Total, Resumes, Stays, IsTimely}
 use Rattle.fix_stage.proofs.CombineLemmas.{went_well, onward_as, short_alone, short_at, would_as, each_total, each_resumes, then_total, then_resumes, lifted_total, lifted_resumes, lifted_stays}
 use Rattle.fix_stage.proofs.SendingLemmas.{flushed_total, flushed_resumes, Flushed-stays, makes_total, makes_resumes, MakesAndStages-stays}
 use Rattle.fix_steps.specs.Said.{said_outgoing, IsSayable}
 use Rattle.fix_steps.specs.declared.ending.Ending.{Ending}
 use Rattle.fix_steps.specs.Ending.{ending_of}
 use Rattle.fix_steps.specs.declared.ending.Ending.TheVariants as ending
+use Rattle.fix_steps.specs.Resetting as resetting
+use Rattle.fix_steps.specs.Resetting.{Resetting, Confirming}
 use Rattle.fix_steps.specs.Steps as steps
 use Rattle.fix_steps.specs.Steps.{itself, instead, IsCarried, InAnswer, Saying, Handing, Performed, Begins, Done, Carried}
 use Rattle.fix_steps.specs.Stated.{IsRead}
@@ -92,12 +96,57 @@ handing_stays frame b calls r to ok (steps.hand_lost text fields is has) = ok
 handing_stays frame b calls r to ok (steps.hand_memory text fields is has) = ok
 handing_stays frame b calls r to ok steps.body_memory = ok
 
+-- ---- what is kept of resets
+
+resetting_total : Total OM IsTimely Resetting
+resetting_total b ok = record {
+  more = Keep (Reset b.numbers.reading) (Ok tt) ∷ [];
+  faultless = tt;
+  r = Ok tt;
+  to = _;
+  good = record { reading = ok.reading; draft = ok.draft };
+  whole = resetting.reset_kept;
+  no_want = λ h. cc;
+}
+
+resetting_resumes : Resumes OM IsTimely Resetting
+resetting_resumes b calls to ok resetting.reset_memory =
+    λ hold. hold (short_at OM IsTimely Resetting b (Keep (Reset b.numbers.reading) (Err keep.OutOfMemory)) (keeping _) (resetting_total b ok))
+
+resetting_stays : Stays IsTimely Resetting
+resetting_stays b calls r to ok resetting.reset_kept = record { reading = ok.reading; draft = ok.draft }
+resetting_stays b calls r to ok resetting.reset_lost = ok
+resetting_stays b calls r to ok resetting.reset_memory = ok
+
+confirming_total : Total OM IsTimely Confirming
+confirming_total b ok = record {
+  more = Keep Confirm (Ok tt) ∷ [];
+  faultless = tt;
+  r = Ok tt;
+  to = b;
+  good = ok;
+  whole = resetting.confirm_kept;
+  no_want = λ h. cc;
+}
+
+confirming_resumes : Resumes OM IsTimely Confirming
+confirming_resumes b calls to ok resetting.confirm_memory =
+    λ hold. hold (short_at OM IsTimely Confirming b (Keep Confirm (Err keep.OutOfMemory)) (keeping _) (confirming_total b ok))
+
+confirming_stays : Stays IsTimely Confirming
+confirming_stays b calls r to ok resetting.confirm_kept = ok
+confirming_stays b calls r to ok resetting.confirm_lost = ok
+confirming_stays b calls r to ok resetting.confirm_memory = ok
+
 -- ---- a step
 
 pub step_stays : (id : Identity) (frame : Option (List ℕ)) (x : StepSeen) → Stays IsTimely (λ b. Performed id frame b x)
 step_stays id frame x b calls r to ok (steps.says say d) = saying_stays id say b calls r to ok d
 step_stays id frame x b calls r to ok (steps.hands d) = handing_stays frame b calls r to ok d
+step_stays id frame x b calls r to ok steps.waits = ok
 step_stays id frame x b calls r to ok (steps.expects number) = record { reading = ok.reading; draft = ok.draft }
+step_stays id frame x b calls r to ok (steps.resets d) = resetting_stays b calls r to ok d
+step_stays id frame x b calls r to ok (steps.confirms d) = confirming_stays b calls r to ok d
 step_stays id frame x b calls r to ok (steps.closes why) = ok
 step_stays id frame x b calls r to ok steps.nothing = ok
 
@@ -109,7 +158,7 @@ module _ (id : Identity) (frame : Option (List ℕ)) (read : IsRead frame) where
   step_total (event.Send say) fit b ok = onward_as OM IsTimely (Saying id say) (One (event.Send say)) b b [] (λ more r to d. steps.says say d) (saying_total id say fit b ok)
   step_total (event.Serve from to) fit b ok = absurd fit
   step_total event.Hand fit b ok = onward_as OM IsTimely (Handing frame) (One event.Hand) b b [] (λ more r to d. steps.hands d) (handing_total frame read fit b ok)
-  step_total event.Stash fit b ok = absurd fit
+  step_total event.Stash fit b ok = went_well OM IsTimely (One event.Stash) b b ok steps.waits
   step_total (event.Expect number) fit b ok = record {
     more = [];
     faultless = tt;
@@ -119,8 +168,8 @@ module _ (id : Identity) (frame : Option (List ℕ)) (read : IsRead frame) where
     whole = steps.expects number;
     no_want = λ h. cc;
   }
-  step_total event.Reset fit b ok = absurd fit
-  step_total event.Confirm fit b ok = absurd fit
+  step_total event.Reset fit b ok = onward_as OM IsTimely Resetting (One event.Reset) b b [] (λ more r to d. steps.resets d) (resetting_total b ok)
+  step_total event.Confirm fit b ok = onward_as OM IsTimely Confirming (One event.Confirm) b b [] (λ more r to d. steps.confirms d) (confirming_total b ok)
   step_total (event.Close why) fit b ok = record {
     more = [];
     faultless = tt;
@@ -137,6 +186,10 @@ module _ (id : Identity) (frame : Option (List ℕ)) (read : IsRead frame) where
       λ hold. saying_resumes id say fit b calls to ok d (λ w. hold (would_as OM IsTimely (Saying id say) (One (event.Send say)) b b calls (λ calls g. onward_as OM IsTimely (Saying id say) (One (event.Send say)) b b calls (λ more r to d. steps.says say d) g) w))
   step_resumes x fit b calls to ok (steps.hands d) =
       λ hold. handing_resumes frame read fit b calls to ok d (λ w. hold (would_as OM IsTimely (Handing frame) (One event.Hand) b b calls (λ calls g. onward_as OM IsTimely (Handing frame) (One event.Hand) b b calls (λ more r to d. steps.hands d) g) w))
+  step_resumes x fit b calls to ok (steps.resets d) =
+      λ hold. resetting_resumes b calls to ok d (λ w. hold (would_as OM IsTimely Resetting (One event.Reset) b b calls (λ calls g. onward_as OM IsTimely Resetting (One event.Reset) b b calls (λ more r to d. steps.resets d) g) w))
+  step_resumes x fit b calls to ok (steps.confirms d) =
+      λ hold. confirming_resumes b calls to ok d (λ w. hold (would_as OM IsTimely Confirming (One event.Confirm) b b calls (λ calls g. onward_as OM IsTimely Confirming (One event.Confirm) b b calls (λ more r to d. steps.confirms d) g) w))
 
 -- ---- what an answer begins with
 

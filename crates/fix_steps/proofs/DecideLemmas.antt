@@ -31,9 +31,9 @@ use Rattle.fix_steps.specs.declared.ending.Ending.{Ending}
 use Rattle.fix_steps.specs.Steps.{IsCarried, Carried}
 use Rattle.fix_steps.specs.Lawful as lawful
 use Rattle.fix_steps.specs.Lawful.{Standing, IsFresh, MayDo, MayDoAll, BeginsPlainly, WasReadIn, IsAnswered, InStep, Stands, AfterEnding}
-use Rattle.fix_steps.specs.Told.{IsTold, IsOther, MayBeDone}
+use Rattle.fix_steps.specs.Told.{IsTold, IsOther, KeepsNumbers, MayBeDone}
 use Rattle.fix_steps.proofs.StepLeads.{fresh, carried_leads}
-use Rattle.fix_steps.proofs.TableLemmas.{May, nothing_may, close_may, say_may, say_close_may, message_may}
+use Rattle.fix_steps.proofs.TableLemmas.{May, fits_both, nothing_may, close_may, say_may, say_close_may, message_may}
 
 -- ---- the number that is expected after it
 
@@ -41,6 +41,7 @@ one_expected : {x : Option Message} {at at' : Standing} {n n' m : ℕ} {step : S
 one_expected xs (lawful.may_say said is free) h = h
 one_expected xs (lawful.may_reject marked body type f same is) h = h
 one_expected xs (lawful.may_hand marked body same) h = h
+one_expected xs lawful.may_wait h = h
 one_expected xs (lawful.passes_app marked body same) h = h
 one_expected xs (lawful.passes_admin y same at is) h = h
 one_expected xs (lawful.passes_gap m same up is) h = h
@@ -59,8 +60,8 @@ done x n a h = record {
   may = subst (λ (m : ℕ). lawful.MayAnswer x n a.steps h.to m) (all_expected h.may) h.may;
 }
 
-pub message_done : (o : Options) (s : MachineState) (fs : List Field) (i : Inbound) (frame : Option (List ℕ)) → IsTold fs i → AllByRecursion (IsCarried frame) (answer_to o s (Frame i)).steps → MayBeDone (message_of fs) s.expected (answer_to o s (Frame i))
-message_done o s fs i frame told fit = done (message_of fs) s.expected (answer_to o s (Frame i)) (message_may fs i told frame s.phase o (heard s) fit)
+pub message_done : (o : Options) (s : MachineState) (fs : List Field) (i : Inbound) (frame : Option (List ℕ)) → IsTold fs i → AllByRecursion (IsCarried frame) (answer_to o s (Frame i)).steps → AllByRecursion KeepsNumbers (answer_to o s (Frame i)).steps → MayBeDone (message_of fs) s.expected (answer_to o s (Frame i))
+message_done o s fs i frame told fit keeps = done (message_of fs) s.expected (answer_to o s (Frame i)) (message_may fs i told frame s.phase o (heard s) (fits_both frame (answer_to o s (Frame i)).steps fit keeps))
 
 -- ---- other events
 
@@ -130,10 +131,10 @@ answered_by : (read text : List ℕ) (fs : List Field) (x : Option Message) → 
 answered_by read text fs None is has plain shown = lawful.silent (Some text)
 answered_by read text fs (Some y) is has plain shown = lawful.says text y (record { fields = fs; has = has; says = is }) plain (shown y refl)
 
-pub message_leads : (id : Identity) (read text : List ℕ) (fs : List Field) (o : Options) (s : MachineState) (i : Inbound) → IsValidIdentity id → HasFields text fs → BeginsPlainly read → ((y : Message) → message_of fs ≡ Some y → WasReadIn read y) → IsTold fs i → AllByRecursion (IsCarried (Some text)) (answer_to o s (Frame i)).steps
+pub message_leads : (id : Identity) (read text : List ℕ) (fs : List Field) (o : Options) (s : MachineState) (i : Inbound) → IsValidIdentity id → HasFields text fs → BeginsPlainly read → ((y : Message) → message_of fs ≡ Some y → WasReadIn read y) → IsTold fs i → AllByRecursion (IsCarried (Some text)) (answer_to o s (Frame i)).steps → AllByRecursion KeepsNumbers (answer_to o s (Frame i)).steps
     → LeadsFrom id (AfterEnding id read) (InStep id read s.expected) (Carried id (Some text) (answer_to o s (Frame i)).steps) (InStep id read (expected_after (answer_to o s (Frame i)).steps s.expected))
-message_leads id read text fs o s i valid has plain shown told fit =
-    done_leads id read (Some text) (message_of fs) s.expected (answer_to o s (Frame i)) valid (answered_by read text fs (message_of fs) refl has plain shown) fit (message_done o s fs i (Some text) told fit)
+message_leads id read text fs o s i valid has plain shown told fit keeps =
+    done_leads id read (Some text) (message_of fs) s.expected (answer_to o s (Frame i)) valid (answered_by read text fs (message_of fs) refl has plain shown) fit (message_done o s fs i (Some text) told fit keeps)
 
 pub other_leads : (id : Identity) (read : List ℕ) (o : Options) (s : MachineState) (e : EventSeen) → IsValidIdentity id → IsOther s e → AllByRecursion (IsCarried None) (answer_to o s e).steps → LeadsFrom id (AfterEnding id read) (InStep id read s.expected) (Carried id None (answer_to o s e).steps) (InStep id read (expected_after (answer_to o s e).steps s.expected))
 other_leads id read o s e valid is fit =

@@ -11,3 +11,4 @@ pub mod ClearLemmas
 pub mod TableLemmas
 pub mod DecideLemmas
 pub mod PossibleLemmas
+pub mod NumberLemmas

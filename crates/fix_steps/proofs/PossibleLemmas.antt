@@ -84,37 +84,37 @@ asks o k s b most = record { first = b.first; last = b.last; gap = most }
 
 module _ (frame : Option (List ℕ)) where
   silent_fine : (s : MachineState) → IsBounded s → Fine frame (silent s)
-  silent_fine s b = record { steps = (tt, (tt, (tt, (tt, tt)))); next = b }
+  silent_fine s b = record { steps = (tt, (tt, (tt, (tt, tt)))); order = record { resets = refl; closes = refl }; next = b }
 
   close_fine : (k : ℕ) (cause : Refusal) (s : MachineState) → IsBounded s → Fine frame (refuse k cause s)
-  close_fine k cause s b = record { steps = (tt, (tt, (tt, (tt, tt)))); next = record { first = b.first; last = b.last; gap = b.gap } }
+  close_fine k cause s b = record { steps = (tt, (tt, (tt, (tt, tt)))); order = record { resets = refl; closes = refl }; next = record { first = b.first; last = b.last; gap = b.gap } }
 
   refuse_fine : (t : LogoutText) (k : ℕ) (cause : Refusal) (s : MachineState) → IsBounded s → Fine frame (refuse_with t k cause s)
-  refuse_fine t k cause s b = record { steps = (tt, (tt, (tt, (tt, tt)))); next = record { first = b.first; last = b.last; gap = b.gap } }
+  refuse_fine t k cause s b = record { steps = (tt, (tt, (tt, (tt, tt)))); order = record { resets = refl; closes = refl }; next = record { first = b.first; last = b.last; gap = b.gap } }
 
   ask_fine : (o : Options) (k : ℕ) (s : MachineState) → IsBounded s → s.expected ≤ k → k ≤ 999999999 → Fine frame (on.then_ask o k [] s)
   ask_fine o k s b up most =
       either frame (is_none s.resend_requested) (answer (ask_step o k s ∷ []) (asked o k s)) (answer [] s)
-      (λ e. record { steps = (ask_range o.chunk s.expected k b.first up most, (tt, (tt, (tt, tt)))); next = asks o k s b most })
+      (λ e. record { steps = (ask_range o.chunk s.expected k b.first up most, (tt, (tt, (tt, tt)))); order = record { resets = refl; closes = refl }; next = asks o k s b most })
       (λ e. silent_fine s b)
 
   stash_fine : (o : Options) (k : ℕ) (s : MachineState) → IsBounded s → s.expected ≤ k → k ≤ 999999999 → Fine frame (on.then_ask o k (Stash ∷ []) s)
   stash_fine o k s b up most =
       either frame (is_none s.resend_requested) (answer (Stash ∷ ask_step o k s ∷ []) (asked o k s)) (answer (Stash ∷ []) s)
-      (λ e. record { steps = (tt, (ask_range o.chunk s.expected k b.first up most, (tt, (tt, tt)))); next = asks o k s b most })
-      (λ e. record { steps = (tt, (tt, (tt, (tt, tt)))); next = b })
+      (λ e. record { steps = (tt, (ask_range o.chunk s.expected k b.first up most, (tt, (tt, tt)))); order = record { resets = refl; closes = refl }; next = asks o k s b most })
+      (λ e. record { steps = (tt, (tt, (tt, (tt, tt)))); order = record { resets = refl; closes = refl }; next = b })
 
   serve_fine : (o : Options) (k from to : ℕ) (s : MachineState) → IsRequestRange from to → IsBounded s → s.expected ≤ k → k ≤ 999999999 → Fine frame (on.then_ask o k (Serve from to ∷ []) s)
   serve_fine o k from to s range b up most =
       either frame (is_none s.resend_requested) (answer (Serve from to ∷ ask_step o k s ∷ []) (asked o k s)) (answer (Serve from to ∷ []) s)
-      (λ e. record { steps = (range, (ask_range o.chunk s.expected k b.first up most, (tt, (tt, tt)))); next = asks o k s b most })
-      (λ e. record { steps = (range, (tt, (tt, (tt, tt)))); next = b })
+      (λ e. record { steps = (range, (ask_range o.chunk s.expected k b.first up most, (tt, (tt, tt)))); order = record { resets = refl; closes = refl }; next = asks o k s b most })
+      (λ e. record { steps = (range, (tt, (tt, (tt, tt)))); order = record { resets = refl; closes = refl }; next = b })
 
   out_fine : (p : Phase) (k : ℕ) (s : MachineState) → IsBounded s → Fine frame (answer (on.logout_steps p k) (on.logged_out p s))
-  out_fine Down k s b = record { steps = (tt, (tt, (tt, (tt, tt)))); next = record { first = b.first; last = b.last; gap = b.gap } }
-  out_fine AwaitLogon k s b = record { steps = (tt, (tt, (tt, (tt, tt)))); next = record { first = b.first; last = b.last; gap = b.gap } }
-  out_fine Up k s b = record { steps = (tt, (tt, (tt, (tt, tt)))); next = record { first = b.first; last = b.last; gap = b.gap } }
-  out_fine LogoutSent k s b = record { steps = (tt, (tt, (tt, (tt, tt)))); next = record { first = b.first; last = b.last; gap = b.gap } }
+  out_fine Down k s b = record { steps = (tt, (tt, (tt, (tt, tt)))); order = record { resets = refl; closes = refl }; next = record { first = b.first; last = b.last; gap = b.gap } }
+  out_fine AwaitLogon k s b = record { steps = (tt, (tt, (tt, (tt, tt)))); order = record { resets = refl; closes = refl }; next = record { first = b.first; last = b.last; gap = b.gap } }
+  out_fine Up k s b = record { steps = (tt, (tt, (tt, (tt, tt)))); order = record { resets = refl; closes = refl }; next = record { first = b.first; last = b.last; gap = b.gap } }
+  out_fine LogoutSent k s b = record { steps = (tt, (tt, (tt, (tt, tt)))); order = record { resets = refl; closes = refl }; next = record { first = b.first; last = b.last; gap = b.gap } }
 
 -- ---- a message
 
@@ -138,27 +138,29 @@ module _ (text_ : List ℕ) (fs : List Field) (has : HasFields text_ fs) (i : In
     rejected_fine : (f : Fault) (s : MachineState) → IsBounded s → Fine at (on.rejected f n i s)
     rejected_fine f s b = record {
       steps = ((type_clear, few), (more n (number_is n number), (tt, (tt, tt))));
+      order = record { resets = refl; closes = refl };
       next = record { first = (more n (number_is n number)).0; last = (more n (number_is n number)).1; gap = b.gap };
     }
 
     closed_fine : (f : Fault) (t : LogoutText) (cause : Refusal) (s : MachineState) → IsBounded s → Fine at (on.rejected_and_closed f t cause n i s)
     closed_fine f t cause s b = record {
       steps = ((type_clear, few), (more n (number_is n number), (tt, (tt, tt))));
+      order = record { resets = refl; closes = refl };
       next = record { first = (more n (number_is n number)).0; last = (more n (number_is n number)).1; gap = b.gap };
     }
 
     counted_fine : (s : MachineState) → IsBounded s → Fine at (on.count n s)
-    counted_fine s b = record { steps = (more n (number_is n number), (tt, (tt, (tt, tt)))); next = moves_to s (n + 1) b (more n (number_is n number)) }
+    counted_fine s b = record { steps = (more n (number_is n number), (tt, (tt, (tt, tt)))); order = record { resets = refl; closes = refl }; next = moves_to s (n + 1) b (more n (number_is n number)) }
 
     filled_fine : (next : ℕ) → (1 ≤ next) × (next ≤ 1000000000) → (s : MachineState) → IsBounded s → Fine at (on.filled next n i s)
     filled_fine next fits s b =
-        either at (nat_lt n next) (answer (Expect next ∷ []) (expecting next s)) (on.rejected (fault_of 5 36) n i s) (λ e. record { steps = (fits, (tt, (tt, (tt, tt)))); next = moves_to s next b fits }) (λ e. rejected_fine (fault_of 5 36) s b)
+        either at (nat_lt n next) (answer (Expect next ∷ []) (expecting next s)) (on.rejected (fault_of 5 36) n i s) (λ e. record { steps = (fits, (tt, (tt, (tt, tt)))); order = record { resets = refl; closes = refl }; next = moves_to s next b fits }) (λ e. rejected_fine (fault_of 5 36) s b)
 
     logout_fine : (p : Phase) (s : MachineState) → IsBounded s → Fine at (answer (Expect (n + 1) ∷ on.logout_steps p n) (on.logged_out p (counted n s)))
-    logout_fine Down s b = record { steps = (more n (number_is n number), (tt, (tt, (tt, tt)))); next = record { first = (more n (number_is n number)).0; last = (more n (number_is n number)).1; gap = b.gap } }
-    logout_fine AwaitLogon s b = record { steps = (more n (number_is n number), (tt, (tt, (tt, tt)))); next = record { first = (more n (number_is n number)).0; last = (more n (number_is n number)).1; gap = b.gap } }
-    logout_fine Up s b = record { steps = (more n (number_is n number), (tt, (tt, (tt, tt)))); next = record { first = (more n (number_is n number)).0; last = (more n (number_is n number)).1; gap = b.gap } }
-    logout_fine LogoutSent s b = record { steps = (more n (number_is n number), (tt, (tt, (tt, tt)))); next = record { first = (more n (number_is n number)).0; last = (more n (number_is n number)).1; gap = b.gap } }
+    logout_fine Down s b = record { steps = (more n (number_is n number), (tt, (tt, (tt, tt)))); order = record { resets = refl; closes = refl }; next = record { first = (more n (number_is n number)).0; last = (more n (number_is n number)).1; gap = b.gap } }
+    logout_fine AwaitLogon s b = record { steps = (more n (number_is n number), (tt, (tt, (tt, tt)))); order = record { resets = refl; closes = refl }; next = record { first = (more n (number_is n number)).0; last = (more n (number_is n number)).1; gap = b.gap } }
+    logout_fine Up s b = record { steps = (more n (number_is n number), (tt, (tt, (tt, tt)))); order = record { resets = refl; closes = refl }; next = record { first = (more n (number_is n number)).0; last = (more n (number_is n number)).1; gap = b.gap } }
+    logout_fine LogoutSent s b = record { steps = (more n (number_is n number), (tt, (tt, (tt, tt)))); order = record { resets = refl; closes = refl }; next = record { first = (more n (number_is n number)).0; last = (more n (number_is n number)).1; gap = b.gap } }
 
     again_fine : (reset : Bool) (s : MachineState) → IsBounded s → Fine at (on.logged_on_again reset n s)
     again_fine true s b = refuse_fine at text.ResetFlag n refusal.ResetAsked s b
@@ -168,16 +170,17 @@ module _ (text_ : List ℕ) (fs : List Field) (has : HasFields text_ fs) (i : In
     session_fine (admin.Heartbeat id) t s b = counted_fine s b
     session_fine (admin.TestRequest id) t s b = record {
       steps = (clear_value 112 refl fs has.parts.body has.are id t, (more n (number_is n number), (tt, (tt, tt))));
+      order = record { resets = refl; closes = refl };
       next = record { first = (more n (number_is n number)).0; last = (more n (number_is n number)).1; gap = b.gap };
     }
-    session_fine (admin.ResendRequest from to) t s b = record { steps = (more n (number_is n number), (t, (tt, (tt, tt)))); next = moves_to s (n + 1) b (more n (number_is n number)) }
+    session_fine (admin.ResendRequest from to) t s b = record { steps = (more n (number_is n number), (t, (tt, (tt, tt)))); order = record { resets = refl; closes = refl }; next = moves_to s (n + 1) b (more n (number_is n number)) }
     session_fine (admin.Reject about) t s b = counted_fine s b
     session_fine (admin.SequenceReset next gap) t s b = filled_fine next (new_number (value_of 36 fs) next t) s b
     session_fine admin.Logout t s b = logout_fine s.phase s b
     session_fine (admin.Logon heart reset version) t s b = again_fine i.reset s b
 
     type_fine : (v : VerdictSeen) → IsVerdict told.type fs v → (s : MachineState) → IsBounded s → Fine at (on.by_type v n i s)
-    type_fine App of s b = record { steps = (tt, (more n (number_is n number), (tt, (tt, tt)))); next = moves_to s (n + 1) b (more n (number_is n number)) }
+    type_fine App of s b = record { steps = (tt, (more n (number_is n number), (tt, (tt, tt)))); order = record { resets = refl; closes = refl }; next = moves_to s (n + 1) b (more n (number_is n number)) }
     type_fine (Admin a) of s b = session_fine a (tells told.type fs a of.1) s b
     type_fine (Bad fault) of s b = rejected_fine fault s b
 
@@ -204,10 +207,10 @@ module _ (text_ : List ℕ) (fs : List Field) (has : HasFields text_ fs) (i : In
     reset_fine : (f : FindingSeen) (s : MachineState) → IsBounded s → Fine at (on.reset_by f n i s)
     reset_fine found.Fine s b =
         either at (nat_le s.expected (on.new_seq_no_in i.verdict)) (answer (Expect (on.new_seq_no_in i.verdict) ∷ []) (expecting (on.new_seq_no_in i.verdict) s)) (answer (reject n (type_in i.header) (fault_of 5 36) ∷ []) (sent s))
-        (λ e. let fits = new_fits i.verdict told.verdict s b (leb-true s.expected (on.new_seq_no_in i.verdict) e) in record { steps = (fits, (tt, (tt, (tt, tt)))); next = moves_to s (on.new_seq_no_in i.verdict) b fits })
-        (λ e. record { steps = ((type_clear, few), (tt, (tt, (tt, tt)))); next = record { first = b.first; last = b.last; gap = b.gap } })
-    reset_fine (found.Reject fault) s b = record { steps = ((type_clear, few), (tt, (tt, (tt, tt)))); next = record { first = b.first; last = b.last; gap = b.gap } }
-    reset_fine (found.RejectAndClose fault t cause) s b = record { steps = ((type_clear, few), (tt, (tt, (tt, tt)))); next = record { first = b.first; last = b.last; gap = b.gap } }
+        (λ e. let fits = new_fits i.verdict told.verdict s b (leb-true s.expected (on.new_seq_no_in i.verdict) e) in record { steps = (fits, (tt, (tt, (tt, tt)))); order = record { resets = refl; closes = refl }; next = moves_to s (on.new_seq_no_in i.verdict) b fits })
+        (λ e. record { steps = ((type_clear, few), (tt, (tt, (tt, tt)))); order = record { resets = refl; closes = refl }; next = record { first = b.first; last = b.last; gap = b.gap } })
+    reset_fine (found.Reject fault) s b = record { steps = ((type_clear, few), (tt, (tt, (tt, tt)))); order = record { resets = refl; closes = refl }; next = record { first = b.first; last = b.last; gap = b.gap } }
+    reset_fine (found.RejectAndClose fault t cause) s b = record { steps = ((type_clear, few), (tt, (tt, (tt, tt)))); order = record { resets = refl; closes = refl }; next = record { first = b.first; last = b.last; gap = b.gap } }
 
     -- above the expected number
     module _ (o : Options) (s : MachineState) (b : IsBounded s) (high : s.expected ≤ n) where
@@ -253,28 +256,28 @@ module _ (text_ : List ℕ) (fs : List Field) (has : HasFields text_ fs) (i : In
     module _ (o : Options) (plain : o.version ≡ None) where
       -- the number is counted, or the messages before it are asked for
       plain_by : (t : Bool) (heart : ℕ) (reset : Bool) (s : MachineState) → IsBounded s → nat_lt s.expected n ≡ t → Fine at (answer (await.logon o heart reset ∷ (if t then ask_step o n s else Expect (n + 1)) ∷ []) (if t then asked o n s else counted n s))
-      plain_by true heart reset s b high = let up = ltb-true s.expected n high in record { steps = (plain, (ask_range o.chunk s.expected n b.first (omega (arith, up)) (number_is n number).1, (tt, (tt, tt)))); next = asks o n s b (number_is n number).1 }
-      plain_by false heart reset s b high = record { steps = (plain, (more n (number_is n number), (tt, (tt, tt)))); next = moves_to s (n + 1) b (more n (number_is n number)) }
+      plain_by true heart reset s b high = let up = ltb-true s.expected n high in record { steps = (plain, (ask_range o.chunk s.expected n b.first (omega (arith, up)) (number_is n number).1, (tt, (tt, tt)))); order = record { resets = refl; closes = refl }; next = asks o n s b (number_is n number).1 }
+      plain_by false heart reset s b high = record { steps = (plain, (more n (number_is n number), (tt, (tt, tt)))); order = record { resets = refl; closes = refl }; next = moves_to s (n + 1) b (more n (number_is n number)) }
 
       own_by : (t : Bool) (heart : ℕ) (s : MachineState) → IsBounded s → nat_lt s.expected n ≡ t → Fine at (answer (Reset ∷ await.logon o heart false ∷ (if t then ask_step o n s else Expect (n + 1)) ∷ []) (if t then asked o n s else counted n s))
-      own_by true heart s b high = let up = ltb-true s.expected n high in record { steps = (tt, (plain, (ask_range o.chunk s.expected n b.first (omega (arith, up)) (number_is n number).1, (tt, tt)))); next = asks o n s b (number_is n number).1 }
-      own_by false heart s b high = record { steps = (tt, (plain, (more n (number_is n number), (tt, tt)))); next = moves_to s (n + 1) b (more n (number_is n number)) }
+      own_by true heart s b high = let up = ltb-true s.expected n high in record { steps = (tt, (plain, (ask_range o.chunk s.expected n b.first (omega (arith, up)) (number_is n number).1, (tt, tt)))); order = record { resets = refl; closes = refl }; next = asks o n s b (number_is n number).1 }
+      own_by false heart s b high = record { steps = (tt, (plain, (more n (number_is n number), (tt, tt)))); order = record { resets = refl; closes = refl }; next = moves_to s (n + 1) b (more n (number_is n number)) }
 
       up_by : (t : Bool) (s : MachineState) → IsBounded s → nat_lt s.expected n ≡ t → Fine at (answer ((if t then ask_step o n s else Expect (n + 1)) ∷ []) (if t then asked o n s else counted n s))
-      up_by true s b high = let up = ltb-true s.expected n high in record { steps = (ask_range o.chunk s.expected n b.first (omega (arith, up)) (number_is n number).1, (tt, (tt, (tt, tt)))); next = asks o n s b (number_is n number).1 }
-      up_by false s b high = record { steps = (more n (number_is n number), (tt, (tt, (tt, tt)))); next = moves_to s (n + 1) b (more n (number_is n number)) }
+      up_by true s b high = let up = ltb-true s.expected n high in record { steps = (ask_range o.chunk s.expected n b.first (omega (arith, up)) (number_is n number).1, (tt, (tt, (tt, tt)))); order = record { resets = refl; closes = refl }; next = asks o n s b (number_is n number).1 }
+      up_by false s b high = record { steps = (more n (number_is n number), (tt, (tt, (tt, tt)))); order = record { resets = refl; closes = refl }; next = moves_to s (n + 1) b (more n (number_is n number)) }
 
       -- after a reset number 1 is expected
       anew : (heart : ℕ) (s : MachineState) → IsBounded s → IsBounded (await.answered heart (emptied s))
       anew heart s b = record { first = omega arith; last = omega arith; gap = b.gap }
 
       acceptor_fine : (reset each : Bool) (heart : ℕ) (s : MachineState) → IsBounded s → Fine at (if reset then await.reset_answer o n heart s else (if each then await.own_reset_answer o n heart s else await.plain_answer o n heart s))
-      acceptor_fine true each heart s b = record { steps = (tt, (plain, (more n (number_is n number), (tt, tt)))); next = record { first = (more n (number_is n number)).0; last = (more n (number_is n number)).1; gap = b.gap } }
+      acceptor_fine true each heart s b = record { steps = (tt, (plain, (more n (number_is n number), (tt, tt)))); order = record { resets = refl; closes = refl }; next = record { first = (more n (number_is n number)).0; last = (more n (number_is n number)).1; gap = b.gap } }
       acceptor_fine false true heart s b = own_by (nat_lt 1 n) heart (await.answered heart (emptied s)) (anew heart s b) refl
       acceptor_fine false false heart s b = plain_by (nat_lt s.expected n) heart false (await.answered heart s) (record { first = b.first; last = b.last; gap = b.gap }) refl
 
       initiator_fine : (asks_ reset : Bool) (s : MachineState) → IsBounded s → Fine at (if asks_ then (if reset then answer (Confirm ∷ Expect (n + 1) ∷ []) (counted n (await.confirmed s)) else refuse n refusal.ResetUnanswered s) else (if reset then refuse n refusal.ResetAsked s else answer (await.count_or_ask o n (up s) ∷ []) (await.counted_or_asked o n (up s))))
-      initiator_fine true true s b = record { steps = (tt, (more n (number_is n number), (tt, (tt, tt)))); next = record { first = (more n (number_is n number)).0; last = (more n (number_is n number)).1; gap = b.gap } }
+      initiator_fine true true s b = record { steps = (tt, (more n (number_is n number), (tt, (tt, tt)))); order = record { resets = refl; closes = refl }; next = record { first = (more n (number_is n number)).0; last = (more n (number_is n number)).1; gap = b.gap } }
       initiator_fine true false s b = close_fine at n refusal.ResetUnanswered s b
       initiator_fine false true s b = close_fine at n refusal.ResetAsked s b
       initiator_fine false false s b = up_by (nat_lt s.expected n) (up s) (record { first = b.first; last = b.last; gap = b.gap }) refl
@@ -329,17 +332,17 @@ nowhere = None
 
 window_fine : (p : Phase) (now : ℕ) (s : MachineState) → IsBounded s → Fine nowhere (clocks.out_of_window p now s)
 window_fine Down now s b = silent_fine nowhere s b
-window_fine AwaitLogon now s b = record { steps = (tt, (tt, (tt, (tt, tt)))); next = record { first = b.first; last = b.last; gap = b.gap } }
-window_fine Up now s b = record { steps = (tt, (tt, (tt, (tt, tt)))); next = record { first = b.first; last = b.last; gap = b.gap } }
-window_fine LogoutSent now s b = record { steps = (tt, (tt, (tt, (tt, tt)))); next = record { first = b.first; last = b.last; gap = b.gap } }
+window_fine AwaitLogon now s b = record { steps = (tt, (tt, (tt, (tt, tt)))); order = record { resets = refl; closes = refl }; next = record { first = b.first; last = b.last; gap = b.gap } }
+window_fine Up now s b = record { steps = (tt, (tt, (tt, (tt, tt)))); order = record { resets = refl; closes = refl }; next = record { first = b.first; last = b.last; gap = b.gap } }
+window_fine LogoutSent now s b = record { steps = (tt, (tt, (tt, (tt, tt)))); order = record { resets = refl; closes = refl }; next = record { first = b.first; last = b.last; gap = b.gap } }
 
 due_fine : (d : Option Due) (s : MachineState) → IsBounded s → Fine nowhere (clocks.due_answer d s)
 due_fine None s b = silent_fine nowhere s b
-due_fine (Some due.LogonLate) s b = record { steps = (tt, (tt, (tt, (tt, tt)))); next = record { first = b.first; last = b.last; gap = b.gap } }
-due_fine (Some due.LogoutLate) s b = record { steps = (tt, (tt, (tt, (tt, tt)))); next = record { first = b.first; last = b.last; gap = b.gap } }
-due_fine (Some (due.Silent since)) s b = record { steps = (tt, (tt, (tt, (tt, tt)))); next = record { first = b.first; last = b.last; gap = b.gap } }
-due_fine (Some due.TestRequest) s b = record { steps = (tt, (tt, (tt, (tt, tt)))); next = record { first = b.first; last = b.last; gap = b.gap } }
-due_fine (Some due.Heartbeat) s b = record { steps = (tt, (tt, (tt, (tt, tt)))); next = record { first = b.first; last = b.last; gap = b.gap } }
+due_fine (Some due.LogonLate) s b = record { steps = (tt, (tt, (tt, (tt, tt)))); order = record { resets = refl; closes = refl }; next = record { first = b.first; last = b.last; gap = b.gap } }
+due_fine (Some due.LogoutLate) s b = record { steps = (tt, (tt, (tt, (tt, tt)))); order = record { resets = refl; closes = refl }; next = record { first = b.first; last = b.last; gap = b.gap } }
+due_fine (Some (due.Silent since)) s b = record { steps = (tt, (tt, (tt, (tt, tt)))); order = record { resets = refl; closes = refl }; next = record { first = b.first; last = b.last; gap = b.gap } }
+due_fine (Some due.TestRequest) s b = record { steps = (tt, (tt, (tt, (tt, tt)))); order = record { resets = refl; closes = refl }; next = record { first = b.first; last = b.last; gap = b.gap } }
+due_fine (Some due.Heartbeat) s b = record { steps = (tt, (tt, (tt, (tt, tt)))); order = record { resets = refl; closes = refl }; next = record { first = b.first; last = b.last; gap = b.gap } }
 
 clock_fine : (o : Options) (s : MachineState) (inside : Bool) → IsBounded s → Fine nowhere (clocks.clock o s inside)
 clock_fine o s false b = window_fine s.phase s.reading s b
@@ -351,20 +354,20 @@ moved_fine (Some gap) o s is b =
     let most : gap.above ≤ 999999999 = subst (λ (x : Option Requested). IfSome x (λ g. g.above ≤ 999999999)) is b.gap in
     either nowhere (nat_lt gap.above s.expected) (silent (record s { resend_requested = None })) (if nat_lt 0 o.chunk && nat_lt gap.end s.expected then answer (ask_step o gap.above s ∷ []) (asked o gap.above s) else silent s) (λ e. silent_fine nowhere (record s { resend_requested = None }) (record { first = b.first; last = b.last; gap = tt }))
     (λ high. either nowhere (nat_lt 0 o.chunk && nat_lt gap.end s.expected) (answer (ask_step o gap.above s ∷ []) (asked o gap.above s)) (silent s)
-    (λ e. record { steps = (ask_range o.chunk s.expected gap.above b.first (ltb-false gap.above s.expected high) most, (tt, (tt, (tt, tt)))); next = asks o gap.above s b most }) (λ e. silent_fine nowhere s b))
+    (λ e. record { steps = (ask_range o.chunk s.expected gap.above b.first (ltb-false gap.above s.expected high) most, (tt, (tt, (tt, tt)))); order = record { resets = refl; closes = refl }; next = asks o gap.above s b most }) (λ e. silent_fine nowhere s b))
 
 left_fine : (p : Phase) (s : MachineState) → IsBounded s → Fine nowhere (leave p s)
 left_fine Down s b = silent_fine nowhere s b
 left_fine AwaitLogon s b = silent_fine nowhere s b
-left_fine Up s b = record { steps = (tt, (tt, (tt, (tt, tt)))); next = record { first = b.first; last = b.last; gap = b.gap } }
+left_fine Up s b = record { steps = (tt, (tt, (tt, (tt, tt)))); order = record { resets = refl; closes = refl }; next = record { first = b.first; last = b.last; gap = b.gap } }
 left_fine LogoutSent s b = silent_fine nowhere s b
 
 pub other_fine : (o : Options) (s : MachineState) (e : EventSeen) → IsNoMessage e → o.version ≡ None → IsBounded s → IsPossibleAnswer None (answer_to o s e)
-other_fine o s (Begin role now) is plain b = record { steps = (tt, (tt, (tt, (tt, tt)))); next = record { first = b.first; last = b.last; gap = tt } }
-other_fine o s First is plain b = record { steps = (plain, (tt, (tt, (tt, tt)))); next = record { first = b.first; last = b.last; gap = b.gap } }
+other_fine o s (Begin role now) is plain b = record { steps = (tt, (tt, (tt, (tt, tt)))); order = record { resets = refl; closes = refl }; next = record { first = b.first; last = b.last; gap = tt } }
+other_fine o s First is plain b = record { steps = (plain, (tt, (tt, (tt, tt)))); order = record { resets = refl; closes = refl }; next = record { first = b.first; last = b.last; gap = b.gap } }
 other_fine o s (Frame i) is plain b = absurd is
 other_fine o s (Moved waiting) is plain b = moved_fine s.resend_requested o s refl b
 other_fine o s (Clock now inside) is plain b = clock_fine o (read_clock now s) inside (record { first = b.first; last = b.last; gap = b.gap })
 other_fine o s (Leave now) is plain b = left_fine s.phase (read_clock now s) (record { first = b.first; last = b.last; gap = b.gap })
-other_fine o s Ended is plain b = record { steps = (tt, (tt, (tt, (tt, tt)))); next = record { first = b.first; last = b.last; gap = b.gap } }
-other_fine o s (Wrote now) is plain b = record { steps = (tt, (tt, (tt, (tt, tt)))); next = record { first = b.first; last = b.last; gap = b.gap } }
+other_fine o s Ended is plain b = record { steps = (tt, (tt, (tt, (tt, tt)))); order = record { resets = refl; closes = refl }; next = record { first = b.first; last = b.last; gap = b.gap } }
+other_fine o s (Wrote now) is plain b = record { steps = (tt, (tt, (tt, (tt, tt)))); order = record { resets = refl; closes = refl }; next = record { first = b.first; last = b.last; gap = b.gap } }

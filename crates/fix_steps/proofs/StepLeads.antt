@@ -368,6 +368,7 @@ module _ (id : Identity) (read : List ℕ) (valid : IsValidIdentity id) (frame :
   may_leads {n = n} (lawful.may_hand marked body same) fit b calls r to (done.hands d) e h =
       let m = message_as (message.App n marked body) same in
       hand_leads id read valid frame m.text n marked body m.is m.says m.plain m.shown b calls r to d e h
+  may_leads {at = at} {n = n} lawful.may_wait fit b calls r to done.waits e h = leads_nowhere id e (Stands id read at n b) h
   may_leads {n = n} (lawful.passes_app marked body same) fit b calls r to d e h =
       let m = message_as (message.App n marked body) same in app_leads id read frame m.plain n marked body m.shown b calls r to d e h
   may_leads {at = at} {n = n} (lawful.passes_admin y same numbered is) fit b calls r to d e h =

@@ -38,7 +38,7 @@ use Rattle.fix_machine.specs.Decide as decide
 use Rattle.fix_steps.specs.Steps.{IsCarried}
 use Rattle.fix_steps.specs.Lawful as lawful
 use Rattle.fix_steps.specs.Lawful.{Standing, Clear, Open, IsFresh, IsNoReset, MayDoAll, MayAnswer}
-use Rattle.fix_steps.specs.Told.{IsVerdict, IsTold}
+use Rattle.fix_steps.specs.Told.{IsVerdict, IsTold, KeepsNumbers}
 use Rattle.fix_steps.proofs.ToldLemmas.{IsReset, is_reset, CountsAs, counts_app, counts_admin, counts_as, session_numbered, app_is, gap_is, reset_is, message_is}
 
 -- the steps may be done, to some number; and the next message may be answered then
@@ -93,10 +93,18 @@ module _ (x : Option Message) (n : ℕ) where
 
 -- ---- choices
 
+-- the step is carried out here, and keeps the numbers
+abbrev pub Fits : Option (List ℕ) → StepSeen → Type 0
+Fits frame step = IsCarried frame step × KeepsNumbers step
+
+pub fits_both : (frame : Option (List ℕ)) (steps : List StepSeen) → AllByRecursion (IsCarried frame) steps → AllByRecursion KeepsNumbers steps → AllByRecursion (Fits frame) steps
+fits_both frame [] fit keeps = tt
+fits_both frame (step ∷ steps) fit keeps = ((fit.0, keeps.0), fits_both frame steps fit.1 keeps.1)
+
 module _ (x : Option Message) (frame : Option (List ℕ)) (n : ℕ) where
-  -- where its steps are carried out here they may be done
+  -- where its steps are carried out here, and the numbers don't begin anew, they may be done
   abbrev Claim : Answered → Type 0
-  Claim a = AllByRecursion (IsCarried frame) a.steps → May x n a.steps
+  Claim a = AllByRecursion (Fits frame) a.steps → May x n a.steps
 
   either : (b : Bool) (p q : Answered) → (b ≡ true → Claim p) → (b ≡ false → Claim q) → Claim (if b then p else q)
   either true p q h k = h refl
@@ -145,10 +153,12 @@ module _ (fs : List Field) (i : Inbound) (told : IsTold fs i) (frame : Option (L
   ask_may o k n s = either said frame n (is_none s.resend_requested) (answer (ask_step o k s ∷ []) (asked o k s)) (answer [] s) (λ e fit. say_may said n (say.ResendRequest _ _) tt) (λ e fit. nothing_may said n)
 
   serve_may : (o : Options) (k n from to : ℕ) (s : MachineState) → Claim said frame n (on.then_ask o k (Serve from to ∷ []) s)
-  serve_may o k n from to s = either said frame n (is_none s.resend_requested) (answer (Serve from to ∷ ask_step o k s ∷ []) (asked o k s)) (answer (Serve from to ∷ []) s) (λ e fit. absurd fit.0) (λ e fit. absurd fit.0)
+  serve_may o k n from to s = either said frame n (is_none s.resend_requested) (answer (Serve from to ∷ ask_step o k s ∷ []) (asked o k s)) (answer (Serve from to ∷ []) s) (λ e fit. absurd fit.0.0) (λ e fit. absurd fit.0.0)
 
   stash_may : (o : Options) (k n : ℕ) (s : MachineState) → Claim said frame n (on.then_ask o k (Stash ∷ []) s)
-  stash_may o k n s = either said frame n (is_none s.resend_requested) (answer (Stash ∷ ask_step o k s ∷ []) (asked o k s)) (answer (Stash ∷ []) s) (λ e fit. absurd fit.0) (λ e fit. absurd fit.0)
+  stash_may o k n s = either said frame n (is_none s.resend_requested) (answer (Stash ∷ ask_step o k s ∷ []) (asked o k s)) (answer (Stash ∷ []) s)
+      (λ e fit. record { to = Open; number = n; fresh = tt; may = lawful.first_may lawful.may_wait (lawful.first_may (lawful.may_say (say.ResendRequest _ _) tt tt) two_idle) })
+      (λ e fit. record { to = Open; number = n; fresh = tt; may = lawful.first_may lawful.may_wait three_idle })
 
   refuse_with_may : (t : LogoutText) (k n : ℕ) (cause : Refusal) (s : MachineState) → Claim said frame n (refuse_with t k cause s)
   refuse_with_may t k n cause s fit = say_close_may said n (say.Logout t) (Refused k cause) tt
@@ -218,7 +228,7 @@ module _ (fs : List Field) (i : Inbound) (told : IsTold fs i) (frame : Option (L
       session_may : (a : AdminSeen) → is_admin_type type ≡ true → admin_of type fs ≡ Ok a → (s : MachineState) → Claim said frame n (on.session_message a n i s)
       session_may (admin.Heartbeat id) session of s fit = counted_may (session_numbered type n fs session)
       session_may (admin.TestRequest id) session of s fit = record { to = Open; number = n + 1; fresh = tt; may = lawful.first_may (lawful.may_say (say.Heartbeat (Some id)) tt tt) (lawful.first_may (lawful.passes_admin y is (session_numbered type n fs session) tt) two_idle) }
-      session_may (admin.ResendRequest from to) session of s fit = absurd fit.1.0
+      session_may (admin.ResendRequest from to) session of s fit = absurd fit.1.0.0
       session_may (admin.Reject about) session of s fit = counted_may (session_numbered type n fs session)
       session_may (admin.SequenceReset next gap) session of s fit = let reset = is_reset type fs next gap of in filled_may next reset (filling next reset) s fit
       session_may admin.Logout session of s fit = logout_may s.phase (on.logged_out s.phase (counted n s)) session fit
@@ -239,7 +249,7 @@ module _ (fs : List Field) (i : Inbound) (told : IsTold fs i) (frame : Option (L
     module _ (s : MachineState) (four : names i.header.type (codes "4") ≡ true) (unfilled : i.gap ≡ false) where
       reset_by_may : (v : VerdictSeen) → IsVerdict type fs v → Claim said frame s.expected (on.reset_to (on.new_seq_no_in v) n i s)
       reset_by_may v of = either said frame s.expected (nat_le s.expected (on.new_seq_no_in v)) (answer (Expect (on.new_seq_no_in v) ∷ []) (expecting (on.new_seq_no_in v) s)) (answer (reject n (type_in i.header) (fault_of 5 36) ∷ []) (sent s))
-          (λ e fit. goes v of e fit.0) (λ e fit. say_may said s.expected (say.Reject n (type_in i.header) (fault_of 5 36)) tt)
+          (λ e fit. goes v of e fit.0.0) (λ e fit. say_may said s.expected (say.Reject n (type_in i.header) (fault_of 5 36)) tt)
         where
           none : (k : ℕ) → k ≡ 0 → 1 ≤ k → ⊥
           none k zeroed some = omega (arith, zeroed, some)
@@ -330,13 +340,13 @@ module _ (fs : List Field) (i : Inbound) (told : IsTold fs i) (frame : Option (L
 
   acceptor_may : (o : Options) (reset each : Bool) (n heart : ℕ) (s : MachineState) → i.header.number ≡ Some n → is_admin_type type ≡ true → (nat_lt n s.expected && (not reset && not (each && true))) ≡ false
       → Claim said frame s.expected (if reset then await.reset_answer o n heart s else (if each then await.own_reset_answer o n heart s else await.plain_answer o n heart s))
-  acceptor_may o true each n heart s number session low fit = absurd fit.0
-  acceptor_may o false true n heart s number session low fit = absurd fit.0
+  acceptor_may o true each n heart s number session low fit = absurd fit.0.1
+  acceptor_may o false true n heart s number session low fit = absurd fit.0.1
   acceptor_may o false false n heart s number session low fit = plain_by (nat_lt s.expected n) o n heart s (await.counted_or_asked o n (await.answered heart s)) number session (λ high. neither s.expected n high (not_low (nat_lt n s.expected) true low)) fit
 
   initiator_may : (asks : Bool) (o : Options) (reset : Bool) (n : ℕ) (s : MachineState) → i.header.number ≡ Some n → is_admin_type type ≡ true → (nat_lt n s.expected && (not reset && not (o.reset_on_logon && false))) ≡ false
       → Claim said frame s.expected (if asks then (if reset then answer (Confirm ∷ Expect (n + 1) ∷ []) (counted n (await.confirmed s)) else refuse n refusal.ResetUnanswered s) else (if reset then refuse n refusal.ResetAsked s else answer (await.count_or_ask o n (up s) ∷ []) (await.counted_or_asked o n (up s))))
-  initiator_may true o true n s number session low fit = absurd fit.0
+  initiator_may true o true n s number session low fit = absurd fit.0.1
   initiator_may true o false n s number session low fit = refuse_may n s.expected refusal.ResetUnanswered s fit
   initiator_may false o true n s number session low fit = refuse_may n s.expected refusal.ResetAsked s fit
   initiator_may false o false n s number session low fit = up_by (nat_lt s.expected n) o n s (await.counted_or_asked o n (up s)) number session (λ high. neither s.expected n high (role_low (nat_lt n s.expected) o.reset_on_logon low)) fit

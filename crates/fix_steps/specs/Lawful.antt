@@ -11,7 +11,7 @@ use Rattle.fix_base.specs.declared.fault.Fault.{Fault}
 use Rattle.fix_admin.specs.Say.{SaySeen, Heartbeat, TestRequest, ResendRequest, Reject, Logout, Logon}
 use Rattle.fix_admin.specs.Say as say
 use Rattle.fix_machine.specs.declared.event.Why.{Why}
-use Rattle.fix_machine.specs.Event.{StepSeen, Send, Hand, Expect, Close, Nothing}
+use Rattle.fix_machine.specs.Event.{StepSeen, Send, Hand, Stash, Expect, Close, Nothing}
 use Rattle.fix_machine.specs.Numbers.{begins_with_a_flush}
 use Rattle.fix_stage.specs.Stage.{no_stage}
 use Rattle.fix_stage.specs.declared.sender.Sender.{Sender}
@@ -52,6 +52,7 @@ pub data MayDo (x : Option Message) : Standing → ℕ → StepSeen → Standing
   may_reject : {at : Standing} {n : ℕ} (marked : Bool) (body type : List ℕ) (fault : Fault)
       → x ≡ Some (App n marked body) → IsFresh at → MayDo x at n (Send (Reject n type fault)) Handled n
   may_hand : {n : ℕ} (marked : Bool) (body : List ℕ) → x ≡ Some (App n marked body) → MayDo x Clear n Hand Handled n
+  may_wait : {at : Standing} {n : ℕ} → MayDo x at n Stash at n
   passes_app : {n : ℕ} (marked : Bool) (body : List ℕ) → x ≡ Some (App n marked body)
       → MayDo x Handled n (Expect (n + 1)) Open (n + 1)
   passes_admin : {at : Standing} {n : ℕ} (y : Message) → x ≡ Some y → IsAdminNumbered n y → IsFresh at

@@ -1,6 +1,8 @@
 pub mod Said
 pub mod Ending
+pub mod Resetting
 pub mod Steps
+pub mod Leaves
 pub mod Causes
 pub mod Answering
 pub mod Stated

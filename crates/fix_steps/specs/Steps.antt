@@ -25,6 +25,7 @@ use Rattle.fix_steps.specs.Said.{said_outgoing, IsSayable}
 use Rattle.fix_steps.specs.declared.ending.Ending.{Ending}
 use Rattle.fix_steps.specs.Ending.{ending_of}
 use Rattle.fix_steps.specs.declared.ending.Ending.TheVariants as ending
+use Rattle.fix_steps.specs.Resetting.{Resetting, Confirming}
 use Rattle.fix_steps.specs.declared.source.Source.{Source}
 use Rattle.fix_steps.specs.declared.source.Source.TheVariants as source
 
@@ -50,15 +51,15 @@ IsThere None = ⊥
 IsThere (Some text) = Unit {0}
 
 -- A step that is carried out here. Nothing is handed over where no message is answered, and a number that is
--- expected is one. Serving a ResendRequest, letting a message wait and what is kept of resets have no part here yet
+-- expected is one. Serving a ResendRequest has no part here yet
 abbrev pub IsCarried : Option (List ℕ) → StepSeen → Type 0
 IsCarried frame (Send say) = IsSayable say
 IsCarried frame (Serve from to) = ⊥
 IsCarried frame step.Hand = IsThere frame
-IsCarried frame Stash = ⊥
+IsCarried frame Stash = Unit {0}
 IsCarried frame (Expect number) = (1 ≤ number) × (number ≤ 1000000000)
-IsCarried frame Reset = ⊥
-IsCarried frame Confirm = ⊥
+IsCarried frame Reset = Unit {0}
+IsCarried frame Confirm = Unit {0}
 IsCarried frame (Close why) = Unit {0}
 IsCarried frame Nothing = Unit {0}
 
@@ -95,15 +96,20 @@ pub data Handing (frame : Option (List ℕ)) (b : Sender) : List Call → Result
 
 -- One step. A message that finds no number left ends the answer: what was counted before it stays counted, and
 -- nothing after it is done. After a close nothing more is done either; what is staged is kept and written at the end of
--- the turn
+-- the turn. A message that waits is kept by who asked for the answer
 pub data Performed (id : Identity) (frame : Option (List ℕ)) (b : Sender) : StepSeen → List Call → Result ⊤ Ending
     → Sender → Type 0 where
   says : (say : SaySeen) {calls : List Call} {r : Result ⊤ Ending} {to : Sender} → Saying id say b calls r to
       → Performed id frame b (Send say) calls r to
   hands : {calls : List Call} {r : Result ⊤ Ending} {to : Sender} → Handing frame b calls r to
       → Performed id frame b step.Hand calls r to
+  waits : Performed id frame b Stash [] (Ok tt) b
   expects : (number : ℕ)
       → Performed id frame b (Expect number) [] (Ok tt) (with_numbers b (with_expected b.numbers number))
+  resets : {calls : List Call} {r : Result ⊤ Ending} {to : Sender} → Resetting b calls r to
+      → Performed id frame b Reset calls r to
+  confirms : {calls : List Call} {r : Result ⊤ Ending} {to : Sender} → Confirming b calls r to
+      → Performed id frame b Confirm calls r to
   closes : (why : Why) → Performed id frame b (Close why) [] (Err (ending.Closed why)) b
   nothing : Performed id frame b Nothing [] (Ok tt) b
 

@@ -14,6 +14,7 @@ use Rattle.fix_machine.specs.Event.{StepSeen, Send, Serve, Hand, Stash, Expect, 
 use Rattle.fix_machine.specs.Answer.{Answered}
 use Rattle.fix_machine.specs.Numbers.{expected_after}
 use Rattle.fix_steps.specs.Steps.{IsCarried}
+use Rattle.fix_steps.specs.Leaves.{IsInOrder}
 use Rattle.fix_steps.specs.Lawful.{Standing, IsFresh, MayAnswer}
 
 -- what is told of a message of this MsgType (35) after its header: of a fault nothing is asked
@@ -41,6 +42,19 @@ IsOther s (Leave now) = Unit {0}
 IsOther s Ended = Unit {0}
 IsOther s (Wrote now) = Unit {0}
 
+-- A step that neither begins the numbers anew nor keeps that this was answered. A Logon with 141=Y is written where they
+-- begin anew, and what is said here of what an end wrote allows none yet
+abbrev pub KeepsNumbers : StepSeen → Type 0
+KeepsNumbers (Send said) = Unit {0}
+KeepsNumbers (Serve from to) = Unit {0}
+KeepsNumbers Hand = Unit {0}
+KeepsNumbers Stash = Unit {0}
+KeepsNumbers (Expect number) = Unit {0}
+KeepsNumbers Reset = ⊥
+KeepsNumbers Confirm = ⊥
+KeepsNumbers (Close why) = Unit {0}
+KeepsNumbers Nothing = Unit {0}
+
 -- the steps of the answer may be done, from this number to the one that they say; and the next message may be answered
 -- after them
 pub record MayBeDone (x : Option Message) (n : ℕ) (a : Answered) : Type 0 where
@@ -50,17 +64,17 @@ pub record MayBeDone (x : Option Message) (n : ℕ) (a : Answered) : Type 0 wher
 
 -- ---- what a decision asks of who carries it out
 
--- a step that is carried out here, or one that has no part here yet: then what it asks for is a range
+-- a step that is carried out here, or that serves a range: this has no part here yet
 abbrev pub IsPossible : Option (List ℕ) → StepSeen → Type 0
 IsPossible frame (Send say) = IsCarried frame (Send say)
 IsPossible frame (Serve from to) = IsRequestRange from to
 IsPossible frame Hand = IsCarried frame Hand
-IsPossible frame Stash = Unit {0}
+IsPossible frame Stash = IsCarried frame Stash
 IsPossible frame (Expect number) = IsCarried frame (Expect number)
-IsPossible frame Reset = Unit {0}
-IsPossible frame Confirm = Unit {0}
-IsPossible frame (Close why) = Unit {0}
-IsPossible frame Nothing = Unit {0}
+IsPossible frame Reset = IsCarried frame Reset
+IsPossible frame Confirm = IsCarried frame Confirm
+IsPossible frame (Close why) = IsCarried frame (Close why)
+IsPossible frame Nothing = IsCarried frame Nothing
 
 -- the number that is expected is one, and so is the one that showed a gap
 pub record IsBounded (s : MachineState) : Type 0 where
@@ -68,7 +82,8 @@ pub record IsBounded (s : MachineState) : Type 0 where
   pub last : s.expected ≤ 1000000000
   pub gap : IfSome s.resend_requested (λ gap. gap.above ≤ 999999999)
 
--- each step is such a one, and the state after them is bounded again
+-- each step is such a one, they stand in order, and the state after them is bounded again
 pub record IsPossibleAnswer (frame : Option (List ℕ)) (a : Answered) : Type 0 where
   pub steps : AllByRecursion (IsPossible frame) a.steps
+  pub order : IsInOrder a.steps
   pub next : IsBounded a.next

@@ -13,6 +13,7 @@ ghost use Rattle.fix_steps.specs.Causes.{HasCause};
 
 use crate::ending::ending_of;
 use crate::handing::hand;
+use crate::resetting::{confirm, reset};
 use crate::saying::say;
 use crate::{Ending, Source};
 use fix_machine::{Decision, Step};
@@ -134,12 +135,13 @@ fn perform<O: Outside>(
             Ok(())
         }
         Step::Close(why) => Err(Ending::Closed(*why)),
+        Step::Reset => reset(o, sender),
+        Step::Confirm => confirm(o, sender),
+        // Who asked for the answer keeps a message that waits.
+        Step::Stash => Ok(()),
         Step::Nothing => Ok(()),
-        // No decision that is carried out here has these.
+        // No decision that is carried out here has this.
         Step::Serve { .. } => unreachable!(),
-        Step::Stash => unreachable!(),
-        Step::Reset => unreachable!(),
-        Step::Confirm => unreachable!(),
     }
 }
 

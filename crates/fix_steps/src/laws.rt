@@ -1,5 +1,5 @@
 //! What holds of each answer that is carried out, each law on a function that does nothing.
-ghost use Rattle.std.specs.Prelude.{◌≡◌, ℕ, List, Option, Some, None, Result, ⊤};
+ghost use Rattle.std.specs.Prelude.{◌≡◌, ℕ, List, Option, Some, None, Result, Ok, Err, ⊤};
 ghost use Rattle.std.specs.List.{AllByRecursion};
 ghost use Rattle.fix_base.specs.declared.identity.Identity.{Identity};
 ghost use Rattle.fix_base.specs.Session.{IsValidIdentity};
@@ -10,6 +10,7 @@ ghost use Rattle.fix_base.specs.Says.{HasFields, message_of};
 ghost use Rattle.fix_outside.specs.Calls.{Call};
 ghost use Rattle.fix_machine.specs.declared.state.MachineState.{MachineState};
 ghost use Rattle.fix_machine.specs.declared.state.Options.{Options};
+ghost use Rattle.fix_machine.specs.declared.event.Why.{Why};
 ghost use Rattle.fix_machine.specs.Event.{Inbound, StepSeen, EventSeen, Frame};
 ghost use Rattle.fix_machine.specs.Decide.{answer_to};
 ghost use Rattle.fix_machine.specs.Numbers.{expected_after, IsNoMessage};
@@ -19,11 +20,12 @@ ghost use Rattle.fix_stage.specs.Lawful.{LeadsFrom};
 ghost use Rattle.fix_steps.specs.Steps.{IsCarried, Carried};
 ghost use Rattle.fix_steps.specs.declared.ending.Ending.{Ending};
 ghost use Rattle.fix_steps.specs.declared.ending.Ending.TheVariants as ending;
+ghost use Rattle.fix_steps.specs.Leaves.{IsInOrder, HasNumbers};
 ghost use Rattle.fix_steps.specs.Answering.{AnswersOnly};
 ghost use Rattle.fix_steps.specs.Stated.{IsRead};
 ghost use Rattle.fix_steps.specs.Lawful.{Standing, MayAnswer, BeginsPlainly, WasReadIn, IsAnswered, InStep};
 ghost use Rattle.fix_steps.specs.Lawful.{Stands, AfterEnding};
-ghost use Rattle.fix_steps.specs.Told.{IsTold, IsOther, MayBeDone, IsBounded, IsPossibleAnswer};
+ghost use Rattle.fix_steps.specs.Told.{IsTold, IsOther, KeepsNumbers, MayBeDone, IsBounded, IsPossibleAnswer};
 
 /// What is out of memory would have gone on, and what is not has an end: no answer is left without one.
 pub fn what_is_out_of_memory_would_have_gone_on()
@@ -42,7 +44,7 @@ pub fn an_answer_is_lawful()
         → LeadsFrom id (AfterEnding id read) (InStep id read n) (Carried id frame steps) (Stands id read to m) }
 {}
 
-/// An answer sends, hands the message over, and does nothing else. What is staged may be sent again, and so may each
+/// An answer sends, hands the message over, keeps what is kept of resets, and does nothing else. What is staged may be sent again, and so may each
 /// entry of a record that is kept or lost.
 pub fn an_answer_sends_and_hands_over()
     ensures { (id : Identity) (frame : Option (List ℕ)) (steps : List StepSeen) → AllByRecursion (IsCarried frame) steps
@@ -51,24 +53,40 @@ pub fn an_answer_sends_and_hands_over()
         → AnswersOnly IsPersistentEntry frame calls to }
 {}
 
-/// Whatever the machine decides may be done, where it is carried out here: at a message, of which it was told what the
-/// fields say, and at any other event. The number that its steps say is that of its state
+/// An answer leaves the numbers that its steps say, where it did all of them, and where a close ended it: the number that is
+/// expected, and the last that a message took. However it ends, the last reading of the clock is as it was.
+pub fn an_answer_leaves_the_numbers_that_its_steps_say()
+    ensures done { (id : Identity) (frame : Option (List ℕ)) (steps : List StepSeen) → IsInOrder steps → (b : Sender)
+        (calls : List Call) (to : Sender) → Carried id frame steps b calls (Ok tt) to → HasNumbers steps b to }
+    ensures closed { (id : Identity) (frame : Option (List ℕ)) (steps : List StepSeen) → IsInOrder steps → (why : Why)
+        (b : Sender) (calls : List Call) (to : Sender) → Carried id frame steps b calls (Err (ending.Closed why)) to
+        → HasNumbers steps b to }
+    ensures reading { (id : Identity) (frame : Option (List ℕ)) (steps : List StepSeen) (b : Sender) (calls : List Call)
+        (r : Result ⊤ Ending) (to : Sender) → Carried id frame steps b calls r to
+        → to.numbers.reading ≡ b.numbers.reading }
+{}
+
+/// Whatever the machine decides may be done, where it is carried out here and the numbers don't begin anew: at a message,
+/// of which it was told what the fields say, and at any other event. The number that its steps say is that of its state
 /// (`the_steps_say_the_numbers` of `fix_machine`).
 pub fn what_is_decided_may_be_done()
     ensures message { (o : Options) (s : MachineState) (fields : List Field) (i : Inbound) (frame : Option (List ℕ))
         → IsTold fields i → AllByRecursion (IsCarried frame) (answer_to o s (Frame i)).steps
+        → AllByRecursion KeepsNumbers (answer_to o s (Frame i)).steps
         → MayBeDone (message_of fields) s.expected (answer_to o s (Frame i)) }
     ensures other { (o : Options) (s : MachineState) (e : EventSeen) → IsOther s e → (x : Option Message)
         → MayBeDone x s.expected (answer_to o s e) }
 {}
 
-/// So what the machine decides is lawful: from an end in step with the session and the machine's expected number, the
-/// answer's acts are a run of that end, to one in step with the number that its steps say.
+/// So what the machine decides is lawful, where the numbers don't begin anew: from an end in step with the session and the
+/// machine's expected number, the answer's acts are a run of that end, to one in step with the number that its steps say.
+/// A Logon that begins them anew is written with 141=Y, and what an end in step has written has none yet.
 pub fn what_is_decided_is_lawful()
     ensures message { (id : Identity) (read text : List ℕ) (fields : List Field) (o : Options) (s : MachineState)
         (i : Inbound) → IsValidIdentity id → HasFields text fields → BeginsPlainly read
         → ((y : Message) → message_of fields ≡ Some y → WasReadIn read y) → IsTold fields i
         → AllByRecursion (IsCarried (Some text)) (answer_to o s (Frame i)).steps
+        → AllByRecursion KeepsNumbers (answer_to o s (Frame i)).steps
         → LeadsFrom id (AfterEnding id read) (InStep id read s.expected)
         (Carried id (Some text) (answer_to o s (Frame i)).steps)
         (InStep id read (expected_after (answer_to o s (Frame i)).steps s.expected)) }
@@ -78,8 +96,8 @@ pub fn what_is_decided_is_lawful()
         (InStep id read (expected_after (answer_to o s e).steps s.expected)) }
 {}
 
-/// What the machine decides is carried out here, or is a step that has no part here yet, where it names no application
-/// version; and its numbers stay within their bounds.
+/// What the machine decides is carried out here, or serves a range, where it names no application version. A reset stands
+/// first and a close last, and its numbers stay within their bounds.
 pub fn what_is_decided_is_possible()
     ensures message { (text : List ℕ) (fields : List Field) → HasFields text fields → (i : Inbound) → IsTold fields i
         → (o : Options) (s : MachineState) → o.version ≡ None → IsBounded s

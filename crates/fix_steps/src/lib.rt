@@ -5,6 +5,7 @@ mod carrying;
 mod ending;
 mod handing;
 mod laws;
+mod resetting;
 mod saying;
 mod source;
 #[cfg(test)]
@@ -13,8 +14,8 @@ mod tests;
 pub use carrying::carry_out;
 pub use ending::{Ending, ending_of};
 pub use laws::{
-    an_answer_is_lawful, an_answer_sends_and_hands_over, what_is_decided_is_lawful,
-    what_is_decided_is_possible, what_is_decided_may_be_done,
-    what_is_out_of_memory_would_have_gone_on,
+    an_answer_is_lawful, an_answer_leaves_the_numbers_that_its_steps_say,
+    an_answer_sends_and_hands_over, what_is_decided_is_lawful, what_is_decided_is_possible,
+    what_is_decided_may_be_done, what_is_out_of_memory_would_have_gone_on,
 };
 pub use source::Source;

@@ -355,3 +355,76 @@ fn a_reject_and_a_logout_are_one_record_and_two_writes(rt: HostRuntime) -> Resul
     assert_eq!(rt; o.written.len(), REJECT.len() + LOGOUT.len());
     Ok(())
 }
+
+// A Logon with ResetSeqNumFlag (141) = Y is answered: the numbers begin anew, and the Logon that answers takes number 1.
+fn reset_and_logon<O: Outside>(alloc: Global, o: &mut O, context: &Context) -> Result<Sender, Fail>
+    requires valid { IsValidIdentity context.now.identity }
+    requires opens { (O.seen o.old).open_at ≡ Some 1 }
+{
+    let mut sender = sample_sender(alloc);
+    let decision = Decision {
+        first: Step::Reset,
+        second: Step::Send(Say::Logon {
+            heart: 30,
+            reset: true,
+            version: None,
+        }),
+        third: Step::Expect(2),
+        fourth: Step::Nothing,
+    };
+    match carry_out(o, context, &mut sender, &Source::Other, &decision) {
+        Ok(()) => Ok(sender),
+        Err(_) => Err(OutOfMemory.into()),
+    }
+}
+
+#[test]
+fn after_a_reset_the_first_number_is_taken(rt: HostRuntime) -> Result<(), Fail> {
+    let alloc = rt.alloc();
+    let context = sample_context(alloc)?;
+    let mut o = quiet_outside(alloc);
+    let sender = reset_and_logon(alloc, &mut o, &context)?;
+    assert_eq!(rt; (o.last, o.keeps, o.writes), (0, 1, 0));
+    assert_eq!(rt;
+        (
+            sender.numbers.expected,
+            sender.numbers.stored_expected,
+            sender.numbers.last,
+            sender.stage.len()
+        ),
+        (2, 1, 0, 1)
+    );
+    Ok(())
+}
+
+// The Logon that answers a reset which was asked for is counted; a message that came too early waits.
+fn confirm_and_wait<O: Outside>(alloc: Global, o: &mut O, context: &Context) -> Result<Sender, Fail>
+    requires valid { IsValidIdentity context.now.identity }
+    requires opens { (O.seen o.old).open_at ≡ Some 1 }
+{
+    let mut sender = sample_sender(alloc);
+    let decision = Decision {
+        first: Step::Confirm,
+        second: Step::Expect(4),
+        third: Step::Stash,
+        fourth: Step::Nothing,
+    };
+    match carry_out(o, context, &mut sender, &Source::Other, &decision) {
+        Ok(()) => Ok(sender),
+        Err(_) => Err(OutOfMemory.into()),
+    }
+}
+
+#[test]
+fn a_reset_that_was_answered_is_kept(rt: HostRuntime) -> Result<(), Fail> {
+    let alloc = rt.alloc();
+    let context = sample_context(alloc)?;
+    let mut o = quiet_outside(alloc);
+    let sender = confirm_and_wait(alloc, &mut o, &context)?;
+    assert_eq!(rt; (o.last, o.keeps, o.writes), (1, 1, 0));
+    assert_eq!(rt;
+        (sender.numbers.expected, sender.numbers.stored_expected),
+        (4, 1)
+    );
+    Ok(())
+}

@@ -1,5 +1,5 @@
 use Rattle.fix_outside.proofs.CallLemmas.{Called-nil}
-use Rattle.fix_steps.specs.Steps.{says, hands, expects, closes, nothing}
+use Rattle.fix_steps.specs.Steps.{says, hands, waits, expects, resets, confirms, closes, nothing}
 use Rattle.fix_steps.proofs.carrying.perform.Goals as goal
 
 pub returns-in-Send-clause-calls : goal.returns-in-Send-clause-calls
@@ -10,6 +10,15 @@ returns-in-Hand-clause-calls g c = rw c.in-Hand.is (let h = c.hand_over.ensures.
 
 pub returns-in-Expect-clause-calls : goal.returns-in-Expect-clause-calls
 returns-in-Expect-clause-calls g c = rw c.in-Expect.is (_, Called-nil _, expects _)
+
+pub returns-in-Reset-clause-calls : goal.returns-in-Reset-clause-calls
+returns-in-Reset-clause-calls g c = rw c.in-Reset.is (let h = c.reset.ensures.calls in (h.0, h.1, resets h.2))
+
+pub returns-in-Confirm-clause-calls : goal.returns-in-Confirm-clause-calls
+returns-in-Confirm-clause-calls g c = rw c.in-Confirm.is (let h = c.confirm.ensures.calls in (h.0, h.1, confirms h.2))
+
+pub returns-in-Stash-clause-calls : goal.returns-in-Stash-clause-calls
+returns-in-Stash-clause-calls g c = rw c.in-Stash.is (_, Called-nil _, waits)
 
 pub returns-in-Close-clause-calls : goal.returns-in-Close-clause-calls
 returns-in-Close-clause-calls g c = rw c.in-Close.is (_, Called-nil _, closes _)
