@@ -9,3 +9,4 @@ pub mod EventLemmas
 pub mod AnswerLemmas
 pub mod KeepsLemmas
 pub mod LeftLemmas
+pub mod CauseLemmas

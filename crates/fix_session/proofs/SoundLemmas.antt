@@ -6,15 +6,12 @@ use Rattle.fix_base.specs.Trace.{OutsideSeen}
 use Rattle.fix_machine.specs.Event.{EventSeen, Frame, Inbound, StepSeen}
 use Rattle.fix_machine.specs.Numbers.{IsNoMessage}
 use Rattle.fix_steps.specs.Steps.{IsCarried}
-use Rattle.fix_steps.specs.Told.{IsPossible, IsPossibleAnswer}
+use Rattle.fix_steps.specs.Told.{IsPossibleAnswer}
 use Rattle.fix_steps.proofs.PossibleLemmas.{message_fine, other_fine}
 use Rattle.fix_session.specs.Judged.{RulesSeen}
 use Rattle.fix_session.specs.State.{State, IsSound, answer_of, decided}
 use Rattle.fix_session.specs.Inbound.{IsInbound}
 use Rattle.fix_session.proofs.InboundLemmas.{is_told}
-
-possible : (frame : Option (List ℕ)) (steps : List StepSeen) → AllByRecursion (IsPossible frame) steps → AllByRecursion (IsCarried frame) steps
-possible frame steps h = ?
 
 -- what is decided at an event may be done, and leaves the session sound
 pub record Decides (id : Identity) (w : OutsideSeen) (open_at : Option ℕ) (frame : Option (List ℕ)) (s : State) (e : EventSeen) : Type 0 where
@@ -24,7 +21,7 @@ pub record Decides (id : Identity) (w : OutsideSeen) (open_at : Option ℕ) (fra
 at_possible : (id : Identity) (w : OutsideSeen) (open_at : Option ℕ) (frame : Option (List ℕ)) (s : State) (e : EventSeen) → IsSound id w open_at s → IsPossibleAnswer frame (answer_of s e)
     → Decides id w open_at frame s e
 at_possible id w open_at frame s e h p = record {
-  carried = possible frame _ p.steps;
+  carried = p.steps;
   sound = record { sender = h.sender; bounded = p.next; waiting = h.waiting; version = h.version };
 }
 

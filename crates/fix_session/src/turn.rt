@@ -7,6 +7,7 @@ ghost use Rattle.fix_outside.specs.Connection.{IsInRoom};
 ghost use Rattle.fix_stage.specs.Combine.{AndThen};
 ghost use Rattle.fix_stage.specs.Flush.{Settled};
 ghost use Rattle.fix_stage.specs.Sender.{IsInRange};
+ghost use Rattle.fix_steps.specs.Causes.{HasCause};
 ghost use Rattle.fix_steps.specs.Ending.{open_after};
 ghost use Rattle.fix_session.specs.Judged.{rules_seen};
 ghost use Rattle.fix_session.specs.State.{IsSound};
@@ -42,6 +43,7 @@ pub fn run<O: Outside>(
     ensures workable { IsWorkable context.now.identity (O.seen o.new) (open_after result work.new.state.sender) work.new }
     ensures calls { HasCalls (O.seen o.old) (O.seen o.new)
         (λ calls. Runs context.now.identity (rules_seen rules.now) turns (work_seen work.old) calls result (work_seen work.new)) }
+    ensures cause { HasCause result (O.seen o.old).faults (O.seen o.new).faults }
 {
     match take_turns(o, context, rules, work, turns) {
         Ok(()) => Ok(()),

@@ -25,7 +25,7 @@ use Rattle.fix_steps.specs.Resetting.{Resetting, Confirming}
 use Rattle.fix_steps.specs.Steps as steps
 use Rattle.fix_steps.specs.Steps.{InAnswer, Saying, Handing, Performed, Begins, Done, Carried}
 
-same_blame : (e : StageFault) → blame_of (ending_of e) ≡ stage.blame_of e
+pub same_blame : (e : StageFault) → blame_of (ending_of e) ≡ stage.blame_of e
 same_blame fault.NumbersSpent = refl
 same_blame fault.OutOfMemory = refl
 same_blame fault.StoreFault = refl

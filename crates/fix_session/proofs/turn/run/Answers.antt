@@ -1,6 +1,7 @@
 use Rattle.std.proofs.lemmas.Result.{err_from_is_err_and}
 use Rattle.fix_outside.proofs.CallLemmas.{Called-append}
 use Rattle.fix_session.specs.Turn.{all_turns, ended, ended_short}
+use Rattle.fix_session.proofs.CauseLemmas.{caused}
 use Rattle.fix_session.proofs.LeftLemmas.{ends_sound, short_sound}
 use Rattle.fix_session.proofs.turn.run.Goals as goal
 
@@ -34,3 +35,12 @@ returns-in_ok-leave-in-Err-clause-calls g c =
     let h = c.in-Err.ensures.calls in
     let k = rw c.is_cut.ensures at c.in_ok-leave-in-Err.ensures.calls in
     (_, Called-append _ _ _ _ _ h.1 k.1, ended h.2 k.2)
+
+pub returns-in-Ok-clause-cause : goal.returns-in-Ok-clause-cause
+returns-in-Ok-clause-cause g c = caused _ _ _ _ _ _ _ _ (returns-in-Ok-clause-calls g c)
+
+pub returns-in_err-leave-in-Err-clause-cause : goal.returns-in_err-leave-in-Err-clause-cause
+returns-in_err-leave-in-Err-clause-cause g c = caused _ _ _ _ _ _ _ _ (returns-in_err-leave-in-Err-clause-calls g c)
+
+pub returns-in_ok-leave-in-Err-clause-cause : goal.returns-in_ok-leave-in-Err-clause-cause
+returns-in_ok-leave-in-Err-clause-cause g c = caused _ _ _ _ _ _ _ _ (returns-in_ok-leave-in-Err-clause-calls g c)
