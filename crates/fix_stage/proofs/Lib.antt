@@ -3,7 +3,9 @@ pub mod CombineLemmas
 pub mod OutgoingLemmas
 pub mod StageLemmas
 pub mod EachTime
+pub mod RepeatLemmas
 pub mod SendingLemmas
+pub mod ServingLemmas
 pub mod SendsLemmas
 pub mod LeadsLemmas
 pub mod PlainLemmas

@@ -10,7 +10,9 @@ mod framing;
 mod laws;
 mod numbering;
 mod pending;
+mod repeating;
 mod sender;
+mod serving;
 mod staged;
 mod staging;
 #[cfg(test)]
@@ -29,5 +31,6 @@ pub use laws::{
 };
 pub use pending::{PendingDraft, pending_is_draft, settle_pending};
 pub use sender::{Numbers, Sender, put_down, take_reading};
+pub use serving::serve;
 pub use staged::{Stage, Taken};
 pub use staging::stage;
