@@ -13,6 +13,7 @@ pub mod ChainLemmas
 pub mod KeepLeads
 pub mod WriteLeads
 pub mod FlushLeads
+pub mod ServingLeads
 pub mod ApartLeads
 pub mod StagingLeads
 pub mod Carrying

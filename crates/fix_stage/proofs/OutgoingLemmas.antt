@@ -135,7 +135,7 @@ outgoing_short id n time at m h valid small sent =
       h.short,
     )
 
-behind_entry : (fs : List Field) → AllByRecursion IsEntryField fs → AllByRecursion IsBehindType fs
+pub behind_entry : (fs : List Field) → AllByRecursion IsEntryField fs → AllByRecursion IsBehindType fs
 behind_entry [] each = tt
 behind_entry (f ∷ fs) each = (
   record {

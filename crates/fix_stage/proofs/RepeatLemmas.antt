@@ -1,6 +1,8 @@
 -- The frames that answer a ResendRequest: each is a list of fields, short enough, and the repeat or the gap fill.
 use Rattle.std.proofs.Common.{◌≡◌, ℕ, ◌+◌, ◌<◌, ◌≤◌, List, [], ◌∷◌, ◌++◌, length, None, refl, sym, ap, ◌∙◌, subst}
-use Rattle.std.proofs.Common.{codes, inl, inr, append_assoc, length-append, lit<, lit≤, arith, nat_le, ◌&&◌}
+use Rattle.std.proofs.Common.{codes, inl, inr, append_assoc, length-append, lit<, lit≤, arith, nat_le, ◌&&◌, Result, Ok, Err}
+use Rattle.std.specs.Prelude.{IfOk}
+use Rattle.fix_base.specs.declared.bytes.OutOfMemory.{OutOfMemory}
 use Rattle.std.specs.List.{AllByRecursion}
 use Rattle.std.specs.Fmt.{decimal}
 use Rattle.std.proofs.lemmas.Fmt.{length-decimal-le}
@@ -23,7 +25,7 @@ use Rattle.fix_fields.proofs.DraftLemmas.{fields_text-append}
 use Rattle.fix_fields.proofs.DraftBodies.{kind_first}
 use Rattle.fix_frame.specs.Sealable.{message_text, IsBehindType, IsSealable}
 use Rattle.fix_outside.specs.Handing.{IsKindOf}
-use Rattle.fix_stage.specs.Repeating.{marked_fields, IsSplit, MaySplit, IsRepeatFrame, IsGapFrame}
+use Rattle.fix_stage.specs.Repeating.{marked_fields, gap_rest_fields, IsSplit, MaySplit, IsRepeatFrame, IsGapFrame}
 use Rattle.fix_stage.proofs.EachTime.{each_time}
 use Rattle.fix_stage.proofs.OutgoingLemmas.{decimal_clear, decimal_short, time_short, field_ahead, type_long, behind_entry}
 
@@ -283,11 +285,16 @@ repeat_frame id n time body t at was type rest p =
       first_in_millis = refl;
     })
 
--- ---- a gap fill
+-- whatever is sealed of it is the frame
+pub repeat_sealed : (id : Identity) (n time : ℕ) (body : List ℕ) (t : ℕ) (at was type rest : List ℕ)
+    (r : Result (List ℕ) OutOfMemory) → RepeatParts id n time body t at was type rest
+    → IfOk r (λ text. text ≡ sealed id.begin (message_text type (fields_text (marked_fields id n at was)) rest))
+    → IfOk r (IsRepeatFrame id n time body t)
+repeat_sealed id n time body t at was type rest (Ok text) p h =
+    subst (IsRepeatFrame id n time body t) (sym h) (repeat_frame id n time body t at was type rest p)
+repeat_sealed id n time body t at was type rest (Err e) p h = tt
 
--- NewSeqNo (36), and GapFillFlag (123) = Y
-abbrev pub gap_rest : ℕ → List Field
-gap_rest m = field 36 (decimal m) ∷ field 123 (codes "Y") ∷ []
+-- ---- a gap fill
 
 -- what is written of it
 pub record GapParts (id : Identity) (n m t : ℕ) (at : List ℕ) : Type 0 where
@@ -297,7 +304,7 @@ pub record GapParts (id : Identity) (n m t : ℕ) (at : List ℕ) : Type 0 where
   pub sent_at : IsTimeTextOf 3 t at
 
 gap_marked : (id : Identity) (n m t : ℕ) (at : List ℕ) → GapParts id n m t at
-    → IsMarked id n at at (codes "4") (gap_rest m)
+    → IsMarked id n at at (codes "4") (gap_rest_fields m)
 gap_marked id n m t at p =
     let low = p.next in
     record {
@@ -309,14 +316,14 @@ gap_marked id n m t at p =
       was_short = time_short t at p.sent_at;
       named = lit< tt;
       clear = clear_of (λ b. nat_le 32 b && nat_le b 126) (codes "4") refl refl;
-      are = plain_fields (gap_rest m) (
+      are = plain_fields (gap_rest_fields m) (
         record { first = lit≤ tt; last = lit≤ tt; no_soh = decimal_clear m (omega arith); no_length = refl },
         (record { first = lit≤ tt; last = lit≤ tt; no_soh = yes_clear; no_length = refl }, tt),
       );
       each = (behind 36 _ (lit< tt) (λ e. omega arith), (behind 123 _ (lit< tt) (λ e. omega arith), tt));
       fits = omega (
         arith,
-        short_fields (gap_rest m) (
+        short_fields (gap_rest_fields m) (
           record { last = lit≤ tt; short = decimal_short m (omega arith) },
           (record { last = lit≤ tt; short = lit≤ tt }, tt),
         ),
@@ -324,24 +331,31 @@ gap_marked id n m t at p =
     }
 
 pub gap_sealable : (id : Identity) (n m t : ℕ) (at : List ℕ) → GapParts id n m t at
-    → IsSealable (codes "4") (fields_text (marked_fields id n at at)) (fields_text (gap_rest m))
-gap_sealable id n m t at p = marked_sealable id n at at (codes "4") (gap_rest m) (gap_marked id n m t at p)
+    → IsSealable (codes "4") (fields_text (marked_fields id n at at)) (fields_text (gap_rest_fields m))
+gap_sealable id n m t at p = marked_sealable id n at at (codes "4") (gap_rest_fields m) (gap_marked id n m t at p)
 
 pub gap_short : (id : Identity) (n m t : ℕ) (at : List ℕ) → GapParts id n m t at
-    → length (message_text (codes "4") (fields_text (marked_fields id n at at)) (fields_text (gap_rest m))) ≤ 1048576
-gap_short id n m t at p = marked_short id n at at (codes "4") (gap_rest m) (gap_marked id n m t at p)
+    → length (message_text (codes "4") (fields_text (marked_fields id n at at)) (fields_text (gap_rest_fields m))) ≤ 1048576
+gap_short id n m t at p = marked_short id n at at (codes "4") (gap_rest_fields m) (gap_marked id n m t at p)
 
 pub gap_frame : (id : Identity) (n m t : ℕ) (at : List ℕ) → GapParts id n m t at
     → IsGapFrame id n m t
-    (sealed id.begin (message_text (codes "4") (fields_text (marked_fields id n at at)) (fields_text (gap_rest m))))
+    (sealed id.begin (message_text (codes "4") (fields_text (marked_fields id n at at)) (fields_text (gap_rest_fields m))))
 gap_frame id n m t at p = record {
   is = record {
     at = at;
     sent_at = record { digits = 3; precision = inr (inl refl); is = p.sent_at };
-    sealed_so = marked_sealed id n at at (codes "4") (gap_rest m) (gap_marked id n m t at p);
+    sealed_so = marked_sealed id n at at (codes "4") (gap_rest_fields m) (gap_marked id n m t at p);
   };
   in_millis = refl;
 }
+
+pub gap_sealed : (id : Identity) (n m t : ℕ) (at : List ℕ) (r : Result (List ℕ) OutOfMemory) → GapParts id n m t at
+    → IfOk r (λ text. text ≡ sealed id.begin
+        (message_text (codes "4") (fields_text (marked_fields id n at at)) (fields_text (gap_rest_fields m))))
+    → IfOk r (IsGapFrame id n m t)
+gap_sealed id n m t at (Ok text) p h = subst (IsGapFrame id n m t) (sym h) (gap_frame id n m t at p)
+gap_sealed id n m t at (Err e) p h = tt
 
 -- ---- there is one
 

@@ -12,6 +12,10 @@ abbrev pub marked_fields : Identity → ℕ → List ℕ → List ℕ → List F
 marked_fields id n at was =
     field 34 (decimal n) ∷ field 43 (codes "Y") ∷ field 49 id.sender ∷ field 52 at ∷ field 56 id.target ∷ field 122 was ∷ []
 
+-- the fields of a gap fill after its header: NewSeqNo (36), and GapFillFlag (123) = Y
+abbrev pub gap_rest_fields : ℕ → List Field
+gap_rest_fields next = field 36 (decimal next) ∷ field 123 (codes "Y") ∷ []
+
 -- the body of an application message, as its MsgType (35) and the text of its other fields
 pub record IsSplit (body type rest : List ℕ) : Type 0 where
   pub fields : List Field

@@ -5,7 +5,7 @@ ghost use Rattle.fix_base.specs.Payload.{IsAppPayload, LAST_TIME};
 ghost use Rattle.fix_base.specs.Says.{fields_text};
 ghost use Rattle.fix_base.specs.Sealed.{sealed};
 ghost use Rattle.fix_frame.specs.Sealable.{message_text, IsSealable};
-ghost use Rattle.fix_stage.specs.Repeating.{marked_fields, IsSplit, MaySplit, IsRepeatFrame, IsGapFrame};
+ghost use Rattle.fix_stage.specs.Repeating.{marked_fields, gap_rest_fields, IsSplit, MaySplit, IsRepeatFrame, IsGapFrame};
 
 use crate::Context;
 use crate::framing::push_number;
@@ -16,9 +16,6 @@ use std::alloc::Global;
 
 /// Room for the fields of a header: 34, 43, 49, 52, 56 and 122.
 const HEADER_ROOM: usize = 224;
-
-/// The MsgType (35) of a SequenceReset.
-const SEQUENCE_RESET: &[u8] = b"4";
 
 /// The frame of the application message of this number that is sent again at `now`. `time` is when it was sent
 /// first: OrigSendingTime (122). Both are in microseconds since 1970, and are written in milliseconds.
@@ -70,10 +67,8 @@ pub fn gap_fill_of(
         at.as_slice(),
         at.as_slice(),
     )?;
-    let mut rest = Vec::new(context.alloc);
-    push_number(&mut rest, 36, next)?;
-    push_field(&mut rest, 123, b"Y")?;
-    seal_short(context.alloc, context.identity.begin, SEQUENCE_RESET, &header, &rest)
+    let rest = gap_rest(context.alloc, next)?;
+    seal_short(context.alloc, context.identity.begin, b"4", &header, &rest)
 }
 
 /// The MsgType (35) of a body, and its other fields as they are written.
@@ -106,6 +101,16 @@ fn marked_header(
     push_field(&mut out, 52, at)?;
     push_field(&mut out, 56, identity.target.as_slice())?;
     push_field(&mut out, 122, was)?;
+    Ok(out)
+}
+
+// The fields of a gap fill after its header: NewSeqNo (36), GapFillFlag (123) = Y.
+fn gap_rest(alloc: Global, next: u32) -> Result<Vec<u8>, OutOfMemory>
+    ensures { IfOk result (λ text. text.items ≡ fields_text (gap_rest_fields next)) }
+{
+    let mut out = Vec::new(alloc);
+    push_number(&mut out, 36, next)?;
+    push_field(&mut out, 123, b"Y")?;
     Ok(out)
 }
 

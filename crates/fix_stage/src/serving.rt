@@ -93,9 +93,7 @@ fn serve_one<O: Outside>(
     ensures calls { HasCalls (O.seen o.old) (O.seen o.new)
         (λ calls. ServedOne context.now.identity sender.now.numbers.reading gap.old number calls result gap.new) }
 {
-    let Some(number) = SeqNum::new(number) else {
-        unreachable!()
-    };
+    let number = seq_num(number);
     match o.fetch(number, body) {
         Ok(Kind::App { time }) => serve_app(o, context, sender, number, time, body.as_slice(), gap),
         Ok(Kind::Admin) => {
@@ -108,6 +106,18 @@ fn serve_one<O: Outside>(
         }
         Err(FetchFault::Failed) => Err(StageFault::StoreFault),
         Err(FetchFault::OutOfMemory) => Err(StageFault::OutOfMemory),
+    }
+}
+
+// The number as a MsgSeqNum (34).
+fn seq_num(number: u32) -> SeqNum
+    requires first { 1 ≤ number }
+    requires last { number ≤ 999999999 }
+    ensures { result ≡ number }
+{
+    match SeqNum::new(number) {
+        Some(number) => number,
+        None => unreachable!(),
     }
 }
 
