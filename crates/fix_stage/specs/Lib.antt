@@ -4,6 +4,8 @@ pub mod Sender
 pub mod Flush
 pub mod Outgoing
 pub mod Staging
+pub mod Repeating
+pub mod Serving
 pub mod Sendings
 pub mod Causes
 pub mod Stated
