@@ -1,10 +1,10 @@
 -- Each fault of a run has its cause.
 use Rattle.std.proofs.Common.{◌≡◌, ℕ, List, [], ◌∷◌, Bool, true, false, Option, Result, Ok, Err, refl, sym, subst, replicate, arith}
-use Rattle.std.specs.Prelude.{⊤}
+use Rattle.std.specs.Prelude.{⊤, is_some}
 use Rattle.fix_base.specs.declared.identity.Identity.{Identity}
 use Rattle.fix_base.specs.Trace.{OutsideSeen}
 use Rattle.fix_outside.specs.Calls.{Call, HasCalls, Read, Look, Ask}
-use Rattle.fix_machine.specs.Event.{EventSeen, StepSeen}
+use Rattle.fix_machine.specs.Event.{EventSeen, StepSeen, First, Moved, Clock, Wrote}
 use Rattle.fix_stage.specs.Combine.{Lifted, goes_well, fails, AndThen, Each}
 use Rattle.fix_stage.specs.declared.sender.Sender.{Sender}
 use Rattle.fix_stage.specs.declared.fault.StageFault.{StageFault}
@@ -23,12 +23,12 @@ use Rattle.fix_steps.proofs.CauseLemmas.{Carried-blames, same_blame}
 use Rattle.fix_session.specs.Judged.{RulesSeen}
 use Rattle.fix_session.specs.State.{State, answer_of, decided, expected_of}
 use Rattle.fix_session.specs.Waits as waiting
-use Rattle.fix_session.specs.Waits.{Waits, While, due_frame, passed}
+use Rattle.fix_session.specs.Waits.{Waits, While, waits_at, due_frame, passed}
 use Rattle.fix_session.specs.Answering as answering
 use Rattle.fix_session.specs.Answering.{Carrying, Stood, Standing, Answers, WaitsIfNew, AnswersFrame, Moves, Round, OneWaiting, CatchesUp, Receives}
 use Rattle.fix_session.specs.Work.{WorkSeen}
 use Rattle.fix_session.specs.Turn as turns
-use Rattle.fix_session.specs.Turn.{Sending, Beside, Noted, StagesDraft, OffersDraft, Offers, ReceivesAll, Feeds, Reads, Looks, Meets, Settles, Turn, OneTurn, Turns, Leaves, Runs}
+use Rattle.fix_session.specs.Turn.{read_at, logged_on, Sending, Beside, Noted, StagesDraft, OffersDraft, Offers, ReceivesAll, Feeds, Reads, Looks, Meets, Settles, Turn, OneTurn, Turns, Leaves, Runs}
 
 -- ---- an answer
 
@@ -64,7 +64,7 @@ AnswersFrame-blames id rules new frame s calls r to (answering.judged i told d) 
 
 Moves-blames : (id : Identity) (before : ℕ) → Blaming blame_of (Moves id before)
 Moves-blames id before s calls r to (answering.stays e) = tt
-Moves-blames id before s calls r to (answering.moves e d) = Answers-blames id _ s calls r to d
+Moves-blames id before s calls r to (answering.moves e d) = Answers-blames id (Moved (is_some (waits_at (expected_of s) s.waiting))) s calls r to d
 
 Round-blames : (id : Identity) (rules : RulesSeen) (new : Bool) (frame : List ℕ) → Blaming blame_of (Round id rules new frame)
 Round-blames id rules new frame s calls r to d =
@@ -73,7 +73,7 @@ Round-blames id rules new frame s calls r to d =
 While-blames : {S X : Type 0} (next : S → Option X) (go : S → S) (R : S → X → List Call → Result ⊤ Ending → S → Type 0) → ((x : X) → Blaming blame_of (λ s. R s x))
     → Blaming blame_of (While next go R)
 While-blames next go R one s calls r to (waiting.rests e) = tt
-While-blames next go R one s calls r to (waiting.stops {calls = calls} {e = e} x is d) = one x (go s) calls (Err e) to d
+While-blames next go R one s calls r to (waiting.stops {calls = these} {e = e} x is d) = one x (go s) these (Err e) to d
 While-blames next go R one s calls r to (waiting.goes_on {mid = mid} {first = first} {more = more} x is d k) = Blames-after blame_of r first more (While-blames next go R one mid more r to k)
 
 CatchesUp-blames : (id : Identity) (rules : RulesSeen) → Blaming blame_of (CatchesUp id rules)
@@ -93,7 +93,7 @@ Beside-blames R one w calls r to (goes_well d) = tt
 Beside-blames R one w calls r to (fails {s = s} {e = e} d) = one w.state calls (Err e) s d
 
 Noted-blames : (id : Identity) → Blaming blame_of (Noted id)
-Noted-blames id s calls r to d = Answers-blames id _ s calls r to d
+Noted-blames id s calls r to d = Answers-blames id (Wrote s.sender.numbers.reading) s calls r to d
 
 StagesDraft-blames : (id : Identity) → Blaming blame_of (StagesDraft id)
 StagesDraft-blames id s calls r to (turns.no_draft e) = tt
@@ -108,7 +108,7 @@ OffersDraft-blames id s calls r to (turns.asks {calls = more} draft e d) = after
 OffersDraft-blames id s calls r to (turns.in_hand e d) = StagesDraft-blames id s calls r to d
 
 Offers-blames : (id : Identity) → Blaming blame_of (Offers id)
-Offers-blames id s calls r to (turns.logs_on e d) = Answers-blames id _ _ calls r to d
+Offers-blames id s calls r to (turns.logs_on e d) = Answers-blames id First (logged_on s) calls r to d
 Offers-blames id s calls r to (turns.not_up e f) = tt
 Offers-blames id s calls r to (turns.is_up e f d) = OffersDraft-blames id s calls r to d
 
@@ -130,7 +130,7 @@ Reads-blames id rules w calls r to turns.read_lost = omega arith
 Reads-blames id rules w calls r to turns.read_memory = tt
 
 Looks-blames : (id : Identity) → Blaming blame_of (Looks id)
-Looks-blames id s calls r to (turns.looks {calls = more} time d) = Blames-after blame_of r (Look (Ok time) ∷ []) more (Answers-blames id _ _ more r to d)
+Looks-blames id s calls r to (turns.looks {calls = more} time d) = Blames-after blame_of r (Look (Ok time) ∷ []) more (Answers-blames id (Clock time true) (read_at s time) more r to d)
 Looks-blames id s calls r to (turns.look_memory e) = tt
 
 Meets-blames : (id : Identity) (rules : RulesSeen) → Blaming blame_of (Meets id rules)
