@@ -8,16 +8,15 @@ use Rattle.std.specs.Fmt.{decimal}
 use Rattle.std.proofs.lemmas.Fmt.{length-decimal-le}
 use Rattle.fix_base.specs.declared.identity.Identity.{Identity}
 use Rattle.fix_base.specs.Session.{IsValidIdentity}
-use Rattle.fix_base.specs.Lists.{IsPrefixOf}
 use Rattle.fix_base.specs.Front.{Begins}
 use Rattle.fix_base.specs.Frame.{HasNoSoh}
-use Rattle.fix_base.specs.Fields.{Field, IsField, FieldsAfter, data_after}
+use Rattle.fix_base.specs.Fields.{Field, IsField, FieldsAfter}
 use Rattle.fix_base.specs.Sealed.{sealed}
 use Rattle.fix_base.specs.Says.{field_text, fields_text}
 use Rattle.fix_base.specs.Payload.{field, IsBodyOf, IsAppPayload, LONGEST_BODY, LAST_TIME}
 use Rattle.fix_base.specs.Times.{IsTimeTextOf}
 use Rattle.fix_base.specs.Wrote.{IsSealed, repeat_fields}
-use Rattle.fix_base.proofs.PlainFields.{IsPlainField, plain_announces_nothing, plain_fields}
+use Rattle.fix_base.proofs.PlainFields.{plain_announces_nothing, plain_fields}
 use Rattle.fix_base.proofs.ShortFields.{clear_of, comp_id_clear, comp_id_short, short_fields}
 use Rattle.fix_base.proofs.TimeTexts.{time_text_no_soh}
 use Rattle.fix_base.proofs.FieldLists.{field_same}
@@ -49,7 +48,7 @@ rest_fields body type fields h =
     let same = field_same None (field 35 type) (field 35 type) body h.fields.1 (fields_text fields) first
     (body_begins body type fields h) in
     subst (λ (t : List ℕ). FieldsAfter None t fields) same.1
-        (subst (λ (due : _). FieldsAfter due h.fields.1 fields) (plain_announces_nothing (field 35 type) refl) h.fields.4)
+    (subst (λ (due : _). FieldsAfter due h.fields.1 fields) (plain_announces_nothing (field 35 type) refl) h.fields.4)
 
 some_long : (type : List ℕ) → (type ≡ [] → ⊥) → 0 < length type
 some_long [] h = absurd (h refl)
@@ -269,7 +268,7 @@ pub repeat_frame : (id : Identity) (n time : ℕ) (body : List ℕ) (t : ℕ) (a
 repeat_frame id n time body t at was type rest p =
     let s = p.split in
     subst (λ (w : List ℕ). IsRepeatFrame id n time body t
-        (sealed id.begin (message_text type (fields_text (marked_fields id n at was)) w))) (sym s.spelled)
+    (sealed id.begin (message_text type (fields_text (marked_fields id n at was)) w))) (sym s.spelled)
     (record {
       is = record {
         type = type;
@@ -352,7 +351,7 @@ gap_frame id n m t at p = record {
 
 pub gap_sealed : (id : Identity) (n m t : ℕ) (at : List ℕ) (r : Result (List ℕ) OutOfMemory) → GapParts id n m t at
     → IfOk r (λ text. text ≡ sealed id.begin
-        (message_text (codes "4") (fields_text (marked_fields id n at at)) (fields_text (gap_rest_fields m))))
+    (message_text (codes "4") (fields_text (marked_fields id n at at)) (fields_text (gap_rest_fields m))))
     → IfOk r (IsGapFrame id n m t)
 gap_sealed id n m t at (Ok text) p h = subst (IsGapFrame id n m t) (sym h) (gap_frame id n m t at p)
 gap_sealed id n m t at (Err e) p h = tt
@@ -364,15 +363,17 @@ pub some_repeat : (id : Identity) (n time : ℕ) (body : List ℕ) (t : ℕ) →
 some_repeat id n time body t valid small h low =
     let at = each_time t low in
     let was = each_time time h.time_fits in
-    let s = may_split time body h in
-    (_, repeat_frame id n time body t at.0 was.0 s.0 s.1 (record {
-      valid = valid;
-      small = small;
-      payload = h;
-      sent_at = at.1;
-      sent_first_at = was.1;
-      split = s.2;
-    }))
+    let s = may_split time body h in (
+      _,
+      repeat_frame id n time body t at.0 was.0 s.0 s.1 (record {
+        valid = valid;
+        small = small;
+        payload = h;
+        sent_at = at.1;
+        sent_first_at = was.1;
+        split = s.2;
+      }),
+    )
 
 pub some_gap : (id : Identity) (n m t : ℕ) → IsValidIdentity id → n ≤ 999999999 → m ≤ 1000000000 → t ≤ LAST_TIME
     → (text : List ℕ) × IsGapFrame id n m t text

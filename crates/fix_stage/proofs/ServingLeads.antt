@@ -1,9 +1,9 @@
 -- Serving a ResendRequest is a run of a lawful end.
-use Rattle.std.proofs.Common.{◌≡◌, ◌≢◌, ◌⊎◌, inl, inr, ℕ, zero, suc, ◌+◌, ◌-◌, ◌<◌, ◌≤◌, ◌==◌, codes, List, [], ◌∷◌, ◌++◌, length}
+use Rattle.std.proofs.Common.{◌≡◌, ◌⊎◌, inl, inr, ℕ, zero, suc, ◌+◌, ◌-◌, ◌<◌, ◌≤◌, ◌==◌, codes, List, [], ◌∷◌, ◌++◌, length}
 use Rattle.std.proofs.Common.{take, get_or, Bool, true, false, Some, None, Result, Ok, Err, refl, sym, ◌∙◌, ap, subst, arith}
 use Rattle.std.specs.Prelude.{⊤}
 use Rattle.std.specs.Fmt.{decimal}
-use Rattle.std.proofs.lemmas.Bool.{eqb-true, eqb-false, cases_lt}
+use Rattle.std.proofs.lemmas.Bool.{eqb-false, cases_lt}
 use Rattle.fix_base.specs.Lists.{Among, here}
 use Rattle.fix_base.specs.declared.identity.Identity.{Identity}
 use Rattle.fix_base.specs.declared.entry.By.{By}
@@ -37,9 +37,10 @@ use Rattle.fix_stage.specs.declared.fault.StageFault.TheVariants as fault
 use Rattle.fix_stage.specs.Flush as flush
 use Rattle.fix_stage.specs.Flush.{WroteOne}
 use Rattle.fix_stage.specs.Serving as serving
-use Rattle.fix_stage.specs.Serving.{opened, WroteGap, WroteRepeat, Withholding, AppServed, ServedOne, numbers, last_served, asked_for, Served}
-use Rattle.fix_stage.specs.Lawful.{IsCertain, IsOn, Level, Bare, MayServeAt, LawfulRunTo, After, LeadsFrom, AfterServe}
-use Rattle.fix_stage.proofs.LeadsLemmas.{leads_nowhere, leads_step, leads_call, leads_lost, leads_on, leads_weaker, then_leads}
+use Rattle.fix_stage.specs.Serving.{opened, WroteGap, WroteRepeat, Withholding, AppServed, ServedOne, numbers, last_served, Served}
+use Rattle.fix_stage.specs.Lawful.{IsCertain, Level, Bare, LawfulRunTo, After, LeadsFrom}
+use Rattle.fix_stage.specs.LawfulServing.{MayServeAt, AfterServe}
+use Rattle.fix_stage.proofs.LeadsLemmas.{leads_nowhere, leads_step, leads_call, leads_lost, leads_on, leads_weaker}
 use Rattle.fix_stage.proofs.PlainLemmas.{plain_more, sealed_free, no_logon}
 use Rattle.fix_stage.proofs.ServingLemmas.{numbers-none, low_served}
 use Rattle.fix_stage.proofs.WriteLeads.{StillOpen, IsWriteFault, AfterWrite, Goes, all_wrote, some_wrote, all_rule, some_rule, writing, connected}
@@ -169,12 +170,6 @@ module _ (id : Identity) (read given : List ℕ) (m : ℕ) (b : Sender) (empty :
       → WroteOne tt (Some text) calls r u → LawfulRunTo id e calls (AfterWrite id r e l.on.connection)
   write_leads e l text calls r u next frame free d = by calls r u d
     where
-      c : steps.Connection
-      c = l.on.connection
-
-      n : ℕ
-      n = l.on.last
-
       g : Goes id l.on.last e l.on.connection text
       g = record {
         whole = whole_more id l.on.connection.opened e.end l.on.last l.on.last l.on.connection.written text next l.on.whole;

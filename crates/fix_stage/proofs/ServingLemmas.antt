@@ -1,6 +1,6 @@
 -- What holds of serving a ResendRequest: its loop, its causes; it has an end, and goes on where it was out of memory.
 use Rattle.std.proofs.Common.{◌≡◌, ◌≢◌, ℕ, zero, suc, ◌+◌, ◌-◌, ◌<◌, ◌≤◌, ◌==◌, ◌||◌, nat_lt, if◌then◌else◌, List, [], ◌∷◌}
-use Rattle.std.proofs.Common.{◌++◌, Bool, true, false, Some, Result, Ok, Err, refl, sym, ap, subst, append_assoc, arith, inl, inr, ◌∙◌}
+use Rattle.std.proofs.Common.{◌++◌, Bool, true, false, Option, Some, Result, Ok, Err, refl, sym, ap, subst, append_assoc, arith, inl, inr, ◌∙◌}
 use Rattle.std.specs.Prelude.{⊤}
 use Rattle.std.specs.List.{AllByRecursion}
 use Rattle.std.proofs.lemmas.Bool.{eqb-true, eqb-false, ltb-false, cases_lt}
@@ -16,20 +16,23 @@ use Rattle.fix_outside.specs.declared.outside.FetchFault.TheVariants as fetch
 use Rattle.fix_outside.specs.declared.outside.Kind.TheVariants as kind
 use Rattle.fix_outside.specs.Outside.{IsFetchedApp, NamesApp}
 use Rattle.fix_outside.specs.Calls.{Call, Keep, Fetch, Again, Called, HasCalls}
+use Rattle.fix_stage.specs.Combine as combine
 use Rattle.fix_stage.specs.Combine.{Each, AndThen}
 use Rattle.fix_stage.specs.Sender.{Sender, StageFault}
-use Rattle.fix_stage.specs.declared.fault.StageFault.TheVariants as fault
+use Rattle.fix_stage.specs.Flush as flush
 use Rattle.fix_stage.specs.Flush.{WroteOne}
+use Rattle.fix_stage.specs.Sendings.{IsServing, serving_fetches, serving_asks, serving_keeps, serving_writes}
 use Rattle.fix_stage.specs.Causes.{Blaming, blame_of}
-use Rattle.fix_stage.specs.Stated.{Onward, keeping, fetching, asking, at_a_call, alone, Total, Resumes, Stays, IsTimely, MayServe}
+use Rattle.fix_stage.specs.Stated.{Onward, keeping, fetching, asking, at_a_call, Total, Resumes, Stays, MayServe}
 use Rattle.fix_stage.specs.Serving as serving
 use Rattle.fix_stage.specs.Serving.{opened, WroteGap, WroteRepeat, Withholding, AppServed, ServedOne, numbers, last_served, asked_for, Served}
-use Rattle.fix_stage.proofs.FoldLemmas.{SoFar, started, goes_on, stopped, finished}
+use Rattle.fix_stage.proofs.FoldLemmas.{SoFar, goes_on, stopped, finished}
 use Rattle.fix_stage.proofs.CombineLemmas.{Each-blames, Then-blames, Blames-after, went_well, onward_as, short_after}
 use Rattle.fix_stage.proofs.CombineLemmas.{short_alone, short_at, would_as, each_total, each_resumes_fit, each_stays_fit}
-use Rattle.fix_stage.proofs.CombineLemmas.{then_total, then_resumes, IsFaultless-append}
+use Rattle.fix_stage.proofs.CombineLemmas.{then_resumes, IsFaultless-append}
 use Rattle.fix_stage.proofs.SendingLemmas.{OM, always, WroteOne-blames, wrote_total, wrote_resumes}
 use Rattle.fix_stage.proofs.RepeatLemmas.{some_repeat, some_gap}
+use Rattle.fix_stage.proofs.SendsLemmas.{all-append}
 
 -- ---- a loop over numbers
 
@@ -152,6 +155,74 @@ Served-blames id from to b calls r b' (serving.serve_ends {g = g} {e = e} d) =
 Served-blames id from to b calls r b' (serving.serves {g = g} {first = first} {more = more} d w) =
     Blames-after blame_of r first more
     (WroteGap-blames id b.numbers.reading g (last_served b.numbers.last to + 1) tt more r tt w)
+
+-- ---- which calls are made
+
+written_serves : (frame : Option (List ℕ)) (u to : ⊤) (calls : List Call) (r : Result ⊤ StageFault)
+    → WroteOne u frame calls r to → AllByRecursion IsServing calls
+written_serves frame u to calls r flush.no_frame = tt
+written_serves frame u to calls r (flush.wrote text) = (serving_writes _ _, tt)
+written_serves frame u to calls r (flush.write_lost text sent) = (serving_writes _ _, tt)
+written_serves frame u to calls r (flush.write_memory text) = (serving_writes _ _, tt)
+
+gap_serves : (id : Identity) (t g n : ℕ) (u to : ⊤) (calls : List Call) (r : Result ⊤ StageFault)
+    → WroteGap id t g n u calls r to → AllByRecursion IsServing calls
+gap_serves id t g n u to calls r (serving.no_gap h) = tt
+gap_serves id t g n u to calls r (serving.gap_written frame h is d) = written_serves (Some frame) u to calls r d
+gap_serves id t g n u to calls r (serving.gap_memory h) = tt
+
+repeat_serves : (id : Identity) (t n time : ℕ) (body : List ℕ) (u to : ⊤) (calls : List Call) (r : Result ⊤ StageFault)
+    → WroteRepeat id t n time body u calls r to → AllByRecursion IsServing calls
+repeat_serves id t n time body u to calls r (serving.repeat_written frame is d) = written_serves (Some frame) u to calls r d
+repeat_serves id t n time body u to calls r serving.repeat_memory = tt
+
+both_serve : (id : Identity) (t g n time : ℕ) (body : List ℕ) (u to : ⊤) (calls : List Call) (r : Result ⊤ StageFault)
+    → AndThen (WroteGap id t g n) (WroteRepeat id t n time body) u calls r to → AllByRecursion IsServing calls
+both_serve id t g n time body u to calls r (combine.first_ends {e = e} d) = gap_serves id t g n u to calls (Err e) d
+both_serve id t g n time body u to calls r (combine.both {mid = mid} {first = first} {more = more} d k) =
+    all-append IsServing first more (gap_serves id t g n u mid first (Ok tt) d)
+    (repeat_serves id t n time body mid to more r k)
+
+withholding_serves : (n : ℕ) (u to : ⊤) (calls : List Call) (r : Result ⊤ StageFault) → Withholding n u calls r to
+    → AllByRecursion IsServing calls
+withholding_serves n u to calls r serving.withheld_kept = (serving_keeps _ _, tt)
+withholding_serves n u to calls r serving.withheld_lost = (serving_keeps _ _, tt)
+withholding_serves n u to calls r serving.withheld_memory = (serving_keeps _ _, tt)
+
+app_serves : (id : Identity) (t n time : ℕ) (body : List ℕ) (g to : ℕ) (calls : List Call) (r : Result ⊤ StageFault)
+    → AppServed id t n time body g calls r to → AllByRecursion IsServing calls
+app_serves id t n time body g to calls r (serving.sends {calls = more} d) =
+    (serving_asks _ _ _, both_serve id t g n time body tt tt more r d)
+app_serves id t n time body g to calls r (serving.withholds {calls = more} d) =
+    (serving_asks _ _ _, withholding_serves n tt tt more (Ok tt) d)
+app_serves id t n time body g to calls r (serving.not_withheld {calls = more} {e = e} d) =
+    (serving_asks _ _ _, withholding_serves n tt tt more (Err e) d)
+app_serves id t n time body g to calls r serving.not_asked = (serving_asks _ _ _, tt)
+
+one_serves : (id : Identity) (t n g to : ℕ) (calls : List Call) (r : Result ⊤ StageFault) → ServedOne id t g n calls r to
+    → AllByRecursion IsServing calls
+one_serves id t n g to calls r (serving.app {calls = more} time body is d) =
+    (serving_fetches _ _ _, app_serves id t n time body g to more r d)
+one_serves id t n g to calls r (serving.admin body) = (serving_fetches _ _ _, tt)
+one_serves id t n g to calls r (serving.withheld body) = (serving_fetches _ _ _, tt)
+one_serves id t n g to calls r (serving.fetch_lost body) = (serving_fetches _ _ _, tt)
+one_serves id t n g to calls r (serving.fetch_memory body) = (serving_fetches _ _ _, tt)
+
+each_serves : (id : Identity) (t : ℕ) (xs : List ℕ) (g to : ℕ) (calls : List Call) (r : Result ⊤ StageFault)
+    → Each (ServedOne id t) g xs calls r to → AllByRecursion IsServing calls
+each_serves id t [] g to calls r combine.none = tt
+each_serves id t (x ∷ xs) g to calls r (combine.ends {e = e} d) = one_serves id t x g to calls (Err e) d
+each_serves id t (x ∷ xs) g to calls r (combine.goes {mid = mid} {first = first} {more = more} d k) =
+    all-append IsServing first more (one_serves id t x g mid first (Ok tt) d) (each_serves id t xs mid to more r k)
+
+pub served_serves : (id : Identity) (from to : ℕ) (b : Sender) (calls : List Call) (r : Result ⊤ StageFault) (after : Sender)
+    → Served id from to b calls r after → AllByRecursion IsServing calls
+served_serves id from to b calls r after (serving.serve_ends {g = g} {e = e} d) =
+    each_serves id b.numbers.reading (asked_for b.numbers.last from to) 0 g calls (Err e) d
+served_serves id from to b calls r after (serving.serves {g = g} {first = first} {more = more} d w) =
+    all-append IsServing first more
+    (each_serves id b.numbers.reading (asked_for b.numbers.last from to) 0 g first (Ok tt) d)
+    (gap_serves id b.numbers.reading g (last_served b.numbers.last to + 1) tt tt more r w)
 
 -- ---- what stays
 

@@ -5,7 +5,6 @@ use Rattle.fix_base.specs.Lists.{Among}
 use Rattle.fix_base.specs.declared.identity.Identity.{Identity}
 use Rattle.fix_base.specs.declared.entry.Entry.{Entry}
 use Rattle.fix_base.specs.declared.entry.Record.{Record}
-use Rattle.fix_base.specs.declared.entry.Record.TheVariants.{Withhold}
 use Rattle.fix_base.specs.declared.act.Act.{Act}
 use Rattle.fix_base.specs.Shape.{IsFrame}
 use Rattle.fix_base.specs.Says.{joined}
@@ -31,13 +30,6 @@ pub record HasKept (n : Numbers) (e : EndState) : Type 0 where
 pub record IsCertain (n : Numbers) (e : EndState) : Type 0 where
   pub doubt : e.doubt ≡ None
   pub kept : HasKept n e
-
--- a number that is withheld is in doubt, and else the end has what the session has kept
-pub record IsWithholdInDoubt (b : Sender) (e : EndState) : Type 0 where
-  pub kept : HasKept b.numbers e
-  pub number : ℕ
-  pub doubt : e.doubt ≡ Some (Withhold number)
-  pub closed : e.connection ≡ None
 
 -- a record of what was staged is in doubt, and else the end has what the session has kept
 pub record IsInDoubt (b : Sender) (e : EndState) : Type 0 where
@@ -116,12 +108,6 @@ pub record Level (id : Identity) (read given : List ℕ) (n : ℕ) (b : Sender) 
   pub expected : b.numbers.expected ≡ n
   pub frames : AreOriginals id b.numbers.last b.stage.entries b.stage.frames
 
--- the same, with nothing staged, of a session whose numbers are MsgSeqNums: a ResendRequest may be served
-pub record MayServeAt (id : Identity) (read given : List ℕ) (n : ℕ) (b : Sender) (e : EndState) : Type 0 where
-  pub level : Level id read given n b e
-  pub empty : b.stage ≡ no_stage
-  pub last : b.numbers.last ≤ 999999999
-
 -- there are no frames
 abbrev pub AreUnwritten : List (Option (List ℕ)) → Type 0
 AreUnwritten [] = ⊤
@@ -184,11 +170,3 @@ AfterApart NumbersSpent b e = Bare b e
 AfterApart OutOfMemory b e = IsCertain b.numbers e
 AfterApart StoreFault b e = IsInDoubt b e
 AfterApart LinkFault b e = ⊥
-
--- the end after a fault of serving a ResendRequest: no message is staged, so none takes a number. Where the store failed
--- at a fetch nothing is in doubt
-abbrev pub AfterServe : StageFault → Sender → EndState → Type 0
-AfterServe NumbersSpent b e = ⊥
-AfterServe OutOfMemory b e = IsCertain b.numbers e
-AfterServe StoreFault b e = IsWithholdInDoubt b e ⊎ Bare b e
-AfterServe LinkFault b e = Bare b e

@@ -10,3 +10,4 @@ pub mod Sendings
 pub mod Causes
 pub mod Stated
 pub mod Lawful
+pub mod LawfulServing

@@ -11,10 +11,11 @@ ghost use Rattle.fix_stage.specs.Flush.{Flushed, Settled};
 ghost use Rattle.fix_stage.specs.Outgoing.{Outgoing, IsOutgoing};
 ghost use Rattle.fix_stage.specs.Staging.{Staging, MakesAndStages, StagesPending};
 ghost use Rattle.fix_stage.specs.Serving.{Served};
-ghost use Rattle.fix_stage.specs.Sendings.{SendsOnly};
+ghost use Rattle.fix_stage.specs.Sendings.{SendsOnly, IsServing};
 ghost use Rattle.fix_stage.specs.Stated.{Total, Resumes, Stays, IsTimely, MayServe};
 ghost use Rattle.fix_stage.specs.Lawful.{AsksNoReset, Fits, Level, Apart, Bare, LawfulRunTo, After, AfterFault};
-ghost use Rattle.fix_stage.specs.Lawful.{AfterApart, LeadsFrom, MayServeAt, AfterServe};
+ghost use Rattle.fix_stage.specs.Lawful.{AfterApart, LeadsFrom};
+ghost use Rattle.fix_stage.specs.LawfulServing.{MayServeAt, AfterServe};
 
 /// A flush is a run of a lawful end: whatever end is in step with the session before it, its acts are a run of
 /// that end. Where it goes well the end has passed what the session has counted.
@@ -92,4 +93,10 @@ pub fn what_is_served_has_an_end()
     ensures ends { (id : Identity) → IsValidIdentity id → (from to : ℕ)
         → Total StageFault.OutOfMemory MayServe (Served id from to) }
     ensures stays { (id : Identity) (from to : ℕ) → Stays MayServe (Served id from to) }
+{}
+
+/// Serving fetches, asks the application, keeps what that withholds, and writes. It does nothing else.
+pub fn serving_keeps_only_what_is_withheld()
+    ensures { (id : Identity) (from to : ℕ) (b : Sender) (calls : List Call) (r : Result ⊤ StageFault) (after : Sender)
+        → Served id from to b calls r after → AllByRecursion IsServing calls }
 {}

@@ -1,5 +1,5 @@
 //! The frames that answer a ResendRequest (2): a message that is sent again, and a gap fill. `serving` writes them.
-ghost use Rattle.std.specs.Prelude.{◌≡◌, ◌≤◌, codes, IfOk, length};
+ghost use Rattle.std.specs.Prelude.{◌≡◌, ◌≤◌, IfOk, length};
 ghost use Rattle.fix_base.specs.Session.{IsValidIdentity};
 ghost use Rattle.fix_base.specs.Payload.{IsAppPayload, LAST_TIME};
 ghost use Rattle.fix_base.specs.Says.{fields_text};

@@ -1,5 +1,5 @@
 //! That with memory and no fault a ResendRequest is served: the texts are those that FIX asks for, made by hand.
-ghost use Rattle.std.specs.Prelude.{◌≡◌, ◌≤◌, Some, None, [], false, IsTrue, IfOk};
+ghost use Rattle.std.specs.Prelude.{◌≡◌, ◌≤◌, Some, None, [], false, IsTrue, IfOk, OnOk};
 ghost use Rattle.fix_base.specs.Session.{IsValidIdentity};
 ghost use Rattle.fix_base.specs.Payload.{IsAppPayload};
 ghost use Rattle.fix_stage.specs.Sender.{IsInRange};
@@ -63,23 +63,36 @@ struct Shelf {
     written: Vec<u8>,
 }
 
+// The body that an entry has, if it has one.
+fn body_of(held: Held) -> &'static [u8] {
+    match held {
+        Held::Admin => b"",
+        Held::Order => ORDER,
+        Held::Report => REPORT,
+        Held::Withheld => b"",
+    }
+}
+
 // The body is that of a message that may be kept.
 fn is_sent_body(body: &[u8]) -> bool
     ensures { IsTrue result → IsAppPayload 1704189540000000 body.now }
 {
-    body.len() <= 100 && is_entry_body(body)
+    if body.len() > 100 {
+        return false;
+    }
+    is_entry_body(body)
 }
 
-// Puts the body into the place of what was there.
-fn fetch_body(body: &[u8], into: &mut Vec<u8>) -> Result<Kind, FetchFault> {
+// Puts the body of a message that may be kept into the place of what was there.
+fn put_body(body: &[u8], into: &mut Vec<u8>) -> Result<(), OutOfMemory>
+    ensures { OnOk result (IsAppPayload 1704189540000000 into.new.items) }
+{
     if !is_sent_body(body) {
-        return Err(FetchFault::OutOfMemory);
+        return Err(OutOfMemory);
     }
     into.clear();
-    match into.extend_from_slice(body) {
-        Ok(()) => Ok(Kind::App { time: FIRST_TIME }),
-        Err(_) => Err(FetchFault::OutOfMemory),
-    }
+    into.extend_from_slice(body)?;
+    Ok(())
 }
 
 // The number is withheld.
@@ -157,17 +170,17 @@ impl Outside for Shelf {
         let Some(held) = self.entries.get(n.get() as usize - 1) else {
             return Err(FetchFault::OutOfMemory);
         };
-        match *held {
-            Held::Admin => {
-                into.clear();
-                Ok(Kind::Admin)
-            }
-            Held::Withheld => {
-                into.clear();
-                Ok(Kind::Withheld)
-            }
-            Held::Order => fetch_body(ORDER, into),
-            Held::Report => fetch_body(REPORT, into),
+        if *held == Held::Admin {
+            into.clear();
+            return Ok(Kind::Admin);
+        }
+        if *held == Held::Withheld {
+            into.clear();
+            return Ok(Kind::Withheld);
+        }
+        match put_body(body_of(*held), into) {
+            Ok(()) => Ok(Kind::App { time: FIRST_TIME }),
+            Err(_) => Err(FetchFault::OutOfMemory),
         }
     }
 
@@ -188,7 +201,7 @@ impl Outside for Shelf {
     }
 }
 
-fn shelf(alloc: Global, entries: &[Held], withholds: bool) -> Result<Shelf, Fail>
+fn new_shelf(alloc: Global, entries: &[Held], withholds: bool) -> Result<Shelf, Fail>
     ensures { IfOk result (λ shelf. shelf.last ≡ 4) }
 {
     Ok(Shelf {
@@ -243,7 +256,7 @@ fn each_message_goes_again_and_runs_of_others_are_passed_over(rt: HostRuntime) -
     let context = sample_context(alloc)?;
     let sender = session_of_four(alloc);
     let entries = [Held::Admin, Held::Order, Held::Admin, Held::Admin];
-    let mut o = shelf(alloc, &entries, false)?;
+    let mut o = new_shelf(alloc, &entries, false)?;
     request(&mut o, &context, &sender, 1, 0)?;
     assert_eq!(rt; (o.asked, o.keeps, o.writes), (1, 0, 3));
     assert!(rt; o.written.as_slice().starts_with(GAP_1_TO_2));
@@ -262,7 +275,7 @@ fn above_the_last_number_nothing_is_written(rt: HostRuntime) -> Result<(), Fail>
     let context = sample_context(alloc)?;
     let sender = session_of_four(alloc);
     let entries = [Held::Admin, Held::Order, Held::Admin, Held::Admin];
-    let mut o = shelf(alloc, &entries, false)?;
+    let mut o = new_shelf(alloc, &entries, false)?;
     request(&mut o, &context, &sender, 9, 0)?;
     assert_eq!(rt; (o.asked, o.keeps, o.writes), (0, 0, 0));
     Ok(())
@@ -275,14 +288,17 @@ fn withheld_orders_are_passed_over_now_and_later(rt: HostRuntime) -> Result<(), 
     let context = sample_context(alloc)?;
     let sender = session_of_four(alloc);
     let entries = [Held::Admin, Held::Order, Held::Report, Held::Order];
-    let mut o = shelf(alloc, &entries, true)?;
+    let mut o = new_shelf(alloc, &entries, true)?;
     request(&mut o, &context, &sender, 1, 0)?;
     assert_eq!(rt; (o.asked, o.keeps, o.writes), (3, 2, 3));
     assert!(rt; o.written.as_slice().starts_with(GAP_1_TO_3));
     assert!(rt; o.written[GAP_1_TO_3.len()..].starts_with(REPORT_AGAIN));
     assert!(rt; o.written.as_slice().ends_with(GAP_4_TO_5));
     let once = o.written.len();
-    assert_eq!(rt; once, GAP_1_TO_3.len() + REPORT_AGAIN.len() + GAP_4_TO_5.len());
+    assert_eq!(rt;
+        once,
+        GAP_1_TO_3.len() + REPORT_AGAIN.len() + GAP_4_TO_5.len()
+    );
     request(&mut o, &context, &sender, 1, 0)?;
     assert_eq!(rt; (o.asked, o.keeps, o.writes), (4, 2, 6));
     assert_eq!(rt; o.written.len(), once + once);

@@ -1,4 +1,4 @@
-use Rattle.fix_stage.proofs.RepeatLemmas.{GapParts, gap_sealable, gap_short, gap_sealed}
+use Rattle.fix_stage.proofs.RepeatLemmas.{gap_sealable, gap_short, gap_sealed}
 use Rattle.fix_stage.proofs.repeating.gap_fill_of.Goals as goal
 
 pub seal_short-requires-clause-sealable : goal.seal_short-requires-clause-sealable

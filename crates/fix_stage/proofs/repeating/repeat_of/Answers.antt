@@ -1,4 +1,4 @@
-use Rattle.fix_stage.proofs.RepeatLemmas.{may_split, RepeatParts, repeat_sealable, repeat_short, repeat_sealed}
+use Rattle.fix_stage.proofs.RepeatLemmas.{may_split, repeat_sealable, repeat_short, repeat_sealed}
 use Rattle.fix_stage.proofs.repeating.repeat_of.Goals as goal
 
 pub kind_and_rest-requires : goal.kind_and_rest-requires

@@ -12,7 +12,7 @@ pub again-requires : goal.again-requires
 again-requires g c = kind_of_split _ _ _ c.kind_and_rest.ensures
 
 pub returns-in-Send-clause-calls : goal.returns-in-Send-clause-calls
-returns-in-Send-clause-calls g c = 
+returns-in-Send-clause-calls g c =
     let h = rw c.get.ensures.value at c.close_and_repeat.ensures.calls in
     (_, Called-append _ _ _ _ _ c.in-Send.ensures.called h.1, sends h.2)
 
