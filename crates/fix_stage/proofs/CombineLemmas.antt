@@ -182,15 +182,16 @@ module _ {S E : Type 0} (memory : E) (Good : S → Type 0) where
     each_stays stays (x ∷ xs) s calls r s' ok (goes {mid = mid} {first = a} {more = b} d k) =
         each_stays stays xs mid b r s' (stays x s a (Ok tt) mid ok d) k
 
-    pub each_resumes : (Fit : X → Type 0) → ((x : X) → Fit x → Total memory Good (λ s. R s x))
-        → ((x : X) → Fit x → Resumes memory Good (λ s. R s x)) → ((x : X) → Stays Good (λ s. R s x)) → (xs : List X)
-        → AllByRecursion Fit xs → Resumes memory Good (λ s. Each R s xs)
-    each_resumes Fit one again stays [] fit s calls s' ok d = elim d [ ]
-    each_resumes Fit one again stays (x ∷ xs) fit s calls s' ok (ends d) =
+    -- where an item that fits keeps the state good
+    pub each_resumes_fit : (Fit : X → Type 0) → ((x : X) → Fit x → Total memory Good (λ s. R s x))
+        → ((x : X) → Fit x → Resumes memory Good (λ s. R s x)) → ((x : X) → Fit x → Stays Good (λ s. R s x))
+        → (xs : List X) → AllByRecursion Fit xs → Resumes memory Good (λ s. Each R s xs)
+    each_resumes_fit Fit one again stays [] fit s calls s' ok d = elim d [ ]
+    each_resumes_fit Fit one again stays (x ∷ xs) fit s calls s' ok (ends d) =
         λ k. again x fit.0 s calls s' ok d (λ t. k (would_as (λ s. R s x) (λ s. Each R s (x ∷ xs)) s s calls
         (λ calls g. each_onward x xs s calls (each_total Fit one xs fit.1) g) t))
-    each_resumes Fit one again stays (x ∷ xs) fit s calls s' ok (goes {mid = mid} {first = a} {more = b} d k) =
-        λ hold. each_resumes Fit one again stays xs fit.1 mid b s' (stays x s a (Ok tt) mid ok d) k
+    each_resumes_fit Fit one again stays (x ∷ xs) fit s calls s' ok (goes {mid = mid} {first = a} {more = b} d k) =
+        λ hold. each_resumes_fit Fit one again stays xs fit.1 mid b s' (stays x fit.0 s a (Ok tt) mid ok d) k
         (λ w. hold (would_after (λ s. Each R s xs) (λ s. Each R s (x ∷ xs)) mid s a b (λ calls t. record {
           more = t.more;
           faultless = t.faultless;
@@ -200,6 +201,18 @@ module _ {S E : Type 0} (memory : E) (Good : S → Type 0) where
           whole = subst (λ l. Each R s (x ∷ xs) l t.r t.to) (sym (append_assoc a calls t.more)) (goes d t.whole);
           no_want = t.no_want;
         }) w))
+
+    pub each_resumes : (Fit : X → Type 0) → ((x : X) → Fit x → Total memory Good (λ s. R s x))
+        → ((x : X) → Fit x → Resumes memory Good (λ s. R s x)) → ((x : X) → Stays Good (λ s. R s x)) → (xs : List X)
+        → AllByRecursion Fit xs → Resumes memory Good (λ s. Each R s xs)
+    each_resumes Fit one again stays xs fit = each_resumes_fit Fit one again (λ x f. stays x) xs fit
+
+    pub each_stays_fit : (Fit : X → Type 0) → ((x : X) → Fit x → Stays Good (λ s. R s x)) → (xs : List X)
+        → AllByRecursion Fit xs → Stays Good (λ s. Each R s xs)
+    each_stays_fit Fit stays [] fit s calls r s' ok none = ok
+    each_stays_fit Fit stays (x ∷ xs) fit s calls r s' ok (ends {e = e} d) = stays x fit.0 s calls (Err e) s' ok d
+    each_stays_fit Fit stays (x ∷ xs) fit s calls r s' ok (goes {mid = mid} {first = a} {more = b} d k) =
+        each_stays_fit Fit stays xs fit.1 mid b r s' (stays x fit.0 s a (Ok tt) mid ok d) k
 
   module _ (A B : S → List Call → Result ⊤ E → S → Type 0) where
     then_onward : Total memory Good B → (s : S) (calls : List Call) → Onward memory Good A s calls

@@ -3,7 +3,9 @@ pub mod CombineLemmas
 pub mod OutgoingLemmas
 pub mod StageLemmas
 pub mod EachTime
+pub mod RepeatLemmas
 pub mod SendingLemmas
+pub mod ServingLemmas
 pub mod SendsLemmas
 pub mod LeadsLemmas
 pub mod PlainLemmas
@@ -11,6 +13,7 @@ pub mod ChainLemmas
 pub mod KeepLeads
 pub mod WriteLeads
 pub mod FlushLeads
+pub mod ServingLeads
 pub mod ApartLeads
 pub mod StagingLeads
 pub mod Carrying

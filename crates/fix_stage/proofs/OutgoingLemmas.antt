@@ -106,7 +106,7 @@ outgoing_message id n at m h =
     ∙ ap (λ (t : List ℕ). field_text (field 35 m.type) ++ t) (sym (fields_text-append (header_fields id n at) h.fields))
 
 -- the text of MsgType (35)
-type_long : (type : List ℕ) → length (field_text (field 35 type)) ≡ length type + 4
+pub type_long : (type : List ℕ) → length (field_text (field 35 type)) ≡ length type + 4
 type_long type =
     let three : length (codes "35=") ≡ 3 = refl in
     omega (
@@ -135,7 +135,7 @@ outgoing_short id n time at m h valid small sent =
       h.short,
     )
 
-behind_entry : (fs : List Field) → AllByRecursion IsEntryField fs → AllByRecursion IsBehindType fs
+pub behind_entry : (fs : List Field) → AllByRecursion IsEntryField fs → AllByRecursion IsBehindType fs
 behind_entry [] each = tt
 behind_entry (f ∷ fs) each = (
   record {

@@ -81,7 +81,7 @@ sealed_free id fields text m s never l =
 pub original_frame : (id : Identity) (n : ℕ) (e : Entry) (text : List ℕ) → IsOriginal id n e text → IsFrame text
 original_frame id n e text h = sealed_is_frame id (original_fields id (decimal n) h.at h.type h.rest) text (original_is id (decimal n) h.at h.type h.rest (carried h.carries)) h.sealed_so
 
-no_logon : (type : List ℕ) → is_admin_type type ≡ false → Some type ≡ Some (codes "A") → ⊥
+pub no_logon : (type : List ℕ) → is_admin_type type ≡ false → Some type ≡ Some (codes "A") → ⊥
 no_logon type no_admin e = let admin : is_admin_type (codes "A") ≡ false = subst (λ t. is_admin_type t ≡ false) (some_same type (codes "A") e) no_admin in cc
 
 app_type : {time : ℕ} {by : By} {body type : List ℕ} {rest : List Field} → Carries (App time by body) type rest → is_admin_type type ≡ false

@@ -81,7 +81,7 @@ Keeping-blames es k b calls r to flush.kept = tt
 Keeping-blames es k b calls r to flush.keep_lost = omega arith
 Keeping-blames es k b calls r to flush.keep_memory = tt
 
-WroteOne-blames : (frame : Option (List ℕ)) → Blaming blame_of (λ u. WroteOne u frame)
+pub WroteOne-blames : (frame : Option (List ℕ)) → Blaming blame_of (λ u. WroteOne u frame)
 WroteOne-blames frame u calls r to flush.no_frame = tt
 WroteOne-blames frame u calls r to (flush.wrote text) = tt
 WroteOne-blames frame u calls r to (flush.write_lost text sent) = omega arith
@@ -175,20 +175,20 @@ StagesPending-stays id b calls r to ok (staging.draft_staged {to = mid} d h k) =
 
 -- ---- it has an end, and goes on
 
-abbrev OM : StageFault
+abbrev pub OM : StageFault
 OM = fault.OutOfMemory
 
-abbrev always : ⊤ → Type 0
+abbrev pub always : ⊤ → Type 0
 always u = ⊤
 
-abbrev any_frame : Option (List ℕ) → Type 0
+abbrev pub any_frame : Option (List ℕ) → Type 0
 any_frame frame = ⊤
 
 all_any : (frames : List (Option (List ℕ))) → AllByRecursion any_frame frames
 all_any [] = tt
 all_any (x ∷ frames) = (tt, all_any frames)
 
-wrote_total : (frame : Option (List ℕ)) → any_frame frame → Total OM always (λ u. WroteOne u frame)
+pub wrote_total : (frame : Option (List ℕ)) → any_frame frame → Total OM always (λ u. WroteOne u frame)
 wrote_total None fit u ok = went_well OM always (λ u. WroteOne u None) u u tt flush.no_frame
 wrote_total (Some text) fit u ok = record {
   more = Write text write.Done ∷ [];
@@ -200,7 +200,7 @@ wrote_total (Some text) fit u ok = record {
   no_want = λ h. cc;
 }
 
-wrote_resumes : (frame : Option (List ℕ)) → any_frame frame → Resumes OM always (λ u. WroteOne u frame)
+pub wrote_resumes : (frame : Option (List ℕ)) → any_frame frame → Resumes OM always (λ u. WroteOne u frame)
 wrote_resumes frame fit u calls s' ok (flush.write_memory text) =
     λ hold. hold (short_at OM always (λ u. WroteOne u (Some text)) u (Write text write.OutOfMemory) (writing text) (wrote_total (Some text) tt u tt))
 

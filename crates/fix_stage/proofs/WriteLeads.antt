@@ -60,10 +60,10 @@ abbrev pub AfterWrite : Identity → Result ⊤ StageFault → EndState → Conn
 AfterWrite id (Ok x) e c e' = StillOpen id e c e'
 AfterWrite id (Err f) e c e' = Same e e' × IsWriteFault f
 
-abbrev writing : Connection → List ℕ → Connection
+abbrev pub writing : Connection → List ℕ → Connection
 writing c w = record c { written = c.written ++ w }
 
-abbrev connected : EndState → Connection → EndState
+abbrev pub connected : EndState → Connection → EndState
 connected e c = record e { connection = Some c }
 
 again : (id : Identity) (r : Result ⊤ StageFault) (e : EndState) (c : Connection) (w : List ℕ) (e' : EndState) → AfterWrite id r (connected e (writing c w)) (writing c w) e' → AfterWrite id r e c e'
@@ -93,9 +93,9 @@ pub record Writes (id : Identity) (es before : List Entry) (c : Connection) (las
   pub plain : IsPlainly c.written
 
 -- the frame of the next entry may be written
-record Goes (id : Identity) (n : ℕ) (e : EndState) (c : Connection) (text : List ℕ) : Type 0 where
-  whole : WroteWhole id c.opened e.end n (c.written ++ text)
-  plain : IsPlainly (c.written ++ text)
+pub record Goes (id : Identity) (n : ℕ) (e : EndState) (c : Connection) (text : List ℕ) : Type 0 where
+  pub whole : WroteWhole id c.opened e.end n (c.written ++ text)
+  pub plain : IsPlainly (c.written ++ text)
 
 next_goes : (id : Identity) (x : Entry) (es before : List Entry) (c : Connection) (last : ℕ) (e : EndState) (text : List ℕ) → Writes id (x ∷ es) before c last e → IsPlainOriginal id (length before + 1) x text → Goes id (length before + 1) e c text
 next_goes id x es before c last e text h o =
@@ -105,19 +105,19 @@ next_goes id x es before c last e text h o =
       plain = plain_more c.written text (original_frame id (length before + 1) x text o.original) o.plain h.plain;
     }
 
-all_wrote : (id : Identity) (n : ℕ) (e : EndState) (c : Connection) (text : List ℕ) → Goes id n e c text → Wrote id c.opened e.end (c.written ++ text)
+pub all_wrote : (id : Identity) (n : ℕ) (e : EndState) (c : Connection) (text : List ℕ) → Goes id n e c text → Wrote id c.opened e.end (c.written ++ text)
 all_wrote id n e c text g = whole_wrote id c.opened e.end n (c.written ++ text) g.whole
 
 front_of : (many : ℕ) (text : List ℕ) → IsPrefixOf (take many text) text
 front_of many text = record { rest = drop many text; is = sym (take-append-drop many text) }
 
-some_wrote : (id : Identity) (n many : ℕ) (e : EndState) (c : Connection) (text : List ℕ) → Goes id n e c text → Wrote id c.opened e.end (c.written ++ take many text)
+pub some_wrote : (id : Identity) (n many : ℕ) (e : EndState) (c : Connection) (text : List ℕ) → Goes id n e c text → Wrote id c.opened e.end (c.written ++ take many text)
 some_wrote id n many e c text g = front_wrote id c.opened e.end (c.written ++ text) (c.written ++ take many text) (prefix_under c.written (front_of many text)) (all_wrote id n e c text g)
 
-all_rule : (id : Identity) (n : ℕ) (e : EndState) (c : Connection) (text : List ℕ) → e.role ≡ Acceptor → Goes id n e c text → LogonRule id e c text
+pub all_rule : (id : Identity) (n : ℕ) (e : EndState) (c : Connection) (text : List ℕ) → e.role ≡ Acceptor → Goes id n e c text → LogonRule id e c text
 all_rule id n e c text role g = plain_rule id e c text (c.written ++ text) role g.plain (prefix_refl (c.written ++ text))
 
-some_rule : (id : Identity) (n many : ℕ) (e : EndState) (c : Connection) (text : List ℕ) → e.role ≡ Acceptor → Goes id n e c text → LogonRule id e c (take many text)
+pub some_rule : (id : Identity) (n many : ℕ) (e : EndState) (c : Connection) (text : List ℕ) → e.role ≡ Acceptor → Goes id n e c text → LogonRule id e c (take many text)
 some_rule id n many e c text role g = plain_rule id e c (take many text) (c.written ++ text) role g.plain (prefix_under c.written (front_of many text))
 
 -- the rest of the frames, where the next number is another name of the same

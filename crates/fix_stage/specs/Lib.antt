@@ -4,7 +4,10 @@ pub mod Sender
 pub mod Flush
 pub mod Outgoing
 pub mod Staging
+pub mod Repeating
+pub mod Serving
 pub mod Sendings
 pub mod Causes
 pub mod Stated
 pub mod Lawful
+pub mod LawfulServing

@@ -6,11 +6,12 @@ use Rattle.fix_base.specs.declared.bytes.OutOfMemory.{OutOfMemory}
 use Rattle.fix_base.specs.Trace.{Note, Did, Failed, Asked}
 use Rattle.fix_outside.specs.declared.connection.WriteTurn.TheVariants as write
 use Rattle.fix_outside.specs.declared.handing.Said.TheVariants as said
+use Rattle.fix_outside.specs.declared.handing.Again.TheVariants as whether
 use Rattle.fix_outside.specs.declared.outside.KeepFault.TheVariants as keep
 use Rattle.fix_outside.specs.declared.outside.LoadFault.TheVariants as load
 use Rattle.fix_outside.specs.declared.outside.FetchFault.TheVariants as fetch
 use Rattle.fix_outside.specs.Outside.{NoMemory}
-use Rattle.fix_outside.specs.Calls.{Call, Look, Load, Mark, Read, Write, Keep, Fetch, Hand, notes_in}
+use Rattle.fix_outside.specs.Calls.{Call, Look, Load, Mark, Read, Write, Keep, Fetch, Hand, Again, notes_in}
 use Rattle.fix_fields.specs.Drafted.{IsDraft}
 use Rattle.fix_stage.specs.Sender.{Sender}
 
@@ -42,6 +43,7 @@ pub data IsOutOfMemory : Call → Type 0 where
   keeping : (r : Record) → IsOutOfMemory (Keep r (Err keep.OutOfMemory))
   fetching : (number : ℕ) (body : List ℕ) → IsOutOfMemory (Fetch number (Err fetch.OutOfMemory) body)
   handing : (number : ℕ) (marked : Bool) (body : List ℕ) → IsOutOfMemory (Hand number marked body said.OutOfMemory)
+  asking : (number : ℕ) (body : List ℕ) → IsOutOfMemory (Again number body whether.OutOfMemory)
 
 -- where it was out of memory after these calls: on its own, or at one call more
 pub data IsShortAfter (before : List Call) : List Call → Type 0 where
@@ -76,3 +78,8 @@ Stays {S} {E} Good R = (s : S) (calls : List Call) (r : Result ⊤ E) (s' : S) �
 pub record IsTimely (b : Sender) : Type 0 where
   pub reading : b.numbers.reading ≤ LAST_TIME
   pub draft : IfSome b.pending.draft IsDraft
+
+-- the same, and the numbers that are kept are MsgSeqNums
+pub record MayServe (b : Sender) : Type 0 where
+  pub timely : IsTimely b
+  pub last : b.numbers.last ≤ 999999999

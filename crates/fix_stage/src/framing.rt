@@ -71,8 +71,8 @@ fn header(
     Ok(out)
 }
 
-// Appends a field of a number.
-fn push_number(out: &mut Vec<u8>, tag: u32, number: u32) -> Result<(), AllocError>
+/// Appends a field of a number.
+pub fn push_number(out: &mut Vec<u8>, tag: u32, number: u32) -> Result<(), AllocError>
     ensures { OnOk result (out.new.items ≡ out.old.items ++ field_text (field tag (decimal number))) }
 {
     let mut digits = Buffer::new();

@@ -10,10 +10,12 @@ ghost use Rattle.fix_stage.specs.Sender.{Sender, StageFault};
 ghost use Rattle.fix_stage.specs.Flush.{Flushed, Settled};
 ghost use Rattle.fix_stage.specs.Outgoing.{Outgoing, IsOutgoing};
 ghost use Rattle.fix_stage.specs.Staging.{Staging, MakesAndStages, StagesPending};
-ghost use Rattle.fix_stage.specs.Sendings.{SendsOnly};
-ghost use Rattle.fix_stage.specs.Stated.{Total, Resumes, IsTimely};
+ghost use Rattle.fix_stage.specs.Serving.{Served};
+ghost use Rattle.fix_stage.specs.Sendings.{SendsOnly, IsServing};
+ghost use Rattle.fix_stage.specs.Stated.{Total, Resumes, Stays, IsTimely, MayServe};
 ghost use Rattle.fix_stage.specs.Lawful.{AsksNoReset, Fits, Level, Apart, Bare, LawfulRunTo, After, AfterFault};
 ghost use Rattle.fix_stage.specs.Lawful.{AfterApart, LeadsFrom};
+ghost use Rattle.fix_stage.specs.LawfulServing.{MayServeAt, AfterServe};
 
 /// A flush is a run of a lawful end: whatever end is in step with the session before it, its acts are a run of
 /// that end. Where it goes well the end has passed what the session has counted.
@@ -75,4 +77,26 @@ pub fn sending_keeps_and_writes()
         (to : Sender)
         → AllByRecursion IsPersistentEntry b.stage.entries → StagesPending id b calls r to
         → SendsOnly IsPersistentEntry calls to }
+{}
+
+/// Serving a ResendRequest is a run of a lawful end: each repeat is of a message that may come again, and each gap fill
+/// passes over others only. The end has what it had, and what was withheld.
+pub fn a_served_request_is_lawful()
+    ensures { (id : Identity) (read given : List ℕ) (n from to : ℕ)
+        → LeadsFrom id AfterServe (MayServeAt id read given n) (Served id from to) (MayServeAt id read given n) }
+{}
+
+/// What is served has an end, and where it was out of memory it would have gone on.
+pub fn what_is_served_has_an_end()
+    ensures goes_on { (id : Identity) → IsValidIdentity id → (from to : ℕ)
+        → Resumes StageFault.OutOfMemory MayServe (Served id from to) }
+    ensures ends { (id : Identity) → IsValidIdentity id → (from to : ℕ)
+        → Total StageFault.OutOfMemory MayServe (Served id from to) }
+    ensures stays { (id : Identity) (from to : ℕ) → Stays MayServe (Served id from to) }
+{}
+
+/// Serving fetches, asks the application, keeps what that withholds, and writes. It does nothing else.
+pub fn serving_keeps_only_what_is_withheld()
+    ensures { (id : Identity) (from to : ℕ) (b : Sender) (calls : List Call) (r : Result ⊤ StageFault) (after : Sender)
+        → Served id from to b calls r after → AllByRecursion IsServing calls }
 {}

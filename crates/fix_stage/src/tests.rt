@@ -36,7 +36,7 @@ struct Quiet {
 }
 
 // How many entries a store has after this record, of which it had so many before.
-fn entries_after(kept: &Record, last: u32) -> u32
+pub fn entries_after(kept: &Record, last: u32) -> u32
     requires { HasPlace kept.now (Some last) }
     ensures { result ≡ last_behind kept.now last }
 {
@@ -169,7 +169,7 @@ fn order(alloc: Global) -> Result<Draft, Fail> {
     }
 }
 
-fn sample_context(alloc: Global) -> Result<Context, Fail>
+pub fn sample_context(alloc: Global) -> Result<Context, Fail>
     ensures { IfOk result (λ context. IsValidIdentity context.identity) }
 {
     let sender = Bytes::copy(alloc, b"SELL")?;
@@ -191,7 +191,7 @@ fn sample_context(alloc: Global) -> Result<Context, Fail>
 }
 
 // A session that has kept one entry and expects number 3, and has this draft in hand.
-fn sample_sender(alloc: Global, draft: Option<Draft>) -> Sender
+pub fn sample_sender(alloc: Global, draft: Option<Draft>) -> Sender
     ensures { result ≡ record {
       numbers = record { expected = 3; stored_expected = 1; last = 1; reading = 1704189600000000 };
       stage = record { entries = []; frames = [] };

@@ -1,4 +1,4 @@
-//! Writes frames on the connection, one write each. `flushing` calls this.
+//! Writes frames on the connection, one write each. `flushing` and `serving` call this.
 ghost use Rattle.std.specs.Prelude.{◌≡◌, ◌≢◌, Err};
 ghost use Rattle.fix_outside.specs.Calls.{HasCalls};
 ghost use Rattle.fix_stage.specs.Combine.{Each};
@@ -20,8 +20,8 @@ pub fn write_all<O: Outside>(o: &mut O, frames: &[Option<Bytes>]) -> Result<(), 
     Ok(())
 }
 
-// Writes one frame, where there is one.
-fn write_one<O: Outside>(o: &mut O, frame: &Option<Bytes>) -> Result<(), StageFault>
+/// Writes one frame, where there is one.
+pub fn write_one<O: Outside>(o: &mut O, frame: &Option<Bytes>) -> Result<(), StageFault>
     ensures opens { (O.seen o.new).open_at ≡ (O.seen o.old).open_at }
     ensures open { result ≢ Err StageFault.StoreFault }
     ensures calls { HasCalls (O.seen o.old) (O.seen o.new) (λ calls. WroteOne tt frame.now calls result tt) }
