@@ -1,5 +1,5 @@
--- An answer sends, hands the message over, keeps what is kept of resets, and does nothing else.
-use Rattle.std.proofs.Common.{◌≢◌, ℕ, List, [], ◌∷◌, Option, Result, Ok, Err, arith}
+-- An answer sends, serves, hands the message over, keeps what is kept of resets, and does nothing else.
+use Rattle.std.proofs.Common.{◌≢◌, ℕ, List, [], ◌∷◌, Option, Result, Ok, Err, sym, subst, arith}
 use Rattle.std.specs.Prelude.{⊤}
 use Rattle.std.specs.List.{AllByRecursion}
 use Rattle.fix_base.specs.declared.identity.Identity.{Identity}
@@ -15,9 +15,11 @@ use Rattle.fix_stage.specs.Combine.{Each, goes_well, fails}
 use Rattle.fix_stage.specs.declared.sender.Sender.{Sender}
 use Rattle.fix_stage.specs.declared.fault.StageFault.{StageFault}
 use Rattle.fix_stage.specs.Flush.{Flushed}
+use Rattle.fix_stage.specs.Serving.{Served}
 use Rattle.fix_stage.specs.Staging.{MakesAndStages}
-use Rattle.fix_stage.specs.Sendings.{IsSending, SendsOnly}
+use Rattle.fix_stage.specs.Sendings.{IsSending, IsServing, SendsOnly}
 use Rattle.fix_stage.specs.Stated.{IsTimely}
+use Rattle.fix_stage.proofs.ServingLemmas.{served_serves}
 use Rattle.fix_stage.proofs.SendsLemmas.{all-append, Flushed-sends, MakesAndStages-sends}
 use Rattle.fix_steps.specs.Said.{said_outgoing, IsSayable}
 use Rattle.fix_steps.specs.declared.ending.Ending.{Ending}
@@ -28,6 +30,7 @@ use Rattle.fix_steps.specs.Steps.{IsCarried, InAnswer, Handing, Performed, Begin
 use Rattle.fix_steps.specs.Answering as answers
 use Rattle.fix_steps.specs.Answering.{IsAnswering, AnswersOnly}
 use Rattle.fix_steps.proofs.SaidLemmas.{said_is_outgoing}
+use Rattle.fix_steps.proofs.SoundLemmas.{served_same}
 use Rattle.fix_steps.proofs.CompleteLemmas.{step_stays, begins_stays}
 
 abbrev Q : Entry → Type 0
@@ -55,6 +58,20 @@ module _ (frame : Option (List ℕ)) where
   in_answer R b one calls r to (goes_well {s = s} d) = sends_as calls s (one calls (Ok tt) s d)
   in_answer R b one calls r to (fails {s = s} {e = e} d) = sends_as calls s (one calls (Err e) s d)
 
+  -- the same of what makes other calls than sending
+  in_answer_only : (R : Sender → List Call → Result ⊤ StageFault → Sender → Type 0) (b : Sender) → ((calls : List Call) (r : Result ⊤ StageFault) (to : Sender) → R b calls r to → AnswersOnly Q frame calls to) → (calls : List Call) (r : Result ⊤ Ending) (to : Sender) → InAnswer R b calls r to → AnswersOnly Q frame calls to
+  in_answer_only R b one calls r to (goes_well {s = s} d) = one calls (Ok tt) s d
+  in_answer_only R b one calls r to (fails {s = s} {e = e} d) = one calls (Err e) s d
+
+  serving_all : (calls : List Call) → AllByRecursion IsServing calls → AllByRecursion (IsAnswering Q frame) calls
+  serving_all [] h = tt
+  serving_all (x ∷ calls) h = (answers.serves h.0, serving_all calls h.1)
+
+  served_only : (id : Identity) (from until : ℕ) (b : Sender) (calls : List Call) (r : Result ⊤ StageFault) (to : Sender) → AllByRecursion Q b.stage.entries → Served id from until b calls r to → AnswersOnly Q frame calls to
+  served_only id from until b calls r to all d = record { each = serving_all calls (served_serves id from until b calls r to d); staged = subst (λ (s : Sender). AllByRecursion Q s.stage.entries) (sym (served_same id from until b calls r to d)) all }
+
+  -- ---- the other steps
+
   handing_only : (b : Sender) (calls : List Call) (r : Result ⊤ Ending) (to : Sender) → AllByRecursion Q b.stage.entries → Handing frame b calls r to → AnswersOnly Q frame calls to
   handing_only b calls r to all (steps.taken text fields is has) = record { each = (answers.hands text fields _ is has, tt); staged = all }
   handing_only b calls r to all (steps.hand_lost text fields is has) = record { each = (answers.hands text fields _ is has, tt); staged = all }
@@ -77,6 +94,7 @@ module _ (frame : Option (List ℕ)) where
         let m = said_outgoing id.begin b.numbers.reading s in
         let q : Q m.entry = record { payload = (said_is_outgoing id.begin b.numbers.reading s ok.reading fit).payload; kept = no_once s fit } in
         in_answer (MakesAndStages id m) b (λ calls r to d. MakesAndStages-sends Q id m q b calls r to all d) calls r to d
+    step_only x fit b calls r to ok all (steps.serves from until d) = in_answer_only (Served id from until) b (λ calls r to d. served_only id from until b calls r to all d) calls r to d
     step_only x fit b calls r to ok all (steps.hands d) = handing_only b calls r to all d
     step_only x fit b calls r to ok all steps.waits = record { each = tt; staged = all }
     step_only x fit b calls r to ok all (steps.expects number) = record { each = tt; staged = all }

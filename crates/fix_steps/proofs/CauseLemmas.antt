@@ -12,9 +12,11 @@ use Rattle.fix_stage.specs.declared.fault.StageFault.{StageFault}
 use Rattle.fix_stage.specs.declared.fault.StageFault.TheVariants as fault
 use Rattle.fix_stage.specs.Flush.{Flushed}
 use Rattle.fix_stage.specs.Staging.{MakesAndStages}
+use Rattle.fix_stage.specs.Serving.{Served}
 use Rattle.fix_stage.specs.Causes as stage
 use Rattle.fix_stage.specs.Causes.{HasFailed, Blaming}
 use Rattle.fix_stage.proofs.CombineLemmas.{Each-blames, Then-blames, has_risen}
+use Rattle.fix_stage.proofs.ServingLemmas.{Served-blames}
 use Rattle.fix_stage.proofs.SendingLemmas.{Flushed-blames, MakesAndStages-blames}
 use Rattle.fix_steps.specs.Said.{said_outgoing}
 use Rattle.fix_steps.specs.declared.ending.Ending.{Ending}
@@ -58,6 +60,7 @@ Saying-blames id say b calls r to d =
 
 Performed-blames : (id : Identity) (frame : Option (List ℕ)) (x : StepSeen) → Blaming blame_of (λ b. Performed id frame b x)
 Performed-blames id frame x b calls r to (steps.says say d) = Saying-blames id say b calls r to d
+Performed-blames id frame x b calls r to (steps.serves from until d) = InAnswer-blames (Served id from until) (Served-blames id from until) b calls r to d
 Performed-blames id frame x b calls r to (steps.hands d) = Handing-blames frame b calls r to d
 Performed-blames id frame x b calls r to steps.waits = tt
 Performed-blames id frame x b calls r to (steps.expects number) = tt

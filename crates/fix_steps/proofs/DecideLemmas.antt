@@ -30,9 +30,9 @@ use Rattle.fix_stage.proofs.LeadsLemmas.{leads_weaker}
 use Rattle.fix_steps.specs.declared.ending.Ending.{Ending}
 use Rattle.fix_steps.specs.Steps.{IsCarried, Carried}
 use Rattle.fix_steps.specs.Lawful as lawful
-use Rattle.fix_steps.specs.Lawful.{Standing, IsFresh, MayDo, MayDoAll, BeginsPlainly, WasReadIn, IsAnswered, InStep, Stands, AfterEnding}
+use Rattle.fix_steps.specs.Lawful.{Standing, IsFresh, MayDo, MayDoAll, BeginsPlainly, WasReadIn, IsAnswered, InStep, InBounds, Stands, AfterEnding}
 use Rattle.fix_steps.specs.Told.{IsTold, IsOther, KeepsNumbers, MayBeDone}
-use Rattle.fix_steps.proofs.StepLeads.{fresh, carried_leads}
+use Rattle.fix_steps.proofs.StepLeads.{Bounded, fresh, carried_leads}
 use Rattle.fix_steps.proofs.TableLemmas.{May, fits_both, nothing_may, close_may, say_may, say_close_may, message_may}
 
 -- ---- the number that is expected after it
@@ -41,6 +41,7 @@ one_expected : {x : Option Message} {at at' : Standing} {n n' m : ℕ} {step : S
 one_expected xs (lawful.may_say said is free) h = h
 one_expected xs (lawful.may_reject marked body type f same is) h = h
 one_expected xs (lawful.may_hand marked body same) h = h
+one_expected xs (lawful.may_serve from until) h = h
 one_expected xs lawful.may_wait h = h
 one_expected xs (lawful.passes_app marked body same) h = h
 one_expected xs (lawful.passes_admin y same at is) h = h
@@ -116,13 +117,13 @@ other_done o s e is x = done x s.expected (answer_to o s e) (other_may x o s e i
 -- ---- the end in step
 
 -- what may be answered next is in step
-next_in_step : (id : Identity) (read : List ℕ) (to : Standing) (m : ℕ) → IsFresh to → (r : Result ⊤ Ending) (b : Sender) (e : EndState) → After (AfterEnding id read) (Stands id read to m) r b e → After (AfterEnding id read) (InStep id read m) r b e
-next_in_step id read to m is (Ok x) b e h = fresh id read to m b e is h
+next_in_step : (id : Identity) (read : List ℕ) (to : Standing) (m : ℕ) → IsFresh to → (r : Result ⊤ Ending) (b : Sender) (e : EndState) → After (AfterEnding id read) (Bounded id read to m) r b e → After (AfterEnding id read) (InBounds (InStep id read m)) r b e
+next_in_step id read to m is (Ok x) b e h = record { is = fresh id read to m b e is h.is; last = h.last }
 next_in_step id read to m is (Err end) b e h = h
 
-pub done_leads : (id : Identity) (read : List ℕ) (frame : Option (List ℕ)) (x : Option Message) (n : ℕ) (a : Answered) → IsValidIdentity id → IsAnswered read frame x → AllByRecursion (IsCarried frame) a.steps → MayBeDone x n a → LeadsFrom id (AfterEnding id read) (InStep id read n) (Carried id frame a.steps) (InStep id read (expected_after a.steps n))
+pub done_leads : (id : Identity) (read : List ℕ) (frame : Option (List ℕ)) (x : Option Message) (n : ℕ) (a : Answered) → IsValidIdentity id → IsAnswered read frame x → AllByRecursion (IsCarried frame) a.steps → MayBeDone x n a → LeadsFrom id (AfterEnding id read) (InBounds (InStep id read n)) (Carried id frame a.steps) (InBounds (InStep id read (expected_after a.steps n)))
 done_leads id read frame x n a valid answered fit h b calls r to d e p =
-    leads_weaker id e calls (After (AfterEnding id read) (Stands id read h.to (expected_after a.steps n)) r to) (After (AfterEnding id read) (InStep id read (expected_after a.steps n)) r to)
+    leads_weaker id e calls (After (AfterEnding id read) (Bounded id read h.to (expected_after a.steps n)) r to) (After (AfterEnding id read) (InBounds (InStep id read (expected_after a.steps n))) r to)
     (λ e' q. next_in_step id read h.to (expected_after a.steps n) h.fresh r to e' q)
     (carried_leads id read valid frame x answered n (expected_after a.steps n) a.steps h.to h.may fit b calls r to d e p)
 
@@ -132,10 +133,10 @@ answered_by read text fs None is has plain shown = lawful.silent (Some text)
 answered_by read text fs (Some y) is has plain shown = lawful.says text y (record { fields = fs; has = has; says = is }) plain (shown y refl)
 
 pub message_leads : (id : Identity) (read text : List ℕ) (fs : List Field) (o : Options) (s : MachineState) (i : Inbound) → IsValidIdentity id → HasFields text fs → BeginsPlainly read → ((y : Message) → message_of fs ≡ Some y → WasReadIn read y) → IsTold fs i → AllByRecursion (IsCarried (Some text)) (answer_to o s (Frame i)).steps → AllByRecursion KeepsNumbers (answer_to o s (Frame i)).steps
-    → LeadsFrom id (AfterEnding id read) (InStep id read s.expected) (Carried id (Some text) (answer_to o s (Frame i)).steps) (InStep id read (expected_after (answer_to o s (Frame i)).steps s.expected))
+    → LeadsFrom id (AfterEnding id read) (InBounds (InStep id read s.expected)) (Carried id (Some text) (answer_to o s (Frame i)).steps) (InBounds (InStep id read (expected_after (answer_to o s (Frame i)).steps s.expected)))
 message_leads id read text fs o s i valid has plain shown told fit keeps =
     done_leads id read (Some text) (message_of fs) s.expected (answer_to o s (Frame i)) valid (answered_by read text fs (message_of fs) refl has plain shown) fit (message_done o s fs i (Some text) told fit keeps)
 
-pub other_leads : (id : Identity) (read : List ℕ) (o : Options) (s : MachineState) (e : EventSeen) → IsValidIdentity id → IsOther s e → AllByRecursion (IsCarried None) (answer_to o s e).steps → LeadsFrom id (AfterEnding id read) (InStep id read s.expected) (Carried id None (answer_to o s e).steps) (InStep id read (expected_after (answer_to o s e).steps s.expected))
+pub other_leads : (id : Identity) (read : List ℕ) (o : Options) (s : MachineState) (e : EventSeen) → IsValidIdentity id → IsOther s e → AllByRecursion (IsCarried None) (answer_to o s e).steps → LeadsFrom id (AfterEnding id read) (InBounds (InStep id read s.expected)) (Carried id None (answer_to o s e).steps) (InBounds (InStep id read (expected_after (answer_to o s e).steps s.expected)))
 other_leads id read o s e valid is fit =
     done_leads id read None None s.expected (answer_to o s e) valid (lawful.silent None) fit (other_done o s e is None)

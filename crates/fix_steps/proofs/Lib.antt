@@ -2,6 +2,7 @@ pub mod EachLemmas
 pub mod FrameLemmas
 pub mod SaidLemmas
 pub mod CauseLemmas
+pub mod SoundLemmas
 pub mod CompleteLemmas
 pub mod AnsweringLemmas
 pub mod ReadLemmas

@@ -1,9 +1,9 @@
 -- An answer leaves the numbers that its steps say, and the reading as it was.
-use Rattle.std.proofs.Common.{◌≡◌, ℕ, ◌+◌, ◌<◌, ◌≤◌, nat_lt, Bool, true, false, if◌then◌else◌, List, [], ◌∷◌, length, length-append}
-use Rattle.std.proofs.Common.{Option, Result, Ok, Err, refl, sym, ap, ◌∙◌, subst, arith}
+use Rattle.std.proofs.Common.{◌≡◌, ℕ, ◌+◌, ◌≤◌, Bool, true, false, if◌then◌else◌, List, [], ◌∷◌, length, length-append}
+use Rattle.std.proofs.Common.{Option, Result, Ok, Err, refl, sym, ap, ◌∙◌, arith}
 use Rattle.std.specs.Prelude.{⊤, ◌||◌, not}
 use Rattle.std.specs.List.{list_any, list_all}
-use Rattle.std.proofs.lemmas.Bool.{lt-ltb, and_parts}
+use Rattle.std.proofs.lemmas.Bool.{lt-ltb}
 use Rattle.fix_base.specs.declared.identity.Identity.{Identity}
 use Rattle.fix_outside.specs.Calls.{Call}
 use Rattle.fix_machine.specs.declared.event.Why.{Why}
@@ -15,11 +15,12 @@ use Rattle.fix_stage.specs.Combine as combine
 use Rattle.fix_stage.specs.Combine.{goes_well, fails}
 use Rattle.fix_stage.specs.Stage.{Staged, no_stage}
 use Rattle.fix_stage.specs.declared.sender.Sender.{Sender}
-use Rattle.fix_stage.specs.Sender.{next_number}
 use Rattle.fix_stage.specs.declared.fault.StageFault.{StageFault}
 use Rattle.fix_stage.specs.declared.fault.StageFault.TheVariants as fault
 use Rattle.fix_stage.specs.Flush.{Flushed}
 use Rattle.fix_stage.specs.Outgoing.{Outgoing}
+use Rattle.fix_stage.specs.Serving as serving
+use Rattle.fix_stage.specs.Serving.{Served}
 use Rattle.fix_stage.specs.Staging as staging
 use Rattle.fix_stage.specs.Staging.{Numbered, Roomy, MakesAndStages}
 use Rattle.fix_stage.proofs.SendingLemmas.{Flushed-empty, Flushed-reading, Flushed-expected, Flushed-number}
@@ -30,7 +31,7 @@ use Rattle.fix_steps.specs.Resetting as resetting
 use Rattle.fix_steps.specs.Resetting.{Resetting, Confirming}
 use Rattle.fix_steps.specs.Steps as steps
 use Rattle.fix_steps.specs.Steps.{InAnswer, Handing, Performed, Begins, Done, Carried}
-use Rattle.fix_steps.specs.Leaves.{last_taken, HasNumbers, is_reset, is_close, is_nothing, resets_first, closes_last, IsInOrder}
+use Rattle.fix_steps.specs.Leaves.{last_taken, HasNumbers, is_reset, is_nothing, resets_first, closes_last, IsInOrder}
 
 -- ---- the reading stays
 
@@ -60,6 +61,10 @@ makes_reading id m b calls r to (staging.made d) =
     then_reading Numbered _ numbered_reading (then_reading (Roomy _) (staging.Put id m) (roomy_reading _) (put_reading id m)) b calls r to d
 makes_reading id m b calls r to staging.not_made = refl
 
+served_reading : (id : Identity) (from until : ℕ) → Keeps (Served id from until)
+served_reading id from until b calls r to (serving.serve_ends d) = refl
+served_reading id from until b calls r to (serving.serves d w) = refl
+
 in_answer_reading : (R : Sender → List Call → Result ⊤ StageFault → Sender → Type 0) → Keeps R → Keeps (InAnswer R)
 in_answer_reading R one b calls r to (goes_well {s = s} d) = one b calls (Ok tt) s d
 in_answer_reading R one b calls r to (fails {s = s} {e = e} d) = one b calls (Err e) s d
@@ -83,6 +88,7 @@ confirming_reading b calls r to resetting.confirm_memory = refl
 module _ (id : Identity) (frame : Option (List ℕ)) where
   step_reading : (x : StepSeen) → Keeps (λ b. Performed id frame b x)
   step_reading x b calls r to (steps.says say d) = in_answer_reading (MakesAndStages id _) (makes_reading id _) b calls r to d
+  step_reading x b calls r to (steps.serves from until d) = in_answer_reading (Served id from until) (served_reading id from until) b calls r to d
   step_reading x b calls r to (steps.hands d) = handing_reading frame b calls r to d
   step_reading x b calls r to steps.waits = refl
   step_reading x b calls r to (steps.expects number) = refl
@@ -137,6 +143,7 @@ made_steps id m say b calls to (staging.made (combine.both (staging.has_number h
 module _ (id : Identity) (frame : Option (List ℕ)) where
   step_steps : (x : StepSeen) → is_reset x ≡ false → (b : Sender) (calls : List Call) (to : Sender) → Performed id frame b x calls (Ok tt) to → Steps x b to
   step_steps x plain b calls to (steps.says say (goes_well {s = s} d)) = made_steps id _ say b calls s d
+  step_steps x plain b calls to (steps.serves from until (goes_well (serving.serves d w))) = record { expected = refl; last = refl }
   step_steps x plain b calls to (steps.hands (steps.taken text fields is has)) = record { expected = refl; last = refl }
   step_steps x plain b calls to steps.waits = record { expected = refl; last = refl }
   step_steps x plain b calls to (steps.expects number) = record { expected = refl; last = refl }
@@ -203,6 +210,7 @@ module _ (id : Identity) (frame : Option (List ℕ)) where
   -- the step that closes, and those after it
   step_closes : (x : StepSeen) (xs : List StepSeen) → closes_last (x ∷ xs) ≡ true → (why : Why) (b : Sender) (calls : List Call) (r : Result ⊤ Ending) (to : Sender) → r ≡ ended (ending.Closed why) → Performed id frame b x calls r to → HasNumbers (x ∷ xs) b to
   step_closes x xs last why b calls r to h (steps.says say d) = absurd (answer_goes_on _ why b calls r to h d)
+  step_closes x xs last why b calls r to h (steps.serves from until d) = absurd (answer_goes_on _ why b calls r to h d)
   step_closes x xs last why b calls r to h (steps.hands (steps.taken text fields is has)) = cc
   step_closes x xs last why b calls r to h (steps.hands (steps.hand_lost text fields is has)) = cc
   step_closes x xs last why b calls r to h (steps.hands (steps.hand_memory text fields is has)) = cc
@@ -221,6 +229,7 @@ module _ (id : Identity) (frame : Option (List ℕ)) where
   -- what goes well closes nothing, so the steps after it close last too
   later_closes : (x : StepSeen) (xs : List StepSeen) (b : Sender) (calls : List Call) (to : Sender) → Performed id frame b x calls (Ok tt) to → closes_last (x ∷ xs) ≡ true → closes_last xs ≡ true
   later_closes x xs b calls to (steps.says say d) h = h
+  later_closes x xs b calls to (steps.serves from until d) h = h
   later_closes x xs b calls to (steps.hands d) h = h
   later_closes x xs b calls to steps.waits h = h
   later_closes x xs b calls to (steps.expects number) h = h

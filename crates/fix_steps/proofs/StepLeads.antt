@@ -34,12 +34,15 @@ use Rattle.fix_stage.specs.Flush.{Flushed}
 use Rattle.fix_stage.specs.Outgoing.{Outgoing, IsOutgoing}
 use Rattle.fix_stage.specs.Staging as staging
 use Rattle.fix_stage.specs.Staging.{MakesAndStages}
+use Rattle.fix_stage.specs.Serving.{Served}
 use Rattle.fix_stage.specs.Lawful.{IsCertain, AsksNoReset, Fits, Level, LawfulRunTo, After, AfterFault, LeadsFrom}
+use Rattle.fix_stage.specs.LawfulServing.{MayServeAt, AfterServe}
 use Rattle.fix_stage.proofs.ChainLemmas.{level_fits}
 use Rattle.fix_stage.proofs.LeadsLemmas.{leads_nowhere, leads_step, leads_call, leads_move, leads_weaker, HasNoDoubt, none_leads, first_leads, then_leads}
 use Rattle.fix_stage.proofs.OutgoingLemmas.{carried, frame_original}
 use Rattle.fix_stage.proofs.PlainLemmas.{has_same, sealed_free}
 use Rattle.fix_stage.proofs.SendingLemmas.{Flushed-empty}
+use Rattle.fix_stage.proofs.ServingLeads.{served_leads}
 use Rattle.fix_stage.proofs.StagingLeads.{flush_fits, staged_fits, staged_reject, counted, ahead_seen, Rejected}
 use Rattle.fix_steps.specs.Said.{said_outgoing, IsSayable}
 use Rattle.fix_steps.specs.declared.ending.Ending.{Ending}
@@ -48,8 +51,10 @@ use Rattle.fix_steps.specs.declared.ending.Ending.TheVariants as ending
 use Rattle.fix_steps.specs.Steps as done
 use Rattle.fix_steps.specs.Steps.{IsCarried, InAnswer, Saying, Handing, Performed, Begins, Done, Carried}
 use Rattle.fix_steps.specs.Lawful as lawful
-use Rattle.fix_steps.specs.Lawful.{Standing, Clear, Open, Handled, IsFresh, IsNoReset, MayDo, MayDoAll, standing_first, MayAnswer, BeginsPlainly, WasReadIn, IsAnswered, InStep, InStepClear, HasHandled, Stands, IsStillOn, AfterEnding}
+use Rattle.fix_steps.specs.Lawful.{Standing, Clear, Open, Handled, IsFresh, IsNoReset, MayDo, MayDoAll, standing_first, MayAnswer, BeginsPlainly, WasReadIn, IsAnswered, InStep, InStepClear, InBounds, HasHandled, Stands, IsStillOn, AfterEnding}
+use Rattle.fix_steps.specs.Leaves.{last_taken}
 use Rattle.fix_steps.proofs.SaidLemmas.{said_is_outgoing}
+use Rattle.fix_steps.proofs.SoundLemmas.{step_ranges, begins_ranges}
 use Rattle.fix_steps.proofs.ReadLemmas.{read_free, has_first, IsAppOf, app_fields}
 
 -- ---- where an answer stands
@@ -73,11 +78,39 @@ stands_certain id read Clear n b e h = h.level.certain.doubt
 stands_certain id read Open n b e h = h.fits.certain.doubt
 stands_certain id read Handled n b e h = h.fits.certain.doubt
 
+-- the same with numbers in their bounds
+abbrev pub Bounded : Identity → List ℕ → Standing → ℕ → Sender → EndState → Type 0
+Bounded id read at n = InBounds (Stands id read at n)
+
+bounded_certain : (id : Identity) (read : List ℕ) (at : Standing) (n : ℕ) → HasNoDoubt (Bounded id read at n)
+bounded_certain id read at n b e h = stands_certain id read at n b e h.is
+
+still_bounded : (F : Ending → Sender → EndState → Type 0) (Q : Sender → EndState → Type 0) (r : Result ⊤ Ending) (to : Sender) (e : EndState) → last_taken to ≤ 999999999 → After F Q r to e → After F (InBounds Q) r to e
+still_bounded F Q (Ok x) to e few q = record { is = q; last = few }
+still_bounded F Q (Err f) to e few q = q
+
+-- a fault of serving ends the answer
+serve_ended : (id : Identity) (read : List ℕ) (f : StageFault) (b : Sender) (e : EndState) → AfterServe f b e → AfterEnding id read (ending_of f) b e
+serve_ended id read fault.NumbersSpent b e h = absurd h
+serve_ended id read fault.OutOfMemory b e h = h
+serve_ended id read fault.StoreFault b e (inl h) = lawful.withheld_in_doubt h
+serve_ended id read fault.StoreFault b e (inr h) = lawful.none_in_doubt h
+serve_ended id read fault.LinkFault b e h = h
+
+-- a range is served, with nothing staged
+serve_leads : (id : Identity) (read : List ℕ) (n from until : ℕ) (b : Sender) → last_taken b ≤ 999999999 → (calls : List Call) (r : Result ⊤ Ending) (to : Sender) → InAnswer (Served id from until) b calls r to → (e : EndState) → InStepClear id read n b e → LawfulRunTo id e calls (After (AfterEnding id read) (InStepClear id read n) r to)
+serve_leads id read n from until b few calls r to (goes_well {s = s} d) e h =
+    leads_weaker id e calls (MayServeAt id read h.given n s) (InStepClear id read n s) (λ e' q. record { given = h.given; level = q.level; empty = q.empty; below = h.below })
+    (served_leads id read h.given n from until b calls (Ok tt) s d e (record { level = h.level; empty = h.empty; last = omega (arith, few) }))
+serve_leads id read n from until b few calls r to (fails {s = s} {e = f} d) e h =
+    leads_weaker id e calls (AfterServe f s) (AfterEnding id read (ending_of f) s) (λ e' q. serve_ended id read f s e' q)
+    (served_leads id read h.given n from until b calls (Err f) s d e (record { level = h.level; empty = h.empty; last = omega (arith, few) }))
+
 -- a fault of sending ends the answer
 pub ended : (id : Identity) (read given : List ℕ) (n : ℕ) (f : StageFault) (b : Sender) (e : EndState) → AfterFault id read given n f b e → AfterEnding id read (ending_of f) b e
 ended id read given n fault.NumbersSpent b e h = (record { number = n; given = given; fits = level_fits id read given n b e h.0 }, h.1)
 ended id read given n fault.OutOfMemory b e h = h
-ended id read given n fault.StoreFault b e h = h
+ended id read given n fault.StoreFault b e h = lawful.staged_in_doubt h
 ended id read given n fault.LinkFault b e h = h
 
 -- something of sending, in an answer
@@ -360,30 +393,37 @@ module _ (id : Identity) (read : List ℕ) (valid : IsValidIdentity id) (frame :
   message_as : (y : Message) → x ≡ Some y → AsMessage read frame y
   message_as y e = as_message read frame x y answered e
 
-  may_leads : {at at' : Standing} {n n' : ℕ} {step : StepSeen} → MayDo x at n step at' n' → IsCarried frame step → LeadsFrom id Failed (Stands id read at n) (λ b. Performed id frame b step) (Stands id read at' n')
-  may_leads {at = at} {n = n} (lawful.may_say said is free) fit b calls r to d e h = say_leads id read valid frame n said fit free b calls r to d e (fresh id read at n b e is h)
-  may_leads {at = at} {n = n} (lawful.may_reject marked body type f same is) fit b calls r to d e h =
+  may_leads : {at at' : Standing} {n n' : ℕ} {step : StepSeen} → MayDo x at n step at' n' → IsCarried frame step → (b : Sender) → last_taken b ≤ 999999999 → (calls : List Call) (r : Result ⊤ Ending) (to : Sender) → Performed id frame b step calls r to → (e : EndState) → Stands id read at n b e → LawfulRunTo id e calls (After Failed (Stands id read at' n') r to)
+  may_leads {at = at} {n = n} (lawful.may_say said is free) fit b few calls r to d e h = say_leads id read valid frame n said fit free b calls r to d e (fresh id read at n b e is h)
+  may_leads {at = at} {n = n} (lawful.may_reject marked body type f same is) fit b few calls r to d e h =
       let m = message_as (message.App n marked body) same in
       reject_leads id read valid frame n marked body type f fit m.plain m.shown b calls r to d e (fresh id read at n b e is h)
-  may_leads {n = n} (lawful.may_hand marked body same) fit b calls r to (done.hands d) e h =
+  may_leads {n = n} (lawful.may_hand marked body same) fit b few calls r to (done.hands d) e h =
       let m = message_as (message.App n marked body) same in
       hand_leads id read valid frame m.text n marked body m.is m.says m.plain m.shown b calls r to d e h
-  may_leads {at = at} {n = n} lawful.may_wait fit b calls r to done.waits e h = leads_nowhere id e (Stands id read at n b) h
-  may_leads {n = n} (lawful.passes_app marked body same) fit b calls r to d e h =
+  may_leads {n = n} (lawful.may_serve _ _) fit b few calls r to (done.serves from until d) e h = serve_leads id read n from until b few calls r to d e h
+  may_leads {at = at} {n = n} lawful.may_wait fit b few calls r to done.waits e h = leads_nowhere id e (Stands id read at n b) h
+  may_leads {n = n} (lawful.passes_app marked body same) fit b few calls r to d e h =
       let m = message_as (message.App n marked body) same in app_leads id read frame m.plain n marked body m.shown b calls r to d e h
-  may_leads {at = at} {n = n} (lawful.passes_admin y same numbered is) fit b calls r to d e h =
+  may_leads {at = at} {n = n} (lawful.passes_admin y same numbered is) fit b few calls r to d e h =
       let m = message_as y same in passes_at id read frame m.plain at is n (n + 1) (admin_clear id read frame m.plain n y numbered m.shown) (admin_leads id read frame m.plain n y numbered m.shown) b calls r to d e h
-  may_leads {at = at} {n = n} (lawful.passes_gap k same up is) fit b calls r to d e h =
+  may_leads {at = at} {n = n} (lawful.passes_gap k same up is) fit b few calls r to d e h =
       let m = message_as (message.GapFill n k) same in passes_at id read frame m.plain at is n k (gap_clear id read frame m.plain n k up m.shown) (gap_leads id read frame m.plain n k up m.shown) b calls r to d e h
-  may_leads {at = at} {n = n} (lawful.resets_to j k same up is) fit b calls r to d e h =
+  may_leads {at = at} {n = n} (lawful.resets_to j k same up is) fit b few calls r to d e h =
       let m = message_as (message.ResetTo j k) same in passes_at id read frame m.plain at is n k (reset_clear id read frame m.plain n j k up m.shown) (reset_leads id read frame m.plain n j k up m.shown) b calls r to d e h
-  may_leads {at = at} {n = n} (lawful.may_close why) fit b calls r to (done.closes w) e h = leads_nowhere id e (IsStillOn id read b) (still_on id read at n b e h)
-  may_leads {at = at} {n = n} lawful.may_rest fit b calls r to done.nothing e h = leads_nowhere id e (Stands id read at n b) h
+  may_leads {at = at} {n = n} (lawful.may_close why) fit b few calls r to (done.closes w) e h = leads_nowhere id e (IsStillOn id read b) (still_on id read at n b e h)
+  may_leads {at = at} {n = n} lawful.may_rest fit b few calls r to done.nothing e h = leads_nowhere id e (Stands id read at n b) h
 
-  all_lead : {at to : Standing} {n m : ℕ} {xs : List StepSeen} → MayDoAll x at n xs to m → AllByRecursion (IsCarried frame) xs → LeadsFrom id Failed (Stands id read at n) (Done id frame xs) (Stands id read to m)
-  all_lead {at = at} {n = n} lawful.all_done fit = none_leads id Failed (Performed id frame) (Stands id read at n)
+  -- a step may be done, with numbers in their bounds
+  bounded_leads : {at at' : Standing} {n n' : ℕ} {step : StepSeen} → MayDo x at n step at' n' → IsCarried frame step → LeadsFrom id Failed (Bounded id read at n) (λ b. Performed id frame b step) (Bounded id read at' n')
+  bounded_leads {at' = at'} {n' = n'} {step = step} one fit b calls r to d e h =
+      leads_weaker id e calls (After Failed (Stands id read at' n') r to) (After Failed (Bounded id read at' n') r to)
+      (λ e' q. still_bounded Failed (Stands id read at' n') r to e' (step_ranges id frame step b calls r to h.last d) q) (may_leads one fit b h.last calls r to d e h.is)
+
+  all_lead : {at to : Standing} {n m : ℕ} {xs : List StepSeen} → MayDoAll x at n xs to m → AllByRecursion (IsCarried frame) xs → LeadsFrom id Failed (Bounded id read at n) (Done id frame xs) (Bounded id read to m)
+  all_lead {at = at} {n = n} lawful.all_done fit = none_leads id Failed (Performed id frame) (Bounded id read at n)
   all_lead {at = at} {to = to} {n = n} {m = m} (lawful.first_may {at' = at'} {n' = n'} {step = step} {steps = xs} one more) fit =
-      first_leads id Failed (Performed id frame) (Stands id read at n) (Stands id read at' n') (Stands id read to m) step xs (stands_certain id read at' n') (may_leads one fit.0) (all_lead more fit.1)
+      first_leads id Failed (Performed id frame) (Bounded id read at n) (Bounded id read at' n') (Bounded id read to m) step xs (bounded_certain id read at' n') (bounded_leads one fit.0) (all_lead more fit.1)
 
   -- ---- what an answer begins with
 
@@ -398,6 +438,11 @@ module _ (id : Identity) (read : List ℕ) (valid : IsValidIdentity id) (frame :
   begins_leads n xs b calls r to (done.at_once none) e h =
       subst (λ (t : Bool). LawfulRunTo id e [] (Stands id read (if t then Clear else Open) n b)) (sym none) (leads_nowhere id e (InStep id read n b) h)
 
-  pub carried_leads : (n m : ℕ) (xs : List StepSeen) (to : Standing) → MayAnswer x n xs to m → AllByRecursion (IsCarried frame) xs → LeadsFrom id Failed (InStep id read n) (Carried id frame xs) (Stands id read to m)
+  begins_bounded : (n : ℕ) (xs : List StepSeen) → LeadsFrom id Failed (InBounds (InStep id read n)) (Begins xs) (Bounded id read (standing_first xs) n)
+  begins_bounded n xs b calls r to d e h =
+      leads_weaker id e calls (After Failed (Stands id read (standing_first xs) n) r to) (After Failed (Bounded id read (standing_first xs) n) r to)
+      (λ e' q. still_bounded Failed (Stands id read (standing_first xs) n) r to e' (begins_ranges xs b calls r to h.last d) q) (begins_leads n xs b calls r to d e h.is)
+
+  pub carried_leads : (n m : ℕ) (xs : List StepSeen) (to : Standing) → MayAnswer x n xs to m → AllByRecursion (IsCarried frame) xs → LeadsFrom id Failed (InBounds (InStep id read n)) (Carried id frame xs) (Bounded id read to m)
   carried_leads n m xs to may fit =
-      then_leads id Failed (InStep id read n) (Stands id read (standing_first xs) n) (Stands id read to m) (Begins xs) (Done id frame xs) (stands_certain id read (standing_first xs) n) (begins_leads n xs) (all_lead may fit)
+      then_leads id Failed (InBounds (InStep id read n)) (Bounded id read (standing_first xs) n) (Bounded id read to m) (Begins xs) (Done id frame xs) (bounded_certain id read (standing_first xs) n) (begins_bounded n xs) (all_lead may fit)

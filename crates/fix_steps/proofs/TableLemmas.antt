@@ -153,7 +153,9 @@ module _ (fs : List Field) (i : Inbound) (told : IsTold fs i) (frame : Option (L
   ask_may o k n s = either said frame n (is_none s.resend_requested) (answer (ask_step o k s ∷ []) (asked o k s)) (answer [] s) (λ e fit. say_may said n (say.ResendRequest _ _) tt) (λ e fit. nothing_may said n)
 
   serve_may : (o : Options) (k n from to : ℕ) (s : MachineState) → Claim said frame n (on.then_ask o k (Serve from to ∷ []) s)
-  serve_may o k n from to s = either said frame n (is_none s.resend_requested) (answer (Serve from to ∷ ask_step o k s ∷ []) (asked o k s)) (answer (Serve from to ∷ []) s) (λ e fit. absurd fit.0.0) (λ e fit. absurd fit.0.0)
+  serve_may o k n from to s = either said frame n (is_none s.resend_requested) (answer (Serve from to ∷ ask_step o k s ∷ []) (asked o k s)) (answer (Serve from to ∷ []) s)
+      (λ e fit. record { to = Open; number = n; fresh = tt; may = lawful.first_may (lawful.may_serve _ _) (lawful.first_may (lawful.may_say (say.ResendRequest _ _) tt tt) two_idle) })
+      (λ e fit. record { to = Clear; number = n; fresh = tt; may = lawful.first_may (lawful.may_serve _ _) three_idle })
 
   stash_may : (o : Options) (k n : ℕ) (s : MachineState) → Claim said frame n (on.then_ask o k (Stash ∷ []) s)
   stash_may o k n s = either said frame n (is_none s.resend_requested) (answer (Stash ∷ ask_step o k s ∷ []) (asked o k s)) (answer (Stash ∷ []) s)
@@ -228,7 +230,7 @@ module _ (fs : List Field) (i : Inbound) (told : IsTold fs i) (frame : Option (L
       session_may : (a : AdminSeen) → is_admin_type type ≡ true → admin_of type fs ≡ Ok a → (s : MachineState) → Claim said frame n (on.session_message a n i s)
       session_may (admin.Heartbeat id) session of s fit = counted_may (session_numbered type n fs session)
       session_may (admin.TestRequest id) session of s fit = record { to = Open; number = n + 1; fresh = tt; may = lawful.first_may (lawful.may_say (say.Heartbeat (Some id)) tt tt) (lawful.first_may (lawful.passes_admin y is (session_numbered type n fs session) tt) two_idle) }
-      session_may (admin.ResendRequest from to) session of s fit = absurd fit.1.0.0
+      session_may (admin.ResendRequest from to) session of s fit = record { to = Clear; number = n + 1; fresh = tt; may = lawful.first_may (lawful.passes_admin y is (session_numbered type n fs session) tt) (lawful.first_may (lawful.may_serve _ _) two_idle) }
       session_may (admin.Reject about) session of s fit = counted_may (session_numbered type n fs session)
       session_may (admin.SequenceReset next gap) session of s fit = let reset = is_reset type fs next gap of in filled_may next reset (filling next reset) s fit
       session_may admin.Logout session of s fit = logout_may s.phase (on.logged_out s.phase (counted n s)) session fit

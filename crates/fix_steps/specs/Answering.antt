@@ -1,4 +1,4 @@
--- What comes of an answer, call by call: sending, a hand-over, and records that keep a reset or that it was answered.
+-- What comes of an answer, call by call: sending, serving a ResendRequest, a hand-over, and what is kept of resets.
 use Rattle.std.specs.Prelude.{◌≡◌, ℕ, List, Option, Some, Result, ⊤}
 use Rattle.std.specs.List.{AllByRecursion}
 use Rattle.fix_base.specs.declared.entry.Entry.{Entry}
@@ -9,13 +9,14 @@ use Rattle.fix_outside.specs.declared.handing.Said.{Said}
 use Rattle.fix_outside.specs.declared.outside.KeepFault.{KeepFault}
 use Rattle.fix_outside.specs.Calls.{Call, Keep}
 use Rattle.fix_stage.specs.declared.sender.Sender.{Sender}
-use Rattle.fix_stage.specs.Sendings.{IsSending}
+use Rattle.fix_stage.specs.Sendings.{IsSending, IsServing}
 use Rattle.fix_steps.specs.Steps.{hand_call}
 
--- A call that comes of sending entries that have Q, or of handing over the message of this frame, or that keeps a reset
--- or that one was answered. What each call answered is left open
+-- A call that comes of sending entries that have Q, of serving a ResendRequest, or of handing over the message of this
+-- frame, or that keeps a reset or that one was answered. What each call answered is left open
 pub data IsAnswering (Q : Entry → Type 0) (frame : Option (List ℕ)) : Call → Type 0 where
   sends : {call : Call} → IsSending Q call → IsAnswering Q frame call
+  serves : {call : Call} → IsServing call → IsAnswering Q frame call
   hands : (text : List ℕ) (fields : List Field) (said : Said) → frame ≡ Some text → HasFields text fields
       → IsAnswering Q frame (hand_call fields said)
   resets : (time : ℕ) (answer : Result ⊤ KeepFault) → IsAnswering Q frame (Keep (Reset time) answer)

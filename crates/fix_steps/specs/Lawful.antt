@@ -11,13 +11,15 @@ use Rattle.fix_base.specs.declared.fault.Fault.{Fault}
 use Rattle.fix_admin.specs.Say.{SaySeen, Heartbeat, TestRequest, ResendRequest, Reject, Logout, Logon}
 use Rattle.fix_admin.specs.Say as say
 use Rattle.fix_machine.specs.declared.event.Why.{Why}
-use Rattle.fix_machine.specs.Event.{StepSeen, Send, Hand, Stash, Expect, Close, Nothing}
+use Rattle.fix_machine.specs.Event.{StepSeen, Send, Serve, Hand, Stash, Expect, Close, Nothing}
 use Rattle.fix_machine.specs.Numbers.{begins_with_a_flush}
 use Rattle.fix_stage.specs.Stage.{no_stage}
 use Rattle.fix_stage.specs.declared.sender.Sender.{Sender}
 use Rattle.fix_stage.specs.Lawful.{IsCertain, IsInDoubt, Fits, Level, Bare}
+use Rattle.fix_stage.specs.LawfulServing.{IsWithholdInDoubt}
 use Rattle.fix_steps.specs.declared.ending.Ending.{Ending}
 use Rattle.fix_steps.specs.declared.ending.Ending.TheVariants as ending
+use Rattle.fix_steps.specs.Leaves.{last_taken}
 
 -- ---- what may be done
 
@@ -52,6 +54,7 @@ pub data MayDo (x : Option Message) : Standing → ℕ → StepSeen → Standing
   may_reject : {at : Standing} {n : ℕ} (marked : Bool) (body type : List ℕ) (fault : Fault)
       → x ≡ Some (App n marked body) → IsFresh at → MayDo x at n (Send (Reject n type fault)) Handled n
   may_hand : {n : ℕ} (marked : Bool) (body : List ℕ) → x ≡ Some (App n marked body) → MayDo x Clear n Hand Handled n
+  may_serve : {n : ℕ} (from until : ℕ) → MayDo x Clear n (Serve from until) Clear n
   may_wait : {at : Standing} {n : ℕ} → MayDo x at n Stash at n
   passes_app : {n : ℕ} (marked : Bool) (body : List ℕ) → x ≡ Some (App n marked body)
       → MayDo x Handled n (Expect (n + 1)) Open (n + 1)
@@ -123,11 +126,23 @@ Stands id read Clear n b e = InStepClear id read n b e
 Stands id read Open n b e = InStep id read n b e
 Stands id read Handled n b e = HasHandled id read n b e
 
+-- this holds of them, and each number that a message took is a MsgSeqNum
+pub record InBounds (P : Sender → EndState → Type 0) (b : Sender) (e : EndState) : Type 0 where
+  pub is : P b e
+  pub last : last_taken b ≤ 999999999
+
 -- the end is in step with a session that is on its connection still: what is staged may be kept and written
 pub record IsStillOn (id : Identity) (read : List ℕ) (b : Sender) (e : EndState) : Type 0 where
   pub number : ℕ
   pub given : List ℕ
   pub fits : Fits id read given number b e
+
+-- the end after the store failed: a record of what was staged or a number that is withheld is in doubt, or none, where
+-- it failed at a fetch
+pub data AfterStoreFault (b : Sender) (e : EndState) : Type 0 where
+  staged_in_doubt : IsInDoubt b e → AfterStoreFault b e
+  withheld_in_doubt : IsWithholdInDoubt b e → AfterStoreFault b e
+  none_in_doubt : Bare b e → AfterStoreFault b e
 
 -- The end after an answer that ended early. After a close the session is on its connection until the turn is settled;
 -- where no number is left too, with nothing staged
@@ -135,6 +150,6 @@ abbrev pub AfterEnding : Identity → List ℕ → Ending → Sender → EndStat
 AfterEnding id read (ending.Closed why) b e = IsStillOn id read b e
 AfterEnding id read ending.NumbersSpent b e = IsStillOn id read b e × (b.stage ≡ no_stage)
 AfterEnding id read ending.OutOfMemory b e = IsCertain b.numbers e
-AfterEnding id read ending.StoreFault b e = IsInDoubt b e
+AfterEnding id read ending.StoreFault b e = AfterStoreFault b e
 AfterEnding id read ending.LinkFault b e = Bare b e
 AfterEnding id read ending.AppFault b e = Bare b e

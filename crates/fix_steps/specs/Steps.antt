@@ -3,6 +3,7 @@ use Rattle.std.specs.Prelude.{◌≡◌, ◌≤◌, ℕ, List, [], ◌∷◌, tr
 use Rattle.fix_base.specs.declared.identity.Identity.{Identity}
 use Rattle.fix_base.specs.Fields.{Field}
 use Rattle.fix_base.specs.Shape.{IsFrame}
+use Rattle.fix_base.specs.Wrote.{IsRequestRange}
 use Rattle.fix_base.specs.Says.{HasFields, value_of, seq_num_of, is_yes, body_of}
 use Rattle.fix_outside.specs.declared.handing.Said.{Said}
 use Rattle.fix_outside.specs.declared.handing.Said.TheVariants as said
@@ -21,6 +22,7 @@ use Rattle.fix_stage.specs.declared.fault.StageFault.{StageFault}
 use Rattle.fix_stage.specs.Sender.{with_numbers, with_expected}
 use Rattle.fix_stage.specs.Flush.{Flushed}
 use Rattle.fix_stage.specs.Staging.{MakesAndStages}
+use Rattle.fix_stage.specs.Serving.{Served}
 use Rattle.fix_steps.specs.Said.{said_outgoing, IsSayable}
 use Rattle.fix_steps.specs.declared.ending.Ending.{Ending}
 use Rattle.fix_steps.specs.Ending.{ending_of}
@@ -50,11 +52,11 @@ abbrev pub IsThere : Option (List ℕ) → Type 0
 IsThere None = ⊥
 IsThere (Some text) = Unit {0}
 
--- A step that is carried out here. Nothing is handed over where no message is answered, and a number that is
--- expected is one. Serving a ResendRequest has no part here yet
+-- A step that can be carried out. What is said is sayable, what is served is a range, nothing is handed over where no
+-- message is answered, and a number that is expected is one
 abbrev pub IsCarried : Option (List ℕ) → StepSeen → Type 0
 IsCarried frame (Send say) = IsSayable say
-IsCarried frame (Serve from to) = ⊥
+IsCarried frame (Serve from to) = IsRequestRange from to
 IsCarried frame step.Hand = IsThere frame
 IsCarried frame Stash = Unit {0}
 IsCarried frame (Expect number) = (1 ≤ number) × (number ≤ 1000000000)
@@ -101,6 +103,8 @@ pub data Performed (id : Identity) (frame : Option (List ℕ)) (b : Sender) : St
     → Sender → Type 0 where
   says : (say : SaySeen) {calls : List Call} {r : Result ⊤ Ending} {to : Sender} → Saying id say b calls r to
       → Performed id frame b (Send say) calls r to
+  serves : (from until : ℕ) {calls : List Call} {r : Result ⊤ Ending} {to : Sender}
+      → InAnswer (Served id from until) b calls r to → Performed id frame b (Serve from until) calls r to
   hands : {calls : List Call} {r : Result ⊤ Ending} {to : Sender} → Handing frame b calls r to
       → Performed id frame b step.Hand calls r to
   waits : Performed id frame b Stash [] (Ok tt) b

@@ -4,7 +4,6 @@ use Rattle.std.specs.List.{AllByRecursion}
 use Rattle.fix_base.specs.Fields.{Field}
 use Rattle.fix_base.specs.Message.{Message}
 use Rattle.fix_base.specs.Says.{value_of, is_yes, is_admin_type}
-use Rattle.fix_base.specs.Wrote.{IsRequestRange}
 use Rattle.fix_fields.specs.Header.{header_of_fields}
 use Rattle.fix_admin.specs.Admin.{admin_of}
 use Rattle.fix_machine.specs.declared.state.MachineState.{MachineState}
@@ -64,26 +63,14 @@ pub record MayBeDone (x : Option Message) (n : ℕ) (a : Answered) : Type 0 wher
 
 -- ---- what a decision asks of who carries it out
 
--- a step that is carried out here, or that serves a range: this has no part here yet
-abbrev pub IsPossible : Option (List ℕ) → StepSeen → Type 0
-IsPossible frame (Send say) = IsCarried frame (Send say)
-IsPossible frame (Serve from to) = IsRequestRange from to
-IsPossible frame Hand = IsCarried frame Hand
-IsPossible frame Stash = IsCarried frame Stash
-IsPossible frame (Expect number) = IsCarried frame (Expect number)
-IsPossible frame Reset = IsCarried frame Reset
-IsPossible frame Confirm = IsCarried frame Confirm
-IsPossible frame (Close why) = IsCarried frame (Close why)
-IsPossible frame Nothing = IsCarried frame Nothing
-
 -- the number that is expected is one, and so is the one that showed a gap
 pub record IsBounded (s : MachineState) : Type 0 where
   pub first : 1 ≤ s.expected
   pub last : s.expected ≤ 1000000000
   pub gap : IfSome s.resend_requested (λ gap. gap.above ≤ 999999999)
 
--- each step is such a one, they stand in order, and the state after them is bounded again
+-- each step can be carried out, they stand in order, and the state after them is bounded again
 pub record IsPossibleAnswer (frame : Option (List ℕ)) (a : Answered) : Type 0 where
-  pub steps : AllByRecursion (IsPossible frame) a.steps
+  pub steps : AllByRecursion (IsCarried frame) a.steps
   pub order : IsInOrder a.steps
   pub next : IsBounded a.next

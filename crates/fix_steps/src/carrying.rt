@@ -15,13 +15,14 @@ use crate::ending::ending_of;
 use crate::handing::hand;
 use crate::resetting::{confirm, reset};
 use crate::saying::say;
+use crate::serving::serve_range;
 use crate::{Ending, Source};
 use fix_machine::{Decision, Step};
 use fix_outside::Outside;
 use fix_stage::{Context, Sender, flush};
 
-/// Carries out a decision. What is staged goes out first where a message is handed over; then its steps are done in
-/// order, until one ends the answer.
+/// Carries out a decision. What is staged goes out first where a message is handed over, a ResendRequest is served or
+/// a reset is kept; then its steps are done in order, until one ends the answer.
 pub fn carry_out<O: Outside>(
     o: &mut O,
     context: &Context,
@@ -129,6 +130,7 @@ fn perform<O: Outside>(
 {
     match step {
         Step::Send(said) => say(o, context, sender, said),
+        Step::Serve { from, to } => serve_range(o, context, sender, *from, *to),
         Step::Hand => hand_over(o, context, sender, source),
         Step::Expect(number) => {
             sender.numbers.expected = *number;
@@ -140,8 +142,6 @@ fn perform<O: Outside>(
         // Who asked for the answer keeps a message that waits.
         Step::Stash => Ok(()),
         Step::Nothing => Ok(()),
-        // No decision that is carried out here has this.
-        Step::Serve { .. } => unreachable!(),
     }
 }
 

@@ -22,30 +22,34 @@ ghost use Rattle.fix_steps.specs.declared.ending.Ending.{Ending};
 ghost use Rattle.fix_steps.specs.declared.ending.Ending.TheVariants as ending;
 ghost use Rattle.fix_steps.specs.Leaves.{IsInOrder, HasNumbers};
 ghost use Rattle.fix_steps.specs.Answering.{AnswersOnly};
-ghost use Rattle.fix_steps.specs.Stated.{IsRead};
-ghost use Rattle.fix_steps.specs.Lawful.{Standing, MayAnswer, BeginsPlainly, WasReadIn, IsAnswered, InStep};
+ghost use Rattle.fix_steps.specs.Stated.{IsRead, IsSound};
+ghost use Rattle.fix_steps.specs.Lawful.{Standing, MayAnswer, BeginsPlainly, WasReadIn, IsAnswered, InStep, InBounds};
 ghost use Rattle.fix_steps.specs.Lawful.{Stands, AfterEnding};
 ghost use Rattle.fix_steps.specs.Told.{IsTold, IsOther, KeepsNumbers, MayBeDone, IsBounded, IsPossibleAnswer};
 
 /// What is out of memory would have gone on, and what is not has an end: no answer is left without one.
 pub fn what_is_out_of_memory_would_have_gone_on()
-    ensures answer { (id : Identity) (frame : Option (List ℕ)) → IsRead frame → (steps : List StepSeen)
-        → AllByRecursion (IsCarried frame) steps → Resumes ending.OutOfMemory IsTimely (Carried id frame steps) }
-    ensures answer_ends { (id : Identity) (frame : Option (List ℕ)) → IsRead frame → (steps : List StepSeen)
-        → AllByRecursion (IsCarried frame) steps → Total ending.OutOfMemory IsTimely (Carried id frame steps) }
+    ensures answer { (id : Identity) → IsValidIdentity id → (frame : Option (List ℕ)) → IsRead frame
+        → (steps : List StepSeen) → AllByRecursion (IsCarried frame) steps
+        → Resumes ending.OutOfMemory IsSound (Carried id frame steps) }
+    ensures answer_ends { (id : Identity) → IsValidIdentity id → (frame : Option (List ℕ)) → IsRead frame
+        → (steps : List StepSeen) → AllByRecursion (IsCarried frame) steps
+        → Total ending.OutOfMemory IsSound (Carried id frame steps) }
 {}
 
 /// An answer is a run of a lawful end where each of its steps may be done: whatever end is in step with the session
-/// before it, its acts are a run of that end, to one that is in step again.
+/// before it, its acts are a run of that end, to one that is in step again. Each number that a message took is a
+/// MsgSeqNum (34) before it and after it.
 pub fn an_answer_is_lawful()
     ensures { (id : Identity) (read : List ℕ) (frame : Option (List ℕ)) (x : Option Message) (n m : ℕ)
         (steps : List StepSeen) (to : Standing) → IsValidIdentity id → IsAnswered read frame x
         → AllByRecursion (IsCarried frame) steps → MayAnswer x n steps to m
-        → LeadsFrom id (AfterEnding id read) (InStep id read n) (Carried id frame steps) (Stands id read to m) }
+        → LeadsFrom id (AfterEnding id read) (InBounds (InStep id read n)) (Carried id frame steps)
+        (InBounds (Stands id read to m)) }
 {}
 
-/// An answer sends, hands the message over, keeps what is kept of resets, and does nothing else. What is staged may be sent again, and so may each
-/// entry of a record that is kept or lost.
+/// An answer sends, serves a ResendRequest, hands the message over, keeps what is kept of resets, and does nothing else.
+/// What is staged may be sent again, and so may each entry of a record that is kept or lost.
 pub fn an_answer_sends_and_hands_over()
     ensures { (id : Identity) (frame : Option (List ℕ)) (steps : List StepSeen) → AllByRecursion (IsCarried frame) steps
         → (b : Sender) → IsTimely b → (calls : List Call) (r : Result ⊤ Ending) (to : Sender)
@@ -87,17 +91,18 @@ pub fn what_is_decided_is_lawful()
         → ((y : Message) → message_of fields ≡ Some y → WasReadIn read y) → IsTold fields i
         → AllByRecursion (IsCarried (Some text)) (answer_to o s (Frame i)).steps
         → AllByRecursion KeepsNumbers (answer_to o s (Frame i)).steps
-        → LeadsFrom id (AfterEnding id read) (InStep id read s.expected)
+        → LeadsFrom id (AfterEnding id read) (InBounds (InStep id read s.expected))
         (Carried id (Some text) (answer_to o s (Frame i)).steps)
-        (InStep id read (expected_after (answer_to o s (Frame i)).steps s.expected)) }
+        (InBounds (InStep id read (expected_after (answer_to o s (Frame i)).steps s.expected))) }
     ensures other { (id : Identity) (read : List ℕ) (o : Options) (s : MachineState) (e : EventSeen)
         → IsValidIdentity id → IsOther s e → AllByRecursion (IsCarried None) (answer_to o s e).steps
-        → LeadsFrom id (AfterEnding id read) (InStep id read s.expected) (Carried id None (answer_to o s e).steps)
-        (InStep id read (expected_after (answer_to o s e).steps s.expected)) }
+        → LeadsFrom id (AfterEnding id read) (InBounds (InStep id read s.expected))
+        (Carried id None (answer_to o s e).steps)
+        (InBounds (InStep id read (expected_after (answer_to o s e).steps s.expected))) }
 {}
 
-/// What the machine decides is carried out here, or serves a range, where it names no application version. A reset stands
-/// first and a close last, and its numbers stay within their bounds.
+/// What the machine decides can be carried out, where it names no application version. A reset stands first and a close
+/// last, and its numbers stay within their bounds.
 pub fn what_is_decided_is_possible()
     ensures message { (text : List ℕ) (fields : List Field) → HasFields text fields → (i : Inbound) → IsTold fields i
         → (o : Options) (s : MachineState) → o.version ≡ None → IsBounded s

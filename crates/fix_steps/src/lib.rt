@@ -7,6 +7,7 @@ mod handing;
 mod laws;
 mod resetting;
 mod saying;
+mod serving;
 mod source;
 #[cfg(test)]
 mod tests;

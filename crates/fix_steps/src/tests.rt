@@ -29,6 +29,11 @@ const REJECT: &[u8] = b"8=FIX.4.2\x019=85\x0135=3\x0134=2\x0149=SELL\
 const LOGOUT: &[u8] = b"8=FIX.4.2\x019=68\x0135=5\x0134=3\x0149=SELL\
         \x0152=20240102-10:00:00.000\x0156=BUY\x0158=CompID problem\x0110=179\x01";
 
+// A gap fill over number 1.
+const GAP_FILL: &[u8] = b"8=FIX.4.2\x019=92\x0135=4\x0134=1\x0143=Y\x0149=SELL\x01\
+        52=20240102-10:00:00.000\x0156=BUY\x01\
+        122=20240102-10:00:00.000\x0136=2\x01123=Y\x0110=183\x01";
+
 // 2024-01-02 10:00:00, in microseconds since 1970.
 const TIME: u64 = 1_704_189_600_000_000;
 
@@ -137,8 +142,10 @@ impl Outside for Quiet {
         Ok(())
     }
 
-    fn fetch(&mut self, _n: SeqNum, _into: &mut Vec<u8>) -> Result<Kind, FetchFault> {
-        Err(FetchFault::OutOfMemory)
+    // Each entry is one of the session layer.
+    fn fetch(&mut self, _n: SeqNum, into: &mut Vec<u8>) -> Result<Kind, FetchFault> {
+        into.clear();
+        Ok(Kind::Admin)
     }
 
     fn hand(&mut self, h: &Handed<'_>) -> Said {
@@ -426,5 +433,35 @@ fn a_reset_that_was_answered_is_kept(rt: HostRuntime) -> Result<(), Fail> {
         (sender.numbers.expected, sender.numbers.stored_expected),
         (4, 1)
     );
+    Ok(())
+}
+
+// A ResendRequest for all messages: it is counted, and then served.
+fn count_and_serve<O: Outside>(alloc: Global, o: &mut O, context: &Context) -> Result<Sender, Fail>
+    requires valid { IsValidIdentity context.now.identity }
+    requires opens { (O.seen o.old).open_at ≡ Some 1 }
+{
+    let mut sender = sample_sender(alloc);
+    let decision = Decision {
+        first: Step::Expect(4),
+        second: Step::Serve { from: 1, to: 0 },
+        third: Step::Nothing,
+        fourth: Step::Nothing,
+    };
+    match carry_out(o, context, &mut sender, &Source::Other, &decision) {
+        Ok(()) => Ok(sender),
+        Err(_) => Err(OutOfMemory.into()),
+    }
+}
+
+#[test]
+fn a_request_is_counted_and_served(rt: HostRuntime) -> Result<(), Fail> {
+    let alloc = rt.alloc();
+    let context = sample_context(alloc)?;
+    let mut o = quiet_outside(alloc);
+    let sender = count_and_serve(alloc, &mut o, &context)?;
+    assert_eq!(rt; (o.last, o.keeps, o.writes), (1, 0, 1));
+    assert!(rt; o.written.as_slice() == GAP_FILL);
+    assert_eq!(rt; (sender.numbers.expected, sender.numbers.last), (4, 1));
     Ok(())
 }

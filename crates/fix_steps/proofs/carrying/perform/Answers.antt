@@ -1,9 +1,12 @@
 use Rattle.fix_outside.proofs.CallLemmas.{Called-nil}
-use Rattle.fix_steps.specs.Steps.{says, hands, waits, expects, resets, confirms, closes, nothing}
+use Rattle.fix_steps.specs.Steps.{says, serves, hands, waits, expects, resets, confirms, closes, nothing}
 use Rattle.fix_steps.proofs.carrying.perform.Goals as goal
 
 pub returns-in-Send-clause-calls : goal.returns-in-Send-clause-calls
 returns-in-Send-clause-calls g c = rw c.in-Send.is (let h = c.say.ensures.calls in (h.0, h.1, says _ h.2))
+
+pub returns-in-Serve-clause-calls : goal.returns-in-Serve-clause-calls
+returns-in-Serve-clause-calls g c = rw c.in-Serve.is (let h = c.serve_range.ensures.calls in (h.0, h.1, serves _ _ h.2))
 
 pub returns-in-Hand-clause-calls : goal.returns-in-Hand-clause-calls
 returns-in-Hand-clause-calls g c = rw c.in-Hand.is (let h = c.hand_over.ensures.calls in (h.0, h.1, hands h.2))
