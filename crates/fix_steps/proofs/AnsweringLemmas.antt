@@ -1,5 +1,5 @@
 -- An answer sends, serves, hands the message over, keeps what is kept of resets, and does nothing else.
-use Rattle.std.proofs.Common.{◌≢◌, ℕ, List, [], ◌∷◌, Option, Some, Result, Ok, Err, arith}
+use Rattle.std.proofs.Common.{◌≢◌, ℕ, List, [], ◌∷◌, Option, Result, Ok, Err, sym, subst, arith}
 use Rattle.std.specs.Prelude.{⊤}
 use Rattle.std.specs.List.{AllByRecursion}
 use Rattle.fix_base.specs.declared.identity.Identity.{Identity}
@@ -14,14 +14,12 @@ use Rattle.fix_stage.specs.Combine as combine
 use Rattle.fix_stage.specs.Combine.{Each, goes_well, fails}
 use Rattle.fix_stage.specs.declared.sender.Sender.{Sender}
 use Rattle.fix_stage.specs.declared.fault.StageFault.{StageFault}
-use Rattle.fix_stage.specs.Flush as flush
-use Rattle.fix_stage.specs.Flush.{Flushed, WroteOne}
-use Rattle.fix_stage.specs.Serving as serving
-use Rattle.fix_stage.specs.Serving.{WroteGap, WroteRepeat, Withholding, AppServed, ServedOne, Served}
-use Rattle.fix_stage.specs.Sendings as sending
+use Rattle.fix_stage.specs.Flush.{Flushed}
+use Rattle.fix_stage.specs.Serving.{Served}
 use Rattle.fix_stage.specs.Staging.{MakesAndStages}
-use Rattle.fix_stage.specs.Sendings.{IsSending, SendsOnly}
+use Rattle.fix_stage.specs.Sendings.{IsSending, IsServing, SendsOnly}
 use Rattle.fix_stage.specs.Stated.{IsTimely}
+use Rattle.fix_stage.proofs.ServingLemmas.{served_serves}
 use Rattle.fix_stage.proofs.SendsLemmas.{all-append, Flushed-sends, MakesAndStages-sends}
 use Rattle.fix_steps.specs.Said.{said_outgoing, IsSayable}
 use Rattle.fix_steps.specs.declared.ending.Ending.{Ending}
@@ -32,6 +30,7 @@ use Rattle.fix_steps.specs.Steps.{IsCarried, InAnswer, Handing, Performed, Begin
 use Rattle.fix_steps.specs.Answering as answers
 use Rattle.fix_steps.specs.Answering.{IsAnswering, AnswersOnly}
 use Rattle.fix_steps.proofs.SaidLemmas.{said_is_outgoing}
+use Rattle.fix_steps.proofs.SoundLemmas.{served_same}
 use Rattle.fix_steps.proofs.CompleteLemmas.{step_stays, begins_stays}
 
 abbrev Q : Entry → Type 0
@@ -64,53 +63,12 @@ module _ (frame : Option (List ℕ)) where
   in_answer_only R b one calls r to (goes_well {s = s} d) = one calls (Ok tt) s d
   in_answer_only R b one calls r to (fails {s = s} {e = e} d) = one calls (Err e) s d
 
-  -- ---- serving
+  serving_all : (calls : List Call) → AllByRecursion IsServing calls → AllByRecursion (IsAnswering Q frame) calls
+  serving_all [] h = tt
+  serving_all (x ∷ calls) h = (answers.serves h.0, serving_all calls h.1)
 
-  module _ (id : Identity) where
-    wrote_only : (u v : ⊤) (text : List ℕ) (calls : List Call) (r : Result ⊤ StageFault) → WroteOne u (Some text) calls r v → AllByRecursion (IsAnswering Q frame) calls
-    wrote_only u v text calls r (flush.wrote t) = (answers.sends (sending.writes _ _), tt)
-    wrote_only u v text calls r (flush.write_lost t sent) = (answers.sends (sending.writes _ _), tt)
-    wrote_only u v text calls r (flush.write_memory t) = (answers.sends (sending.writes _ _), tt)
-
-    gap_only : (t g n : ℕ) (u v : ⊤) (calls : List Call) (r : Result ⊤ StageFault) → WroteGap id t g n u calls r v → AllByRecursion (IsAnswering Q frame) calls
-    gap_only t g n u v calls r (serving.no_gap h) = tt
-    gap_only t g n u v calls r (serving.gap_written text h is d) = wrote_only u v text calls r d
-    gap_only t g n u v calls r (serving.gap_memory h) = tt
-
-    repeat_only : (t n time : ℕ) (body : List ℕ) (u v : ⊤) (calls : List Call) (r : Result ⊤ StageFault) → WroteRepeat id t n time body u calls r v → AllByRecursion (IsAnswering Q frame) calls
-    repeat_only t n time body u v calls r (serving.repeat_written text is d) = wrote_only u v text calls r d
-    repeat_only t n time body u v calls r serving.repeat_memory = tt
-
-    withholding_only : (n : ℕ) (u v : ⊤) (calls : List Call) (r : Result ⊤ StageFault) → Withholding n u calls r v → AllByRecursion (IsAnswering Q frame) calls
-    withholding_only n u v calls r serving.withheld_kept = (answers.withholds n _, tt)
-    withholding_only n u v calls r serving.withheld_lost = (answers.withholds n _, tt)
-    withholding_only n u v calls r serving.withheld_memory = (answers.withholds n _, tt)
-
-    app_only : (t n time : ℕ) (body : List ℕ) (g to : ℕ) (calls : List Call) (r : Result ⊤ StageFault) → AppServed id t n time body g calls r to → AllByRecursion (IsAnswering Q frame) calls
-    app_only t n time body g to calls r (serving.sends (combine.first_ends {calls = more} {e = e} d)) = (answers.asks _ _ _, gap_only t g n tt tt more (Err e) d)
-    app_only t n time body g to calls r (serving.sends (combine.both {mid = mid} {first = first} {more = more} d k)) =
-        (answers.asks _ _ _, all-append (IsAnswering Q frame) first more (gap_only t g n tt mid first (Ok tt) d) (repeat_only t n time body mid tt more r k))
-    app_only t n time body g to calls r (serving.withholds {calls = more} d) = (answers.asks _ _ _, withholding_only n tt tt more (Ok tt) d)
-    app_only t n time body g to calls r (serving.not_withheld {calls = more} {e = e} d) = (answers.asks _ _ _, withholding_only n tt tt more (Err e) d)
-    app_only t n time body g to calls r serving.not_asked = (answers.asks _ _ _, tt)
-
-    one_only : (t g n to : ℕ) (calls : List Call) (r : Result ⊤ StageFault) → ServedOne id t g n calls r to → AllByRecursion (IsAnswering Q frame) calls
-    one_only t g n to calls r (serving.app {calls = more} time body payload d) = (answers.fetches _ _ _, app_only t n time body g to more r d)
-    one_only t g n to calls r (serving.admin body) = (answers.fetches _ _ _, tt)
-    one_only t g n to calls r (serving.withheld body) = (answers.fetches _ _ _, tt)
-    one_only t g n to calls r (serving.fetch_lost body) = (answers.fetches _ _ _, tt)
-    one_only t g n to calls r (serving.fetch_memory body) = (answers.fetches _ _ _, tt)
-
-    each_only : (t : ℕ) (ns : List ℕ) (g to : ℕ) (calls : List Call) (r : Result ⊤ StageFault) → Each (ServedOne id t) g ns calls r to → AllByRecursion (IsAnswering Q frame) calls
-    each_only t [] g to calls r combine.none = tt
-    each_only t (n ∷ ns) g to calls r (combine.ends {e = e} d) = one_only t g n to calls (Err e) d
-    each_only t (n ∷ ns) g to calls r (combine.goes {mid = mid} {first = first} {more = more} d k) =
-        all-append (IsAnswering Q frame) first more (one_only t g n mid first (Ok tt) d) (each_only t ns mid to more r k)
-
-    served_only : (from until : ℕ) (b : Sender) (calls : List Call) (r : Result ⊤ StageFault) (to : Sender) → AllByRecursion Q b.stage.entries → Served id from until b calls r to → AnswersOnly Q frame calls to
-    served_only from until b calls r to all (serving.serve_ends {g = g} {e = e} d) = record { each = each_only b.numbers.reading _ 0 g calls (Err e) d; staged = all }
-    served_only from until b calls r to all (serving.serves {g = g} {first = first} {more = more} d w) =
-        record { each = all-append (IsAnswering Q frame) first more (each_only b.numbers.reading _ 0 g first (Ok tt) d) (gap_only b.numbers.reading g _ tt tt more r w); staged = all }
+  served_only : (id : Identity) (from until : ℕ) (b : Sender) (calls : List Call) (r : Result ⊤ StageFault) (to : Sender) → AllByRecursion Q b.stage.entries → Served id from until b calls r to → AnswersOnly Q frame calls to
+  served_only id from until b calls r to all d = record { each = serving_all calls (served_serves id from until b calls r to d); staged = subst (λ (s : Sender). AllByRecursion Q s.stage.entries) (sym (served_same id from until b calls r to d)) all }
 
   -- ---- the other steps
 

@@ -1,9 +1,9 @@
 -- An answer leaves the numbers that its steps say, and the reading as it was.
-use Rattle.std.proofs.Common.{◌≡◌, ℕ, ◌+◌, ◌<◌, ◌≤◌, nat_lt, Bool, true, false, if◌then◌else◌, List, [], ◌∷◌, length, length-append}
-use Rattle.std.proofs.Common.{Option, Result, Ok, Err, refl, sym, ap, ◌∙◌, subst, arith}
+use Rattle.std.proofs.Common.{◌≡◌, ℕ, ◌+◌, ◌≤◌, Bool, true, false, if◌then◌else◌, List, [], ◌∷◌, length, length-append}
+use Rattle.std.proofs.Common.{Option, Result, Ok, Err, refl, sym, ap, ◌∙◌, arith}
 use Rattle.std.specs.Prelude.{⊤, ◌||◌, not}
 use Rattle.std.specs.List.{list_any, list_all}
-use Rattle.std.proofs.lemmas.Bool.{lt-ltb, and_parts}
+use Rattle.std.proofs.lemmas.Bool.{lt-ltb}
 use Rattle.fix_base.specs.declared.identity.Identity.{Identity}
 use Rattle.fix_outside.specs.Calls.{Call}
 use Rattle.fix_machine.specs.declared.event.Why.{Why}
@@ -15,7 +15,6 @@ use Rattle.fix_stage.specs.Combine as combine
 use Rattle.fix_stage.specs.Combine.{goes_well, fails}
 use Rattle.fix_stage.specs.Stage.{Staged, no_stage}
 use Rattle.fix_stage.specs.declared.sender.Sender.{Sender}
-use Rattle.fix_stage.specs.Sender.{next_number}
 use Rattle.fix_stage.specs.declared.fault.StageFault.{StageFault}
 use Rattle.fix_stage.specs.declared.fault.StageFault.TheVariants as fault
 use Rattle.fix_stage.specs.Flush.{Flushed}
@@ -32,7 +31,7 @@ use Rattle.fix_steps.specs.Resetting as resetting
 use Rattle.fix_steps.specs.Resetting.{Resetting, Confirming}
 use Rattle.fix_steps.specs.Steps as steps
 use Rattle.fix_steps.specs.Steps.{InAnswer, Handing, Performed, Begins, Done, Carried}
-use Rattle.fix_steps.specs.Leaves.{last_taken, HasNumbers, is_reset, is_close, is_nothing, resets_first, closes_last, IsInOrder}
+use Rattle.fix_steps.specs.Leaves.{last_taken, HasNumbers, is_reset, is_nothing, resets_first, closes_last, IsInOrder}
 
 -- ---- the reading stays
 

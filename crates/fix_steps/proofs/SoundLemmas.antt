@@ -1,5 +1,5 @@
 -- What goes on stays sound: each number that a message took is a MsgSeqNum.
-use Rattle.std.proofs.Common.{◌≡◌, ◌≢◌, ℕ, ◌+◌, ◌≤◌, List, [], ◌∷◌, ◌++◌, length, length-append, Option, Result, Ok, Err, refl, subst, arith}
+use Rattle.std.proofs.Common.{◌≡◌, ℕ, ◌≤◌, List, [], ◌∷◌, ◌++◌, length-append, Option, Result, Ok, Err, refl, arith}
 use Rattle.std.specs.Prelude.{⊤}
 use Rattle.fix_base.specs.declared.identity.Identity.{Identity}
 use Rattle.fix_outside.specs.Calls.{Call}
@@ -17,9 +17,8 @@ use Rattle.fix_stage.specs.Staging as staging
 use Rattle.fix_stage.specs.Staging.{Numbered, Roomy, MakesAndStages}
 use Rattle.fix_stage.specs.Serving as serving
 use Rattle.fix_stage.specs.Serving.{Served}
-use Rattle.fix_stage.specs.Stated.{Onward, WouldGoOn, Total, Resumes, IsTimely, MayServe}
+use Rattle.fix_stage.specs.Stated.{Onward, Total, Resumes, IsTimely, MayServe}
 use Rattle.fix_stage.proofs.SendingLemmas.{Flushed-number}
-use Rattle.fix_steps.specs.declared.ending.Ending.{Ending}
 use Rattle.fix_steps.specs.Resetting as resetting
 use Rattle.fix_steps.specs.Steps as steps
 use Rattle.fix_steps.specs.Steps.{InAnswer, Handing, Performed, Begins}
@@ -66,7 +65,7 @@ makes_ranges id m b calls r to few (staging.made (combine.both {first = first} (
     put_ranges id m mid more r to (let same = roomy_number _ b a mid k in omega (arith, same, h)) p
 makes_ranges id m b calls r to few staging.not_made = few
 
-served_same : (id : Identity) (from until : ℕ) (b : Sender) (calls : List Call) (r : Result ⊤ StageFault) (to : Sender) → Served id from until b calls r to → to ≡ b
+pub served_same : (id : Identity) (from until : ℕ) (b : Sender) (calls : List Call) (r : Result ⊤ StageFault) (to : Sender) → Served id from until b calls r to → to ≡ b
 served_same id from until b calls r to (serving.serve_ends d) = refl
 served_same id from until b calls r to (serving.serves d w) = refl
 

@@ -35,7 +35,8 @@ use Rattle.fix_stage.specs.Outgoing.{Outgoing, IsOutgoing}
 use Rattle.fix_stage.specs.Staging as staging
 use Rattle.fix_stage.specs.Staging.{MakesAndStages}
 use Rattle.fix_stage.specs.Serving.{Served}
-use Rattle.fix_stage.specs.Lawful.{IsCertain, AsksNoReset, Fits, Level, MayServeAt, LawfulRunTo, After, AfterFault, AfterServe, LeadsFrom}
+use Rattle.fix_stage.specs.Lawful.{IsCertain, AsksNoReset, Fits, Level, LawfulRunTo, After, AfterFault, LeadsFrom}
+use Rattle.fix_stage.specs.LawfulServing.{MayServeAt, AfterServe}
 use Rattle.fix_stage.proofs.ChainLemmas.{level_fits}
 use Rattle.fix_stage.proofs.LeadsLemmas.{leads_nowhere, leads_step, leads_call, leads_move, leads_weaker, HasNoDoubt, none_leads, first_leads, then_leads}
 use Rattle.fix_stage.proofs.OutgoingLemmas.{carried, frame_original}

@@ -2,27 +2,21 @@
 use Rattle.std.specs.Prelude.{◌≡◌, ℕ, List, Option, Some, Result, ⊤}
 use Rattle.std.specs.List.{AllByRecursion}
 use Rattle.fix_base.specs.declared.entry.Entry.{Entry}
-use Rattle.fix_base.specs.declared.entry.Record.TheVariants.{Withhold, Reset, Confirm}
+use Rattle.fix_base.specs.declared.entry.Record.TheVariants.{Reset, Confirm}
 use Rattle.fix_base.specs.Fields.{Field}
 use Rattle.fix_base.specs.Says.{HasFields}
 use Rattle.fix_outside.specs.declared.handing.Said.{Said}
-use Rattle.fix_outside.specs.declared.handing.Again as whether
 use Rattle.fix_outside.specs.declared.outside.KeepFault.{KeepFault}
-use Rattle.fix_outside.specs.declared.outside.FetchFault.{FetchFault}
-use Rattle.fix_outside.specs.declared.outside.Kind.{Kind}
-use Rattle.fix_outside.specs.Calls.{Call, Keep, Fetch, Again}
+use Rattle.fix_outside.specs.Calls.{Call, Keep}
 use Rattle.fix_stage.specs.declared.sender.Sender.{Sender}
-use Rattle.fix_stage.specs.Sendings.{IsSending}
+use Rattle.fix_stage.specs.Sendings.{IsSending, IsServing}
 use Rattle.fix_steps.specs.Steps.{hand_call}
 
 -- A call that comes of sending entries that have Q, of serving a ResendRequest, or of handing over the message of this
 -- frame, or that keeps a reset or that one was answered. What each call answered is left open
 pub data IsAnswering (Q : Entry → Type 0) (frame : Option (List ℕ)) : Call → Type 0 where
   sends : {call : Call} → IsSending Q call → IsAnswering Q frame call
-  fetches : (number : ℕ) (answer : Result Kind FetchFault) (body : List ℕ)
-      → IsAnswering Q frame (Fetch number answer body)
-  asks : (number : ℕ) (body : List ℕ) (said : whether.Again) → IsAnswering Q frame (Again number body said)
-  withholds : (number : ℕ) (answer : Result ⊤ KeepFault) → IsAnswering Q frame (Keep (Withhold number) answer)
+  serves : {call : Call} → IsServing call → IsAnswering Q frame call
   hands : (text : List ℕ) (fields : List Field) (said : Said) → frame ≡ Some text → HasFields text fields
       → IsAnswering Q frame (hand_call fields said)
   resets : (time : ℕ) (answer : Result ⊤ KeepFault) → IsAnswering Q frame (Keep (Reset time) answer)

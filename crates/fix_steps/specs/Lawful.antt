@@ -15,7 +15,8 @@ use Rattle.fix_machine.specs.Event.{StepSeen, Send, Serve, Hand, Stash, Expect, 
 use Rattle.fix_machine.specs.Numbers.{begins_with_a_flush}
 use Rattle.fix_stage.specs.Stage.{no_stage}
 use Rattle.fix_stage.specs.declared.sender.Sender.{Sender}
-use Rattle.fix_stage.specs.Lawful.{IsCertain, IsInDoubt, IsWithholdInDoubt, Fits, Level, Bare}
+use Rattle.fix_stage.specs.Lawful.{IsCertain, IsInDoubt, Fits, Level, Bare}
+use Rattle.fix_stage.specs.LawfulServing.{IsWithholdInDoubt}
 use Rattle.fix_steps.specs.declared.ending.Ending.{Ending}
 use Rattle.fix_steps.specs.declared.ending.Ending.TheVariants as ending
 use Rattle.fix_steps.specs.Leaves.{last_taken}

@@ -14,9 +14,9 @@ pub enum Ending {
     NumbersSpent,
     /// Out of memory.
     OutOfMemory,
-    /// The message store failed: the record is kept or not.
+    /// The message store failed. A record that was to be kept is kept or not; at a fetch there was none.
     StoreFault,
-    /// The connection failed after the record was kept.
+    /// The connection failed. What was staged is kept by then.
     LinkFault,
     /// The application failed: it has the message or not.
     AppFault,

@@ -38,7 +38,8 @@ pub fn what_is_out_of_memory_would_have_gone_on()
 {}
 
 /// An answer is a run of a lawful end where each of its steps may be done: whatever end is in step with the session
-/// before it, its acts are a run of that end, to one that is in step again.
+/// before it, its acts are a run of that end, to one that is in step again. Each number that a message took is a
+/// MsgSeqNum (34) before it and after it.
 pub fn an_answer_is_lawful()
     ensures { (id : Identity) (read : List ℕ) (frame : Option (List ℕ)) (x : Option Message) (n m : ℕ)
         (steps : List StepSeen) (to : Standing) → IsValidIdentity id → IsAnswered read frame x
