@@ -1,5 +1,5 @@
-//! What a session is told of a message that it read, as its machine decides by it. The session over the machine is
-//! built here, part by part.
+//! A session over its machine: what it is told of a message that it read, and the turns of a run. Its opening is to be
+//! built on these.
 #![tactic(auto)]
 
 mod answering;
@@ -10,8 +10,6 @@ mod state;
 #[cfg(test)]
 mod tests;
 mod turn;
-#[cfg(test)]
-mod turn_tests;
 mod waiting;
 mod work;
 
