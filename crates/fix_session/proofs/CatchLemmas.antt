@@ -1,5 +1,5 @@
 -- The frames that wait, one after another.
-use Rattle.std.proofs.Common.{◌≡◌, ℕ, List, [], Option, Some, None, Ok, Err}
+use Rattle.std.proofs.Common.{◌≡◌, ℕ, List, [], Some, None, Ok, Err}
 use Rattle.fix_base.specs.declared.identity.Identity.{Identity}
 use Rattle.fix_base.specs.Trace.{OutsideSeen}
 use Rattle.fix_outside.specs.Calls.{HasCalls}

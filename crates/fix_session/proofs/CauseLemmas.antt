@@ -1,11 +1,11 @@
 -- Each fault of a run has its cause.
-use Rattle.std.proofs.Common.{◌≡◌, ℕ, List, [], ◌∷◌, Bool, true, false, Option, Result, Ok, Err, refl, sym, subst, replicate, arith}
+use Rattle.std.proofs.Common.{ℕ, List, [], ◌∷◌, Bool, true, false, Option, Result, Ok, Err, sym, subst, replicate, arith}
 use Rattle.std.specs.Prelude.{⊤, is_some}
 use Rattle.fix_base.specs.declared.identity.Identity.{Identity}
 use Rattle.fix_base.specs.Trace.{OutsideSeen}
 use Rattle.fix_outside.specs.Calls.{Call, HasCalls, Read, Look, Ask}
 use Rattle.fix_machine.specs.Event.{EventSeen, StepSeen, First, Moved, Clock, Wrote}
-use Rattle.fix_stage.specs.Combine.{Lifted, goes_well, fails, AndThen, Each}
+use Rattle.fix_stage.specs.Combine.{goes_well, fails, AndThen}
 use Rattle.fix_stage.specs.declared.sender.Sender.{Sender}
 use Rattle.fix_stage.specs.declared.fault.StageFault.{StageFault}
 use Rattle.fix_stage.specs.Causes as stage
@@ -15,10 +15,7 @@ use Rattle.fix_stage.specs.Staging.{StagesPending}
 use Rattle.fix_stage.proofs.CombineLemmas.{Each-blames, Then-blames, Blames-after, Blames-before, has_risen}
 use Rattle.fix_stage.proofs.SendingLemmas.{Settled-blames, StagesPending-blames}
 use Rattle.fix_steps.specs.declared.ending.Ending.{Ending}
-use Rattle.fix_steps.specs.declared.ending.Ending.TheVariants as ending
-use Rattle.fix_steps.specs.Ending.{ending_of}
 use Rattle.fix_steps.specs.Causes.{blame_of, HasCause}
-use Rattle.fix_steps.specs.Steps.{Carried}
 use Rattle.fix_steps.proofs.CauseLemmas.{Carried-blames, same_blame}
 use Rattle.fix_session.specs.Judged.{RulesSeen}
 use Rattle.fix_session.specs.State.{State, answer_of, decided, expected_of}

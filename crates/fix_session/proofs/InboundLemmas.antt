@@ -1,6 +1,6 @@
 -- What a session's machine is told of a message that was read.
-use Rattle.std.proofs.Common.{◌≡◌, ◌↔◌, ℕ, Bool, true, false, List, length, Option, Some, refl, sym, ap, subst, ◌∙◌}
-use Rattle.std.specs.Prelude.{IsTrue, ℤ}
+use Rattle.std.proofs.Common.{◌≡◌, ◌↔◌, ℕ, Bool, List, length, refl, sym, ap}
+use Rattle.std.specs.Prelude.{IsTrue}
 use Rattle.std.specs.Borrow.{Bor}
 use Rattle.fix_base.specs.Fields.{Field}
 use Rattle.fix_base.specs.Shape.{IsFrame}
@@ -9,7 +9,7 @@ use Rattle.fix_fields.specs.declared.header.Envelope.{Envelope}
 use Rattle.fix_fields.specs.Header.{Header, HasBegin, header_of, header_of_fields}
 use Rattle.fix_machine.specs.declared.event.Verdict.{Verdict}
 use Rattle.fix_machine.specs.declared.event.Event.TheVariants as event
-use Rattle.fix_machine.specs.Event.{Inbound, VerdictSeen, EventSeen, Frame, IsSaid, IsEvent, reads, verdict_seen}
+use Rattle.fix_machine.specs.Event.{Inbound, VerdictSeen, EventSeen, Frame, IsEvent, reads, verdict_seen}
 use Rattle.fix_resend.specs.Waiting.{Waiting, IsFull}
 use Rattle.fix_steps.specs.Told.{IsTold, IsVerdict}
 use Rattle.fix_steps.proofs.FrameLemmas.{fields_in, frame_has}

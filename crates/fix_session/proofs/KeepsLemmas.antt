@@ -1,15 +1,15 @@
 -- The answer to a frame that waited leaves the other frames that wait.
-use Rattle.std.proofs.Common.{◌≡◌, ℕ, List, [], Bool, true, false, Option, Result, Ok, Err, refl, ◌∙◌}
+use Rattle.std.proofs.Common.{◌≡◌, ℕ, List, [], false, Option, Result, refl, ◌∙◌}
 use Rattle.std.specs.Prelude.{⊤}
 use Rattle.fix_base.specs.declared.identity.Identity.{Identity}
 use Rattle.fix_outside.specs.Calls.{Call}
-use Rattle.fix_machine.specs.Event.{EventSeen, StepSeen}
+use Rattle.fix_machine.specs.Event.{StepSeen}
 use Rattle.fix_stage.specs.Combine.{AndThen, first_ends, both, goes_well, fails}
 use Rattle.fix_steps.specs.declared.ending.Ending.{Ending}
 use Rattle.fix_session.specs.Judged.{RulesSeen}
-use Rattle.fix_session.specs.State.{State, decided, answer_of, expected_of}
+use Rattle.fix_session.specs.State.{State, expected_of}
 use Rattle.fix_session.specs.Waits.{Waits, passes_by, unnumbered, waits, another_waits, no_room, wait_memory}
-use Rattle.fix_session.specs.Answering.{Carrying, Stood, stood, Standing, Answers, WaitsIfNew, AnswersFrame, not_judged, judged, Moves, stays, moves, Round}
+use Rattle.fix_session.specs.Answering.{Carrying, Stood, stood, Standing, AnswersFrame, not_judged, judged, Moves, stays, moves, Round}
 
 abbrev Keeps : (State → List Call → Result ⊤ Ending → State → Type 0) → Type 0
 Keeps R = (s : State) (calls : List Call) (r : Result ⊤ Ending) (to : State) → R s calls r to → to.waiting ≡ s.waiting

@@ -1,9 +1,9 @@
 -- A session stays sound: the steps of an answer may be carried out, and the state after it is bounded.
-use Rattle.std.proofs.Common.{◌≡◌, ℕ, List, Option, Some, None, sym, subst}
+use Rattle.std.proofs.Common.{ℕ, List, Option, Some, None}
 use Rattle.std.specs.List.{AllByRecursion}
 use Rattle.fix_base.specs.declared.identity.Identity.{Identity}
 use Rattle.fix_base.specs.Trace.{OutsideSeen}
-use Rattle.fix_machine.specs.Event.{EventSeen, Frame, Inbound, StepSeen}
+use Rattle.fix_machine.specs.Event.{EventSeen, Frame, Inbound}
 use Rattle.fix_machine.specs.Numbers.{IsNoMessage}
 use Rattle.fix_steps.specs.Steps.{IsCarried}
 use Rattle.fix_steps.specs.Told.{IsPossibleAnswer}

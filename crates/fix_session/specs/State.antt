@@ -1,5 +1,5 @@
 -- A session between two messages, and how its parts change.
-use Rattle.std.specs.Prelude.{◌≡◌, ◌≤◌, ℕ, Bool, List, Option, Some, None}
+use Rattle.std.specs.Prelude.{◌≡◌, ℕ, List, Option, Some, None}
 use Rattle.std.specs.FinMap as map
 use Rattle.fix_base.specs.declared.identity.Identity.{Identity}
 use Rattle.fix_base.specs.Fields.{Field}
@@ -7,7 +7,6 @@ use Rattle.fix_base.specs.Shape.{IsFrame}
 use Rattle.fix_base.specs.Says.{HasFields, seq_num_of}
 use Rattle.fix_base.specs.Trace.{OutsideSeen}
 use Rattle.fix_machine.specs.declared.state.MachineState.{MachineState}
-use Rattle.fix_machine.specs.State.{MachineSeen}
 use Rattle.fix_machine.specs.Event.{EventSeen}
 use Rattle.fix_machine.specs.Answer.{Answered}
 use Rattle.fix_machine.specs.Decide.{answer_to}

@@ -1,8 +1,7 @@
 -- The turns of a session: a draft of the application is staged, what comes over the connection is answered, the clock is
 -- looked at, and all is kept and written.
 use Rattle.std.specs.Prelude.{◌≡◌, ◌≢◌, ◌<◌, ◌≤◌, ℕ, List, [], ◌∷◌, ◌++◌, length, replicate, Bool, true, false}
-use Rattle.std.specs.Prelude.{Option, Some, None, is_some, option_map, Result, Ok, Err, ⊤}
-use Rattle.std.specs.FinMap as map
+use Rattle.std.specs.Prelude.{Option, None, is_some, option_map, Result, Ok, Err, ⊤}
 use Rattle.fix_base.specs.declared.identity.Identity.{Identity}
 use Rattle.fix_base.specs.declared.bytes.OutOfMemory.{OutOfMemory}
 use Rattle.fix_base.specs.Stream.{UnreadBytes}
@@ -24,7 +23,7 @@ use Rattle.fix_steps.specs.Ending.{ending_of}
 use Rattle.fix_steps.specs.declared.ending.Ending.{Ending}
 use Rattle.fix_steps.specs.declared.ending.Ending.TheVariants as ending
 use Rattle.fix_session.specs.Judged.{RulesSeen}
-use Rattle.fix_session.specs.State.{State, sender_of, with_sender, with_machine, with_waiting}
+use Rattle.fix_session.specs.State.{State, sender_of, with_sender}
 use Rattle.fix_session.specs.Answering.{same_ending, Answers, Receives}
 use Rattle.fix_session.specs.Work.{WorkSeen, state_of, with_state, with_unread, fed}
 

@@ -1,7 +1,6 @@
 use Rattle.fix_outside.proofs.CallLemmas.{Called-nil}
 use Rattle.fix_machine.specs.Event as events
 use Rattle.fix_session.specs.Turn.{logs_on, not_up, is_up}
-use Rattle.fix_session.proofs.EventLemmas.{first_other}
 use Rattle.fix_session.proofs.offering.offer.Goals as goal
 
 pub returns-then-state-clause-calls : goal.returns-then-state-clause-calls

@@ -1,7 +1,6 @@
 use Rattle.fix_outside.proofs.CallLemmas.{Called-append}
 use Rattle.fix_machine.specs.Event as events
 use Rattle.fix_session.specs.Turn.{looks, look_memory}
-use Rattle.fix_session.proofs.EventLemmas.{clock_other}
 use Rattle.fix_session.proofs.turn.look.Goals as goal
 
 pub returns-in-Ok-clause-calls : goal.returns-in-Ok-clause-calls

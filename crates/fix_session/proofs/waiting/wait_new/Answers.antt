@@ -1,4 +1,4 @@
-use Rattle.std.proofs.Common.{Ok, Err, Some, sym, ◌∙◌, ap, subst}
+use Rattle.std.proofs.Common.{Ok, Err, sym, ◌∙◌, ap, subst}
 use Rattle.fix_session.specs.State.{AreWaiting}
 use Rattle.fix_session.specs.Waits.{passes_by, unnumbered, waits, another_waits, no_room, wait_memory}
 use Rattle.fix_session.proofs.WaitsLemmas.{waiting_put, none_of}
