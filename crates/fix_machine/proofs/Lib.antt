@@ -1,7 +1,7 @@
 mod DeadlineLemmas
 mod TimedLemmas
 mod EventLemmas
-mod NumberLemmas
+pub mod NumberLemmas
 mod RowLemmas
 mod OrderLemmas
 mod RisesLemmas
