@@ -10,3 +10,5 @@ pub mod AnswerLemmas
 pub mod KeepsLemmas
 pub mod LeftLemmas
 pub mod CauseLemmas
+pub mod SyncLemmas
+pub mod KeptLemmas

@@ -5,3 +5,4 @@ pub mod Waits
 pub mod Answering
 pub mod Work
 pub mod Turn
+pub mod InSync

@@ -129,6 +129,17 @@ settles_of (Err ending.StoreFault) = false
 settles_of (Err ending.NumbersSpent) = false
 settles_of (Err ending.OutOfMemory) = false
 
+-- after this the expected number is the one that is kept, unless the store failed, no number was left or it was out of
+-- memory
+abbrev pub IsKept : Result ⊤ Ending → State → Type 0
+IsKept (Ok x) s = s.sender.numbers.stored_expected ≡ s.sender.numbers.expected
+IsKept (Err (ending.Closed why)) s = s.sender.numbers.stored_expected ≡ s.sender.numbers.expected
+IsKept (Err ending.LinkFault) s = s.sender.numbers.stored_expected ≡ s.sender.numbers.expected
+IsKept (Err ending.AppFault) s = s.sender.numbers.stored_expected ≡ s.sender.numbers.expected
+IsKept (Err ending.StoreFault) s = ⊤
+IsKept (Err ending.NumbersSpent) s = ⊤
+IsKept (Err ending.OutOfMemory) s = ⊤
+
 abbrev pub Settles : WorkSeen → List Call → Result ⊤ Ending → WorkSeen → Type 0
 Settles = Beside (Sending Settled)
 

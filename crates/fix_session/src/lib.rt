@@ -4,6 +4,7 @@
 
 mod answering;
 mod judging;
+mod laws;
 mod offering;
 mod rules;
 mod state;
@@ -14,6 +15,7 @@ mod waiting;
 mod work;
 
 pub use judging::{asks_for_a_reset, is_gap_fill, judge};
+pub use laws::a_run_leaves_the_numbers_in_sync;
 pub use rules::Rules;
 pub use state::State;
 pub use turn::{ROOM, run};

@@ -1,6 +1,6 @@
 //! The turns of a run, and the end of a connection. In a turn a draft is staged, one read is answered, the clock is
 //! looked at, and what is staged is kept and written. A session calls `run`.
-ghost use Rattle.std.specs.Prelude.{◌≡◌, ◌≤◌, ◌∷◌, [], Some, length, take};
+ghost use Rattle.std.specs.Prelude.{◌≡◌, ◌≤◌, ◌<◌, ◌∷◌, [], Some, length, take};
 ghost use Rattle.fix_outside.specs.Calls.{HasCalls, Called, Read};
 ghost use Rattle.fix_outside.specs.Outside.{came};
 ghost use Rattle.fix_outside.specs.Connection.{IsInRoom};
@@ -14,7 +14,7 @@ ghost use Rattle.fix_session.specs.State.{IsSound};
 ghost use Rattle.fix_session.specs.Work.{IsWorkable, work_seen};
 ghost use Rattle.fix_session.specs.Turn as turns;
 ghost use Rattle.fix_session.specs.Turn.{Beside, Sending, Offers, ReceivesAll, Feeds, Reads, Looks, Meets, Settles, Turn};
-ghost use Rattle.fix_session.specs.Turn.{Turns, Leaves, Runs};
+ghost use Rattle.fix_session.specs.Turn.{IsKept, Turns, Leaves, Runs};
 
 use crate::answering::{answer, receive};
 use crate::offering::offer;
@@ -44,6 +44,7 @@ pub fn run<O: Outside>(
     ensures calls { HasCalls (O.seen o.old) (O.seen o.new)
         (λ calls. Runs context.now.identity (rules_seen rules.now) turns (work_seen work.old) calls result (work_seen work.new)) }
     ensures cause { HasCause result (O.seen o.old).faults (O.seen o.new).faults }
+    ensures kept { 0 < turns → IsKept result work.new.state }
 {
     match take_turns(o, context, rules, work, turns) {
         Ok(()) => Ok(()),
@@ -66,6 +67,7 @@ fn take_turns<O: Outside>(
     ensures workable { IsWorkable context.now.identity (O.seen o.new) (open_after result work.new.state.sender) work.new }
     ensures calls { HasCalls (O.seen o.old) (O.seen o.new)
         (λ calls. Turns context.now.identity (rules_seen rules.now) turns (work_seen work.old) calls result (work_seen work.new)) }
+    ensures kept { 0 < turns → IsKept result work.new.state }
 {
     for done in 0..turns {
         turn(o, context, rules, work)?;
@@ -84,6 +86,7 @@ fn turn<O: Outside>(
     ensures workable { IsWorkable context.now.identity (O.seen o.new) (open_after result work.new.state.sender) work.new }
     ensures calls { HasCalls (O.seen o.old) (O.seen o.new)
         (λ calls. Turn context.now.identity (rules_seen rules.now) (work_seen work.old) calls result (work_seen work.new)) }
+    ensures kept { IsKept result work.new.state }
 {
     let met = meet(o, context, rules, work);
     if settles(&met) {
@@ -236,6 +239,7 @@ fn settle_all<O: Outside>(o: &mut O, context: &Context, state: &mut State) -> Re
     ensures sound { IsSound context.now.identity (O.seen o.new) (open_after result state.new.sender) state.new }
     ensures calls { HasCalls (O.seen o.old) (O.seen o.new)
         (λ calls. Sending Settled state.old calls result state.new) }
+    ensures kept { IsKept result state.new }
 {
     match settle(o, context, &mut state.sender) {
         Ok(()) => Ok(()),

@@ -2,6 +2,7 @@ use Rattle.std.proofs.lemmas.Result.{err_from_is_err_and}
 use Rattle.fix_outside.proofs.CallLemmas.{Called-append}
 use Rattle.fix_session.specs.Turn.{all_turns, ended, ended_short}
 use Rattle.fix_session.proofs.CauseLemmas.{caused}
+use Rattle.fix_session.proofs.KeptLemmas.{ends_kept, short_kept}
 use Rattle.fix_session.proofs.LeftLemmas.{ends_sound, short_sound}
 use Rattle.fix_session.proofs.turn.run.Goals as goal
 
@@ -44,3 +45,11 @@ returns-in_err-leave-in-Err-clause-cause g c = caused _ _ _ _ _ _ _ _ (returns-i
 
 pub returns-in_ok-leave-in-Err-clause-cause : goal.returns-in_ok-leave-in-Err-clause-cause
 returns-in_ok-leave-in-Err-clause-cause g c = caused _ _ _ _ _ _ _ _ (returns-in_ok-leave-in-Err-clause-calls g c)
+
+pub returns-in_err-leave-in-Err-clause-kept : goal.returns-in_err-leave-in-Err-clause-kept
+returns-in_err-leave-in-Err-clause-kept g c =
+    let p = err_from_is_err_and c.from_residual.result c.from_residual.ensures.1 in
+    rw (p.1, p.2) (λ some. short_kept _ _ _ _ _ c.in_err-leave-in-Err.ensures.calls.2)
+
+pub returns-in_ok-leave-in-Err-clause-kept : goal.returns-in_ok-leave-in-Err-clause-kept
+returns-in_ok-leave-in-Err-clause-kept g c = λ some. ends_kept _ _ _ _ _ c.in_ok-leave-in-Err.ensures.calls.2 (c.in-Err.ensures.kept some)
