@@ -46,6 +46,7 @@ impl MemoryDisk {
     ) -> Result<MemoryDisk, OutOfMemory>
         ensures blank { IfOk result (λ made. disk_state made ≡ blank) }
         ensures script { IfOk result (λ made. disk_script made ≡ script_of fail.items fuse capacity past) }
+        ensures faults { IfOk result (λ made. (disk_of made).faults ≡ 0) }
     {
         Ok(MemoryDisk {
             contents: Contents::new(alloc, capacity)?,
