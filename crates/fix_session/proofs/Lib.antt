@@ -12,3 +12,8 @@ pub mod LeftLemmas
 pub mod CauseLemmas
 pub mod SyncLemmas
 pub mod KeptLemmas
+pub mod BeginLemmas
+pub mod SendLemmas
+pub mod RestLemmas
+pub mod CloseLemmas
+pub mod LiveLemmas

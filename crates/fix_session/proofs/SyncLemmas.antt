@@ -15,9 +15,9 @@ use Rattle.fix_stage.specs.Combine.{AndThen, first_ends, both, goes_well, fails,
 use Rattle.fix_stage.specs.declared.sender.Sender.{Sender}
 use Rattle.fix_stage.specs.Sender.{next_number}
 use Rattle.fix_stage.specs.Flush.{Settled}
-use Rattle.fix_stage.specs.Outgoing.{draft_outgoing}
+use Rattle.fix_stage.specs.Outgoing.{Outgoing, draft_outgoing}
 use Rattle.fix_stage.specs.Staging as staging
-use Rattle.fix_stage.specs.Staging.{Numbered, Roomy, Put, StagesPending}
+use Rattle.fix_stage.specs.Staging.{Numbered, Roomy, Put, MakesAndStages, StagesPending}
 use Rattle.fix_stage.proofs.SendingLemmas.{Flushed-expected, Flushed-number}
 use Rattle.fix_steps.specs.declared.ending.Ending.{Ending}
 use Rattle.fix_steps.specs.Leaves.{last_taken}
@@ -56,15 +56,31 @@ pub record TookOne (b to : Sender) : Type 0 where
   pub last : last_taken to ≡ last_taken b + 1
   pub few : last_taken b < 999999999
 
-draft_took : (id : Identity) (b to : Sender) (calls : List Call) → is_some b.pending.draft ≡ true → StagesPending id b calls (Ok tt) to → TookOne b to
-draft_took id b to calls some (staging.empty e) = let none = ap is_some e in cc
-draft_took id b to calls some (staging.draft_staged d h (staging.made (both (staging.has_number free) (both {mid = mid} {first = first} room (staging.put frame out is))))) =
+-- so did a message that was staged whole
+pub made_took : (id : Identity) (m : Outgoing) (b to : Sender) (calls : List Call) → MakesAndStages id m b calls (Ok tt) to → TookOne b to
+made_took id m b to calls (staging.made (both (staging.has_number free) (both {mid = mid} {first = first} room (staging.put frame out is)))) =
     let same = roomy_number _ b mid first room in
     record {
       expected = roomy_expected _ b mid first room;
-      last = omega (arith, same, length-append mid.stage.entries ((draft_outgoing b.numbers.reading d true).entry ∷ []));
+      last = omega (arith, same, length-append mid.stage.entries (m.entry ∷ []));
       few = omega (arith, free);
     }
+
+draft_took : (id : Identity) (b to : Sender) (calls : List Call) → is_some b.pending.draft ≡ true → StagesPending id b calls (Ok tt) to → TookOne b to
+draft_took id b to calls some (staging.empty e) = let none = ap is_some e in cc
+draft_took id b to calls some (staging.draft_staged {to = mid} d h k) =
+    let took = made_took id (draft_outgoing b.numbers.reading d true) b mid calls k in
+    record { expected = took.expected; last = took.last; few = took.few }
+
+-- the next number of the machine
+pub after : (last taken now : ℕ) → last ≡ taken → taken < 999999999 → now ≡ taken + 1 → number_after last ≡ now
+after last taken now same few one =
+    let less : nat_lt last 999999999 ≡ true = grind (arith, nat_tests, same, few) in
+    ap (λ t. if t then last + 1 else last) less ∙ omega (arith, same, one)
+
+-- a session that left its connection
+pub left_sync : (s : State) → InSync (left s)
+left_sync s = record { expected = refl; last = omega arith; asked = refl }
 
 -- ---- an answer
 
@@ -126,11 +142,6 @@ module _ (adds : (o : Options) (s : MachineState) (e : EventSeen) → Adds (star
       catches_sync id rules mid b to (round_sync id rules true frame s a mid h d) k
 
   -- ---- a turn
-
-  after : (last taken now : ℕ) → last ≡ taken → taken < 999999999 → now ≡ taken + 1 → number_after last ≡ now
-  after last taken now same few one =
-      let less : nat_lt last 999999999 ≡ true = grind (arith, nat_tests, same, few) in
-      ap (λ t. if t then last + 1 else last) less ∙ omega (arith, same, one)
 
   noted_sync : (id : Identity) (s : State) (b : Sender) → IsSettled s → TookOne s.sender b → (calls : List Call) (to : State)
       → Answers id (Wrote b.numbers.reading) (with_sender s b) calls (Ok tt) to → IsSettled to
@@ -203,14 +214,11 @@ module _ (adds : (o : Options) (s : MachineState) (e : EventSeen) → Adds (star
   turn_sync id rules w calls to h (turns.stops e d) = cc
   turn_sync id rules w calls to h (turns.settles {mid = mid} {first = a} {more = b} e d k) = settles_sync mid b to (meets_sync id rules w a mid h d) k
 
-  turns_sync : (id : Identity) (rules : RulesSeen) (xs : List ⊤) (w to : WorkSeen) (calls : List Call) → At w → Each (OneTurn id rules) w xs calls (Ok tt) to → At to
+  pub turns_sync : (id : Identity) (rules : RulesSeen) (xs : List ⊤) (w to : WorkSeen) (calls : List Call) → At w → Each (OneTurn id rules) w xs calls (Ok tt) to → At to
   turns_sync id rules [] w to calls h none = h
   turns_sync id rules (x ∷ xs) w to calls h (goes {mid = mid} {first = a} {more = b} d k) = turns_sync id rules xs mid to b (turn_sync id rules w a mid h d) k
 
   -- ---- a run
-
-  left_sync : (s : State) → InSync (left s)
-  left_sync s = record { expected = refl; last = omega arith; asked = refl }
 
   leaves_sync : (s to : State) (cut : Bool) (calls : List Call) (r : Result ⊤ Ending) → Leaves s cut calls r to → InSync to
   leaves_sync s to cut calls r turns.not_cut = left_sync s

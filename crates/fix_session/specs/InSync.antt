@@ -2,7 +2,9 @@
 use Rattle.std.specs.Prelude.{◌≡◌, None}
 use Rattle.fix_steps.specs.Leaves.{last_taken}
 use Rattle.fix_steps.specs.Told.{IsBounded}
-use Rattle.fix_session.specs.State.{State}
+use Rattle.fix_stage.specs.Sender.{IsInRange}
+use Rattle.fix_stage.specs.Stage.{no_stage}
+use Rattle.fix_session.specs.State.{State, AreWaiting}
 
 -- The number that is expected next, the last number that a message took, whether it is kept or staged, and whether a
 -- reset by Logon is asked for
@@ -16,3 +18,10 @@ pub record IsSettled (s : State) : Type 0 where
   pub sync : InSync s
   pub bounded : IsBounded s.machine.state
   pub version : s.machine.options.version ≡ None
+
+-- between two calls: what the machine has is what the sender has, nothing is staged, and what waits are frames
+pub record IsAtRest (s : State) : Type 0 where
+  pub settled : IsSettled s
+  pub range : IsInRange s.sender
+  pub unstaged : s.sender.stage ≡ no_stage
+  pub waiting : AreWaiting s.waiting

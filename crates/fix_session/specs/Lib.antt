@@ -6,3 +6,8 @@ pub mod Answering
 pub mod Work
 pub mod Turn
 pub mod InSync
+pub mod Plan
+pub mod Stops
+pub mod Begin
+pub mod Send
+pub mod Session

@@ -247,8 +247,8 @@ fn settle_all<O: Outside>(o: &mut O, context: &Context, state: &mut State) -> Re
     }
 }
 
-// Whether Cut is noted after a run that ended so.
-fn is_cut(ending: Ending) -> bool
+/// Whether Cut is noted after a run that ended so.
+pub fn is_cut(ending: Ending) -> bool
     ensures { result ≡ turns.is_cut_of ending }
 {
     match ending {
@@ -261,8 +261,13 @@ fn is_cut(ending: Ending) -> bool
     }
 }
 
-// The session leaves its connection, with the numbers that it has: what is staged and isn't kept is given up.
-fn leave<O: Outside>(o: &mut O, alloc: Global, state: &mut State, cut: bool) -> Result<(), Ending>
+/// The session leaves its connection, with the numbers that it has: what is staged and isn't kept is given up.
+pub fn leave<O: Outside>(
+    o: &mut O,
+    alloc: Global,
+    state: &mut State,
+    cut: bool,
+) -> Result<(), Ending>
     requires range { IsInRange state.old.sender }
     ensures opens { (O.seen o.new).open_at ≡ (O.seen o.old).open_at }
     ensures calls { HasCalls (O.seen o.old) (O.seen o.new) (λ calls. Leaves state.old cut calls result state.new) }

@@ -19,4 +19,6 @@ pub use laws::{
     an_answer_sends_and_hands_over, what_is_decided_is_lawful, what_is_decided_is_possible,
     what_is_decided_may_be_done, what_is_out_of_memory_would_have_gone_on,
 };
+pub use resetting::begin_anew;
+pub use saying::stage_said;
 pub use source::Source;

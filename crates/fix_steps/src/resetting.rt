@@ -29,8 +29,8 @@ pub fn reset<O: Outside>(o: &mut O, sender: &mut Sender) -> Result<(), Ending>
     }
 }
 
-// Number 1 is expected, and the next message takes number 1.
-fn begin_anew(numbers: &mut Numbers)
+/// Number 1 is expected, and the next message takes number 1.
+pub fn begin_anew(numbers: &mut Numbers)
     ensures { numbers.new ≡ numbers_reset numbers.old }
 {
     numbers.expected = 1;

@@ -37,8 +37,8 @@ pub fn say<O: Outside>(
     }
 }
 
-// Stages the message, whose fields are made first.
-fn stage_said<O: Outside>(
+/// Stages a session message under the next number, at the time of the last reading. Its fields are made first.
+pub fn stage_said<O: Outside>(
     o: &mut O,
     context: &Context,
     sender: &mut Sender,
