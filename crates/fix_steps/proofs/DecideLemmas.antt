@@ -7,7 +7,7 @@ use Rattle.fix_base.specs.Session.{IsValidIdentity}
 use Rattle.fix_base.specs.Fields.{Field}
 use Rattle.fix_base.specs.Message.{Message}
 use Rattle.fix_base.specs.Says.{HasFields, message_of}
-use Rattle.fix_base.specs.EndStep.{EndState}
+use Rattle.fix_base.specs.EndStep.{Answer, EndState}
 use Rattle.fix_admin.specs.Say as say
 use Rattle.fix_admin.specs.declared.say.LogoutText.TheVariants as text
 use Rattle.fix_machine.specs.declared.event.Why.TheVariants.{Silent, LogonLate, LogoutLate, OutOfWindow}
@@ -30,7 +30,7 @@ use Rattle.fix_stage.proofs.LeadsLemmas.{leads_weaker}
 use Rattle.fix_steps.specs.declared.ending.Ending.{Ending}
 use Rattle.fix_steps.specs.Steps.{IsCarried, Carried}
 use Rattle.fix_steps.specs.Lawful as lawful
-use Rattle.fix_steps.specs.Lawful.{Standing, IsFresh, MayDo, MayDoAll, BeginsPlainly, WasReadIn, IsAnswered, InStep, InBounds, Stands, AfterEnding}
+use Rattle.fix_steps.specs.Lawful.{Standing, IsFresh, MayDo, MayDoAll, LetsCount, WasReadIn, IsAnswered, InStep, InBounds, Stands, AfterEnding}
 use Rattle.fix_steps.specs.Told.{IsTold, IsOther, KeepsNumbers, MayBeDone}
 use Rattle.fix_steps.proofs.StepLeads.{Bounded, fresh, carried_leads}
 use Rattle.fix_steps.proofs.TableLemmas.{May, fits_both, nothing_may, close_may, say_may, say_close_may, message_may}
@@ -117,26 +117,26 @@ other_done o s e is x = done x s.expected (answer_to o s e) (other_may x o s e i
 -- ---- the end in step
 
 -- what may be answered next is in step
-next_in_step : (id : Identity) (read : List ℕ) (to : Standing) (m : ℕ) → IsFresh to → (r : Result ⊤ Ending) (b : Sender) (e : EndState) → After (AfterEnding id read) (Bounded id read to m) r b e → After (AfterEnding id read) (InBounds (InStep id read m)) r b e
-next_in_step id read to m is (Ok x) b e h = record { is = fresh id read to m b e is h.is; last = h.last }
-next_in_step id read to m is (Err end) b e h = h
+next_in_step : (id : Identity) (read : List ℕ) (resets : List Answer) (to : Standing) (m : ℕ) → IsFresh to → (r : Result ⊤ Ending) (b : Sender) (e : EndState) → After (AfterEnding id read) (Bounded id read resets to m) r b e → After (AfterEnding id read) (InBounds (InStep id read resets m)) r b e
+next_in_step id read resets to m is (Ok x) b e h = record { is = fresh id read resets to m b e is h.is; last = h.last }
+next_in_step id read resets to m is (Err end) b e h = h
 
-pub done_leads : (id : Identity) (read : List ℕ) (frame : Option (List ℕ)) (x : Option Message) (n : ℕ) (a : Answered) → IsValidIdentity id → IsAnswered read frame x → AllByRecursion (IsCarried frame) a.steps → MayBeDone x n a → LeadsFrom id (AfterEnding id read) (InBounds (InStep id read n)) (Carried id frame a.steps) (InBounds (InStep id read (expected_after a.steps n)))
-done_leads id read frame x n a valid answered fit h b calls r to d e p =
-    leads_weaker id e calls (After (AfterEnding id read) (Bounded id read h.to (expected_after a.steps n)) r to) (After (AfterEnding id read) (InBounds (InStep id read (expected_after a.steps n))) r to)
-    (λ e' q. next_in_step id read h.to (expected_after a.steps n) h.fresh r to e' q)
-    (carried_leads id read valid frame x answered n (expected_after a.steps n) a.steps h.to h.may fit b calls r to d e p)
+pub done_leads : (id : Identity) (read : List ℕ) (resets : List Answer) (frame : Option (List ℕ)) (x : Option Message) (n : ℕ) (a : Answered) → IsValidIdentity id → IsAnswered read resets frame x → AllByRecursion (IsCarried frame) a.steps → MayBeDone x n a → LeadsFrom id (AfterEnding id read) (InBounds (InStep id read resets n)) (Carried id frame a.steps) (InBounds (InStep id read resets (expected_after a.steps n)))
+done_leads id read resets frame x n a valid answered fit h b calls r to d e p =
+    leads_weaker id e calls (After (AfterEnding id read) (Bounded id read resets h.to (expected_after a.steps n)) r to) (After (AfterEnding id read) (InBounds (InStep id read resets (expected_after a.steps n))) r to)
+    (λ e' q. next_in_step id read resets h.to (expected_after a.steps n) h.fresh r to e' q)
+    (carried_leads id read resets valid frame x answered n (expected_after a.steps n) a.steps h.to h.may fit b calls r to d e p)
 
 -- the message of a frame, by its fields
-answered_by : (read text : List ℕ) (fs : List Field) (x : Option Message) → message_of fs ≡ x → HasFields text fs → BeginsPlainly read → ((y : Message) → x ≡ Some y → WasReadIn read y) → IsAnswered read (Some text) x
-answered_by read text fs None is has plain shown = lawful.silent (Some text)
-answered_by read text fs (Some y) is has plain shown = lawful.says text y (record { fields = fs; has = has; says = is }) plain (shown y refl)
+answered_by : (read : List ℕ) (resets : List Answer) (text : List ℕ) (fs : List Field) (x : Option Message) → message_of fs ≡ x → HasFields text fs → LetsCount read resets → ((y : Message) → x ≡ Some y → WasReadIn read y) → IsAnswered read resets (Some text) x
+answered_by read resets text fs None is has plain shown = lawful.silent (Some text)
+answered_by read resets text fs (Some y) is has plain shown = lawful.says text y (record { fields = fs; has = has; says = is }) plain (shown y refl)
 
-pub message_leads : (id : Identity) (read text : List ℕ) (fs : List Field) (o : Options) (s : MachineState) (i : Inbound) → IsValidIdentity id → HasFields text fs → BeginsPlainly read → ((y : Message) → message_of fs ≡ Some y → WasReadIn read y) → IsTold fs i → AllByRecursion (IsCarried (Some text)) (answer_to o s (Frame i)).steps → AllByRecursion KeepsNumbers (answer_to o s (Frame i)).steps
-    → LeadsFrom id (AfterEnding id read) (InBounds (InStep id read s.expected)) (Carried id (Some text) (answer_to o s (Frame i)).steps) (InBounds (InStep id read (expected_after (answer_to o s (Frame i)).steps s.expected)))
-message_leads id read text fs o s i valid has plain shown told fit keeps =
-    done_leads id read (Some text) (message_of fs) s.expected (answer_to o s (Frame i)) valid (answered_by read text fs (message_of fs) refl has plain shown) fit (message_done o s fs i (Some text) told fit keeps)
+pub message_leads : (id : Identity) (read : List ℕ) (resets : List Answer) (text : List ℕ) (fs : List Field) (o : Options) (s : MachineState) (i : Inbound) → IsValidIdentity id → HasFields text fs → LetsCount read resets → ((y : Message) → message_of fs ≡ Some y → WasReadIn read y) → IsTold fs i → AllByRecursion (IsCarried (Some text)) (answer_to o s (Frame i)).steps → AllByRecursion KeepsNumbers (answer_to o s (Frame i)).steps
+    → LeadsFrom id (AfterEnding id read) (InBounds (InStep id read resets s.expected)) (Carried id (Some text) (answer_to o s (Frame i)).steps) (InBounds (InStep id read resets (expected_after (answer_to o s (Frame i)).steps s.expected)))
+message_leads id read resets text fs o s i valid has plain shown told fit keeps =
+    done_leads id read resets (Some text) (message_of fs) s.expected (answer_to o s (Frame i)) valid (answered_by read resets text fs (message_of fs) refl has plain shown) fit (message_done o s fs i (Some text) told fit keeps)
 
-pub other_leads : (id : Identity) (read : List ℕ) (o : Options) (s : MachineState) (e : EventSeen) → IsValidIdentity id → IsOther s e → AllByRecursion (IsCarried None) (answer_to o s e).steps → LeadsFrom id (AfterEnding id read) (InBounds (InStep id read s.expected)) (Carried id None (answer_to o s e).steps) (InBounds (InStep id read (expected_after (answer_to o s e).steps s.expected)))
-other_leads id read o s e valid is fit =
-    done_leads id read None None s.expected (answer_to o s e) valid (lawful.silent None) fit (other_done o s e is None)
+pub other_leads : (id : Identity) (read : List ℕ) (resets : List Answer) (o : Options) (s : MachineState) (e : EventSeen) → IsValidIdentity id → IsOther s e → AllByRecursion (IsCarried None) (answer_to o s e).steps → LeadsFrom id (AfterEnding id read) (InBounds (InStep id read resets s.expected)) (Carried id None (answer_to o s e).steps) (InBounds (InStep id read resets (expected_after (answer_to o s e).steps s.expected)))
+other_leads id read resets o s e valid is fit =
+    done_leads id read resets None None s.expected (answer_to o s e) valid (lawful.silent None) fit (other_done o s e is None)

@@ -1,12 +1,12 @@
 -- What the steps of an answer may do so that they are a run of a lawful end. The conditions speak of the message, the
 -- steps and the numbers alone.
-use Rattle.std.specs.Prelude.{◌≡◌, ◌<◌, ◌≤◌, ℕ, ◌+◌, if◌then◌else◌, List, [], ◌∷◌, Bool, false, Option, Some, None}
+use Rattle.std.specs.Prelude.{◌≡◌, ◌≢◌, ◌<◌, ◌≤◌, ℕ, ◌+◌, if◌then◌else◌, List, [], ◌∷◌, Bool, false, Option, Some, None}
 use Rattle.fix_base.specs.Lists.{Among}
 use Rattle.fix_base.specs.declared.identity.Identity.{Identity}
 use Rattle.fix_base.specs.Logon.{IsResetLogon, Begun}
 use Rattle.fix_base.specs.Message.{Message, App, GapFill, ResetTo, IsAdminNumbered}
 use Rattle.fix_base.specs.Says.{Says, Shows}
-use Rattle.fix_base.specs.EndStep.{EndState, Grew}
+use Rattle.fix_base.specs.EndStep.{Answer, EndState, Grew}
 use Rattle.fix_base.specs.declared.fault.Fault.{Fault}
 use Rattle.fix_admin.specs.Say.{SaySeen, Heartbeat, TestRequest, ResendRequest, Reject, Logout, Logon}
 use Rattle.fix_admin.specs.Say as say
@@ -87,6 +87,11 @@ MayAnswer x n steps to m = MayDoAll x (standing_first steps) n steps to m
 abbrev pub BeginsPlainly : List ℕ → Type 0
 BeginsPlainly bytes = Begun (λ text. IsResetLogon text → ⊥) bytes
 
+-- The first frame that was read lets messages count: it is no Logon with 141=Y, or what that asks for is kept
+pub data LetsCount (read : List ℕ) (resets : List Answer) : Type 0 where
+  begins_plainly : BeginsPlainly read → LetsCount read resets
+  kept_some : resets ≢ [] → LetsCount read resets
+
 -- the first frames of the bytes say this among others
 pub record WasReadIn (read : List ℕ) (x : Message) : Type 0 where
   pub messages : List Message
@@ -94,37 +99,37 @@ pub record WasReadIn (read : List ℕ) (x : Message) : Type 0 where
   pub among : Among x messages
 
 -- the frame that is answered says this, and was read; or nothing that counts is answered
-pub data IsAnswered (read : List ℕ) : Option (List ℕ) → Option Message → Type 0 where
-  says : (text : List ℕ) (x : Message) → Says text x → BeginsPlainly read → WasReadIn read x
-      → IsAnswered read (Some text) (Some x)
-  silent : (frame : Option (List ℕ)) → IsAnswered read frame None
+pub data IsAnswered (read : List ℕ) (resets : List Answer) : Option (List ℕ) → Option Message → Type 0 where
+  says : (text : List ℕ) (x : Message) → Says text x → LetsCount read resets → WasReadIn read x
+      → IsAnswered read resets (Some text) (Some x)
+  silent : (frame : Option (List ℕ)) → IsAnswered read resets frame None
 
 -- ---- the end in step with a session in the middle of an answer
 
 -- each message that was given on the connection has a lower number than the expected one
-pub record InStep (id : Identity) (read : List ℕ) (n : ℕ) (b : Sender) (e : EndState) : Type 0 where
+pub record InStep (id : Identity) (read : List ℕ) (resets : List Answer) (n : ℕ) (b : Sender) (e : EndState) : Type 0 where
   pub given : List ℕ
-  pub fits : Fits id read given n b e
+  pub fits : Fits id read resets given n b e
   pub below : (k : ℕ) → Among k given → k < n
 
 -- and nothing is staged
-pub record InStepClear (id : Identity) (read : List ℕ) (n : ℕ) (b : Sender) (e : EndState) : Type 0 where
+pub record InStepClear (id : Identity) (read : List ℕ) (resets : List Answer) (n : ℕ) (b : Sender) (e : EndState) : Type 0 where
   pub given : List ℕ
-  pub level : Level id read given n b e
+  pub level : Level id read resets given n b e
   pub empty : b.stage ≡ no_stage
   pub below : (k : ℕ) → Among k given → k < n
 
 -- the message of the expected number was handed over or rejected
-pub record HasHandled (id : Identity) (read : List ℕ) (n : ℕ) (b : Sender) (e : EndState) : Type 0 where
+pub record HasHandled (id : Identity) (read : List ℕ) (resets : List Answer) (n : ℕ) (b : Sender) (e : EndState) : Type 0 where
   pub given : List ℕ
-  pub fits : Fits id read given n b e
+  pub fits : Fits id read resets given n b e
   pub within : (k : ℕ) → Among k given → k ≤ n
   pub grew : Grew fits.on.connection fits.ahead.to.handled n
 
-abbrev pub Stands : Identity → List ℕ → Standing → ℕ → Sender → EndState → Type 0
-Stands id read Clear n b e = InStepClear id read n b e
-Stands id read Open n b e = InStep id read n b e
-Stands id read Handled n b e = HasHandled id read n b e
+abbrev pub Stands : Identity → List ℕ → List Answer → Standing → ℕ → Sender → EndState → Type 0
+Stands id read resets Clear n b e = InStepClear id read resets n b e
+Stands id read resets Open n b e = InStep id read resets n b e
+Stands id read resets Handled n b e = HasHandled id read resets n b e
 
 -- this holds of them, and each number that a message took is a MsgSeqNum
 pub record InBounds (P : Sender → EndState → Type 0) (b : Sender) (e : EndState) : Type 0 where
@@ -134,8 +139,9 @@ pub record InBounds (P : Sender → EndState → Type 0) (b : Sender) (e : EndSt
 -- the end is in step with a session that is on its connection still: what is staged may be kept and written
 pub record IsStillOn (id : Identity) (read : List ℕ) (b : Sender) (e : EndState) : Type 0 where
   pub number : ℕ
+  pub resets : List Answer
   pub given : List ℕ
-  pub fits : Fits id read given number b e
+  pub fits : Fits id read resets given number b e
 
 -- the end after the store failed: a record of what was staged or a number that is withheld is in doubt, or none, where
 -- it failed at a fetch

@@ -41,8 +41,7 @@ IsOther s (Leave now) = Unit {0}
 IsOther s Ended = Unit {0}
 IsOther s (Wrote now) = Unit {0}
 
--- A step that neither begins the numbers anew nor keeps that this was answered. A Logon with 141=Y is written where they
--- begin anew, and what is said here of what an end wrote allows none yet
+-- a step that neither begins the numbers anew nor keeps that this was answered
 abbrev pub KeepsNumbers : StepSeen → Type 0
 KeepsNumbers (Send said) = Unit {0}
 KeepsNumbers (Serve from to) = Unit {0}

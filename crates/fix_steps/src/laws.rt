@@ -7,6 +7,7 @@ ghost use Rattle.fix_base.specs.Fields.{Field};
 ghost use Rattle.fix_base.specs.Message.{Message};
 ghost use Rattle.fix_base.specs.Payload.{IsPersistentEntry};
 ghost use Rattle.fix_base.specs.Says.{HasFields, message_of};
+ghost use Rattle.fix_base.specs.EndStep.{Answer};
 ghost use Rattle.fix_outside.specs.Calls.{Call};
 ghost use Rattle.fix_machine.specs.declared.state.MachineState.{MachineState};
 ghost use Rattle.fix_machine.specs.declared.state.Options.{Options};
@@ -23,7 +24,7 @@ ghost use Rattle.fix_steps.specs.declared.ending.Ending.TheVariants as ending;
 ghost use Rattle.fix_steps.specs.Leaves.{IsInOrder, HasNumbers};
 ghost use Rattle.fix_steps.specs.Answering.{AnswersOnly};
 ghost use Rattle.fix_steps.specs.Stated.{IsRead, IsSound};
-ghost use Rattle.fix_steps.specs.Lawful.{Standing, MayAnswer, BeginsPlainly, WasReadIn, IsAnswered, InStep, InBounds};
+ghost use Rattle.fix_steps.specs.Lawful.{Standing, MayAnswer, LetsCount, WasReadIn, IsAnswered, InStep, InBounds};
 ghost use Rattle.fix_steps.specs.Lawful.{Stands, AfterEnding};
 ghost use Rattle.fix_steps.specs.Told.{IsTold, IsOther, KeepsNumbers, MayBeDone, IsBounded, IsPossibleAnswer};
 
@@ -41,11 +42,11 @@ pub fn what_is_out_of_memory_would_have_gone_on()
 /// before it, its acts are a run of that end, to one that is in step again. Each number that a message took is a
 /// MsgSeqNum (34) before it and after it.
 pub fn an_answer_is_lawful()
-    ensures { (id : Identity) (read : List ℕ) (frame : Option (List ℕ)) (x : Option Message) (n m : ℕ)
-        (steps : List StepSeen) (to : Standing) → IsValidIdentity id → IsAnswered read frame x
+    ensures { (id : Identity) (read : List ℕ) (resets : List Answer) (frame : Option (List ℕ)) (x : Option Message) (n m : ℕ)
+        (steps : List StepSeen) (to : Standing) → IsValidIdentity id → IsAnswered read resets frame x
         → AllByRecursion (IsCarried frame) steps → MayAnswer x n steps to m
-        → LeadsFrom id (AfterEnding id read) (InBounds (InStep id read n)) (Carried id frame steps)
-        (InBounds (Stands id read to m)) }
+        → LeadsFrom id (AfterEnding id read) (InBounds (InStep id read resets n)) (Carried id frame steps)
+        (InBounds (Stands id read resets to m)) }
 {}
 
 /// An answer sends, serves a ResendRequest, hands the message over, keeps what is kept of resets, and does nothing else.
@@ -84,21 +85,20 @@ pub fn what_is_decided_may_be_done()
 
 /// So what the machine decides is lawful, where the numbers don't begin anew: from an end in step with the session and the
 /// machine's expected number, the answer's acts are a run of that end, to one in step with the number that its steps say.
-/// A Logon that begins them anew is written with 141=Y, and what an end in step has written has none yet.
 pub fn what_is_decided_is_lawful()
-    ensures message { (id : Identity) (read text : List ℕ) (fields : List Field) (o : Options) (s : MachineState)
-        (i : Inbound) → IsValidIdentity id → HasFields text fields → BeginsPlainly read
+    ensures message { (id : Identity) (read : List ℕ) (resets : List Answer) (text : List ℕ) (fields : List Field) (o : Options) (s : MachineState)
+        (i : Inbound) → IsValidIdentity id → HasFields text fields → LetsCount read resets
         → ((y : Message) → message_of fields ≡ Some y → WasReadIn read y) → IsTold fields i
         → AllByRecursion (IsCarried (Some text)) (answer_to o s (Frame i)).steps
         → AllByRecursion KeepsNumbers (answer_to o s (Frame i)).steps
-        → LeadsFrom id (AfterEnding id read) (InBounds (InStep id read s.expected))
+        → LeadsFrom id (AfterEnding id read) (InBounds (InStep id read resets s.expected))
         (Carried id (Some text) (answer_to o s (Frame i)).steps)
-        (InBounds (InStep id read (expected_after (answer_to o s (Frame i)).steps s.expected))) }
-    ensures other { (id : Identity) (read : List ℕ) (o : Options) (s : MachineState) (e : EventSeen)
+        (InBounds (InStep id read resets (expected_after (answer_to o s (Frame i)).steps s.expected))) }
+    ensures other { (id : Identity) (read : List ℕ) (resets : List Answer) (o : Options) (s : MachineState) (e : EventSeen)
         → IsValidIdentity id → IsOther s e → AllByRecursion (IsCarried None) (answer_to o s e).steps
-        → LeadsFrom id (AfterEnding id read) (InBounds (InStep id read s.expected))
+        → LeadsFrom id (AfterEnding id read) (InBounds (InStep id read resets s.expected))
         (Carried id None (answer_to o s e).steps)
-        (InBounds (InStep id read (expected_after (answer_to o s e).steps s.expected))) }
+        (InBounds (InStep id read resets (expected_after (answer_to o s e).steps s.expected))) }
 {}
 
 /// What the machine decides can be carried out, where it names no application version. A reset stands first and a close
