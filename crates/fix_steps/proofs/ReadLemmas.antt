@@ -20,7 +20,7 @@ use Rattle.fix_steps.specs.Lawful.{LetsCount}
 -- ---- the first frame
 
 -- two readings of the same bytes have one first frame
-first_frame : (a : UnreadBytes) (xs ys : List Item) (b c : UnreadBytes) (t u : List ℕ) (ts us : List (List ℕ)) → TakesAll a xs b → TakesAll a ys c → frames xs ≡ t ∷ ts → frames ys ≡ u ∷ us → t ≡ u
+pub first_frame : (a : UnreadBytes) (xs ys : List Item) (b c : UnreadBytes) (t u : List ℕ) (ts us : List (List ℕ)) → TakesAll a xs b → TakesAll a ys c → frames xs ≡ t ∷ ts → frames ys ≡ u ∷ us → t ≡ u
 first_frame a [] ys b c t u ts us p q e f = cc
 first_frame a (x ∷ xs) [] b c t u ts us p q e f = cc
 first_frame a (Frame v ∷ xs) (y ∷ ys) b c t u ts us p q e f =

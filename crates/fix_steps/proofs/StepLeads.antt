@@ -82,10 +82,10 @@ stands_certain id read resets Handled n b e h = h.fits.certain.doubt
 abbrev pub Bounded : Identity → List ℕ → List Answer → Standing → ℕ → Sender → EndState → Type 0
 Bounded id read resets at n = InBounds (Stands id read resets at n)
 
-bounded_certain : (id : Identity) (read : List ℕ) (resets : List Answer) (at : Standing) (n : ℕ) → HasNoDoubt (Bounded id read resets at n)
+pub bounded_certain : (id : Identity) (read : List ℕ) (resets : List Answer) (at : Standing) (n : ℕ) → HasNoDoubt (Bounded id read resets at n)
 bounded_certain id read resets at n b e h = stands_certain id read resets at n b e h.is
 
-still_bounded : (F : Ending → Sender → EndState → Type 0) (Q : Sender → EndState → Type 0) (r : Result ⊤ Ending) (to : Sender) (e : EndState) → last_taken to ≤ 999999999 → After F Q r to e → After F (InBounds Q) r to e
+pub still_bounded : (F : Ending → Sender → EndState → Type 0) (Q : Sender → EndState → Type 0) (r : Result ⊤ Ending) (to : Sender) (e : EndState) → last_taken to ≤ 999999999 → After F Q r to e → After F (InBounds Q) r to e
 still_bounded F Q (Ok x) to e few q = record { is = q; last = few }
 still_bounded F Q (Err f) to e few q = q
 
@@ -114,7 +114,7 @@ ended id read resets given n fault.StoreFault b e h = lawful.staged_in_doubt h
 ended id read resets given n fault.LinkFault b e h = h
 
 -- something of sending, in an answer
-in_answer : (id : Identity) (read : List ℕ) (resets : List Answer) (given : List ℕ) (n : ℕ) (R : Sender → List Call → Result ⊤ StageFault → Sender → Type 0) (Q Q' : Sender → EndState → Type 0) (b : Sender) (e : EndState) → ((calls : List Call) (r : Result ⊤ StageFault) (to : Sender) → R b calls r to → LawfulRunTo id e calls (After (AfterFault id read resets given n) Q r to)) → ((calls : List Call) (to : Sender) (e' : EndState) → R b calls (Ok tt) to → Q to e' → Q' to e') → (calls : List Call) (r : Result ⊤ Ending) (to : Sender) → InAnswer R b calls r to → LawfulRunTo id e calls (After (AfterEnding id read) Q' r to)
+pub in_answer : (id : Identity) (read : List ℕ) (resets : List Answer) (given : List ℕ) (n : ℕ) (R : Sender → List Call → Result ⊤ StageFault → Sender → Type 0) (Q Q' : Sender → EndState → Type 0) (b : Sender) (e : EndState) → ((calls : List Call) (r : Result ⊤ StageFault) (to : Sender) → R b calls r to → LawfulRunTo id e calls (After (AfterFault id read resets given n) Q r to)) → ((calls : List Call) (to : Sender) (e' : EndState) → R b calls (Ok tt) to → Q to e' → Q' to e') → (calls : List Call) (r : Result ⊤ Ending) (to : Sender) → InAnswer R b calls r to → LawfulRunTo id e calls (After (AfterEnding id read) Q' r to)
 in_answer id read resets given n R Q Q' b e one back calls r to (goes_well {s = s} d) = leads_weaker id e calls (Q s) (Q' s) (λ e' q. back calls s e' d q) (one calls (Ok tt) s d)
 in_answer id read resets given n R Q Q' b e one back calls r to (fails {s = s} {e = f} d) = leads_weaker id e calls (AfterFault id read resets given n f s) (AfterEnding id read (ending_of f) s) (λ e' q. ended id read resets given n f s e' q) (one calls (Err f) s d)
 
@@ -422,7 +422,7 @@ module _ (id : Identity) (read : List ℕ) (resets : List Answer) (valid : IsVal
       leads_weaker id e calls (After Failed (Stands id read resets at' n') r to) (After Failed (Bounded id read resets at' n') r to)
       (λ e' q. still_bounded Failed (Stands id read resets at' n') r to e' (step_ranges id frame step b calls r to h.last d) q) (may_leads one fit b h.last calls r to d e h.is)
 
-  all_lead : {at to : Standing} {n m : ℕ} {xs : List StepSeen} → MayDoAll x at n xs to m → AllByRecursion (IsCarried frame) xs → LeadsFrom id Failed (Bounded id read resets at n) (Done id frame xs) (Bounded id read resets to m)
+  pub all_lead : {at to : Standing} {n m : ℕ} {xs : List StepSeen} → MayDoAll x at n xs to m → AllByRecursion (IsCarried frame) xs → LeadsFrom id Failed (Bounded id read resets at n) (Done id frame xs) (Bounded id read resets to m)
   all_lead {at = at} {n = n} lawful.all_done fit = none_leads id Failed (Performed id frame) (Bounded id read resets at n)
   all_lead {at = at} {to = to} {n = n} {m = m} (lawful.first_may {at' = at'} {n' = n'} {step = step} {steps = xs} one more) fit =
       first_leads id Failed (Performed id frame) (Bounded id read resets at n) (Bounded id read resets at' n') (Bounded id read resets to m) step xs (bounded_certain id read resets at' n') (bounded_leads one fit.0) (all_lead more fit.1)
