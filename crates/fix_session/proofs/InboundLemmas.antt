@@ -68,5 +68,6 @@ is_told {rules} {waiting} {frame} {i} h = record {
   typed = h.typed;
   header = h.header;
   gap = h.gap;
+  reset = h.reset;
   verdict = verdict_told rules frame h.type h.fields i.verdict h.has h.verdict;
 }

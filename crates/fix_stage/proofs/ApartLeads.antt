@@ -16,6 +16,7 @@ use Rattle.fix_stage.specs.Flush.{record_of, is_due, WroteOne, Flushed, sender_k
 use Rattle.fix_stage.specs.Lawful.{IsCertain, IsInDoubt, IsAhead, Apart, AreUnwritten, Bare, LawfulRunTo, After, AfterApart}
 use Rattle.fix_stage.proofs.LeadsLemmas.{leads_nowhere, leads_kept, leads_call}
 use Rattle.fix_stage.proofs.ChainLemmas.{plain}
+use Rattle.fix_stage.proofs.PlainLemmas.{still_free}
 use Rattle.fix_stage.proofs.KeepLeads.{chain_of, chain_expected, numbered, kept_run, record_same, lost_at, in_doubt, many_stored, many_out}
 
 -- a connection that nobody looks at
@@ -59,7 +60,7 @@ apart_flushed id k b calls r to which (flush.kept_and_written {more = more} due 
             kept = record {
               stored = ap (λ (x : End). x.stored) l.end ∙ many_stored e.end es k b.numbers.stored_expected f.certain.kept.stored;
               out = ap (λ (x : End). length x.out) l.end ∙ ap length (many_out e.end es k) ∙ length-append e.end.out es ∙ ap (λ m. m + length es) f.certain.kept.out;
-              role = l.block.role ∙ f.certain.kept.role;
+              free = still_free e e' l.block.role l.block.asked f.certain.kept.free;
             };
           };
           here = chain_expected k e a.to t ∙ a.expected;

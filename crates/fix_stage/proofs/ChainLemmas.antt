@@ -8,7 +8,7 @@ use Rattle.fix_base.specs.declared.entry.Record.TheVariants.{Push, Expect}
 use Rattle.fix_base.specs.declared.act.Act.TheVariants as act
 use Rattle.fix_base.specs.End.{folded}
 use Rattle.fix_base.specs.EndStep as steps
-use Rattle.fix_base.specs.EndStep.{Acceptor, Connection, EndState, Pushed, Chain, Move, Row, EndStep, EndRun, LogonRule}
+use Rattle.fix_base.specs.EndStep.{Answer, Connection, EndState, Pushed, Chain, Move, Row, EndStep, EndRun, LogonRule}
 use Rattle.fix_stage.specs.Sender.{Sender}
 use Rattle.fix_stage.specs.Lawful.{Fits, Level}
 
@@ -72,8 +72,8 @@ plain (x ∷ es) e =
     record { to = p.to; run = steps.push steps.adds p.run; expected = p.expected; handled = p.handled }
 
 -- a level end is in step: what is staged is added entry by entry
-pub level_fits : (id : Identity) (read given : List ℕ) (n : ℕ) (b : Sender) (e : EndState) → Level id read given n b e → Fits id read given n b e
-level_fits id read given n b e l =
+pub level_fits : (id : Identity) (read : List ℕ) (resets : List Answer) (given : List ℕ) (n : ℕ) (b : Sender) (e : EndState) → Level id read resets given n b e → Fits id read resets given n b e
+level_fits id read resets given n b e l =
     let p = plain b.stage.entries e in
     record {
       certain = l.certain;

@@ -10,8 +10,8 @@ use Rattle.fix_base.specs.declared.entry.Record.TheVariants.{Push, Expect, Many}
 use Rattle.fix_base.specs.declared.act.Act.TheVariants as act
 use Rattle.fix_base.specs.End.{End, folded}
 use Rattle.fix_base.specs.EndStep as steps
-use Rattle.fix_base.specs.EndStep.{Acceptor, Connection, EndState, Pushed, Chain, Move, Row, EndStep, EndRun, LogonRule}
-use Rattle.fix_base.proofs.FollowsLemmas.{linked}
+use Rattle.fix_base.specs.EndStep.{Answer, Connection, EndState, Pushed, Chain, Move, Row, EndStep, EndRun, LogonRule}
+use Rattle.fix_base.proofs.FollowsLemmas.{SameBlock, linked}
 use Rattle.fix_outside.specs.declared.outside.KeepFault.TheVariants as keep
 use Rattle.fix_outside.specs.Calls.{Keep}
 use Rattle.fix_stage.specs.Sender.{Numbers, Sender, numbers_kept}
@@ -20,6 +20,7 @@ use Rattle.fix_stage.specs.Lawful.{HasKept, IsCertain, IsInDoubt, IsAhead}
 use Rattle.fix_stage.specs.Lawful.{Fits, LawfulRunTo}
 use Rattle.fix_stage.proofs.LeadsLemmas.{leads_lost, leads_after}
 use Rattle.fix_stage.proofs.ChainLemmas.{moves_run, push_run, expect_run, chain_expects}
+use Rattle.fix_stage.proofs.PlainLemmas.{still_free}
 
 -- ---- nothing due, a number that isn't 0
 
@@ -39,7 +40,7 @@ pub record KeptEnd (id : Identity) (n k : ℕ) (b : Sender) (e : EndState) (c : 
   pub end : to.end ≡ folded e.end (record_of b.stage.entries k)
   pub many : to.end ≡ folded e.end (Many b.stage.entries k)
   pub doubt : to.doubt ≡ None
-  pub role : to.role ≡ e.role
+  pub block : SameBlock e to
   pub connection : to.connection ≡ Some c
   pub expected : to.expected ≡ n
   pub base : c.base ≤ length to.handled
@@ -85,8 +86,8 @@ kept_run id (x ∷ []) k e to true z due sure chain = rw z (push_run id x sure c
 kept_run id (x ∷ []) k e to false z due sure chain = rw z (many_run id (x ∷ []) k e to sure chain)
 kept_run id (x ∷ y ∷ es) k e to t z due sure chain = many_run id (x ∷ y ∷ es) k e to sure chain
 
-kept_at : (id : Identity) (read given : List ℕ) (n k : ℕ) (b : Sender) (e : EndState) (f : Fits id read given n b e) → (k ≡ 0) ⊎ (k ≡ n) → is_due b k ≡ true → (t : Bool) → (k == 0) ≡ t → KeptEnd id n k b e f.on.connection
-kept_at id read given n k b e f which due t z =
+kept_at : (id : Identity) (read : List ℕ) (resets : List Answer) (given : List ℕ) (n k : ℕ) (b : Sender) (e : EndState) (f : Fits id read resets given n b e) → (k ≡ 0) ⊎ (k ≡ n) → is_due b k ≡ true → (t : Bool) → (k == 0) ≡ t → KeptEnd id n k b e f.on.connection
+kept_at id read resets given n k b e f which due t z =
     let a = f.ahead in
     let es = b.stage.entries in
     let to : EndState = chain_of k e a.to t in
@@ -98,14 +99,14 @@ kept_at id read given n k b e f which due t z =
       end = l.end ∙ record_same e.end es k t z due;
       many = l.end;
       doubt = l.certain;
-      role = l.block.role;
+      block = l.block;
       connection = l.connection ∙ f.on.is_open;
       expected = chain_expected k e a.to t ∙ a.expected;
       base = subst (λ h. f.on.connection.base ≤ length h) (sym (chain_handled k e a.to t)) a.base;
     }
 
-pub kept_end : (id : Identity) (read given : List ℕ) (n k : ℕ) (b : Sender) (e : EndState) (f : Fits id read given n b e) → (k ≡ 0) ⊎ (k ≡ n) → is_due b k ≡ true → KeptEnd id n k b e f.on.connection
-kept_end id read given n k b e f which due = kept_at id read given n k b e f which due (k == 0) refl
+pub kept_end : (id : Identity) (read : List ℕ) (resets : List Answer) (given : List ℕ) (n k : ℕ) (b : Sender) (e : EndState) (f : Fits id read resets given n b e) → (k ≡ 0) ⊎ (k ≡ n) → is_due b k ≡ true → KeptEnd id n k b e f.on.connection
+kept_end id read resets given n k b e f which due = kept_at id read resets given n k b e f which due (k == 0) refl
 
 -- what several entries with a number leave
 pub many_stored : (e : End) (es : List Entry) (k stored : ℕ) → e.stored ≡ stored → (folded e (Many es k)).stored ≡ (if k == 0 then stored else k)
@@ -123,14 +124,14 @@ many_out e es k = by (k == 0)
     by false = refl
 
 -- the session counts what is kept, and the end is certain
-pub kept_certain : (id : Identity) (read given : List ℕ) (n k : ℕ) (b : Sender) (e : EndState) (f : Fits id read given n b e) (p : KeptEnd id n k b e f.on.connection) (e' : EndState) → e'.end ≡ p.to.end → e'.doubt ≡ None → e'.role ≡ e.role → IsCertain (numbers_kept b.numbers (length b.stage.entries) k) e'
-kept_certain id read given n k b e f p e' same doubt role = record {
+pub kept_certain : (id : Identity) (read : List ℕ) (resets : List Answer) (given : List ℕ) (n k : ℕ) (b : Sender) (e : EndState) (f : Fits id read resets given n b e) (p : KeptEnd id n k b e f.on.connection) (e' : EndState) → e'.end ≡ p.to.end → e'.doubt ≡ None → e'.role ≡ p.to.role → IsCertain (numbers_kept b.numbers (length b.stage.entries) k) e'
+kept_certain id read resets given n k b e f p e' same doubt role = record {
   doubt = doubt;
   kept = record {
     stored = ap (λ (x : End). x.stored) (same ∙ p.many) ∙ many_stored e.end b.stage.entries k b.numbers.stored_expected f.certain.kept.stored;
     out = ap (λ (x : End). length x.out) (same ∙ p.many) ∙ ap length (many_out e.end b.stage.entries k)
         ∙ length-append e.end.out b.stage.entries ∙ ap (λ l. l + length b.stage.entries) f.certain.kept.out;
-    role = role ∙ f.certain.kept.role;
+    free = still_free e e' (role ∙ p.block.role) (ap (λ (x : End). x.asked) same ∙ p.block.asked) f.certain.kept.free;
   };
 }
 
@@ -141,7 +142,7 @@ in_doubt n k b to e e' same expected some which kept end role doubt closed = rec
   kept = record {
     stored = ap (λ (x : End). x.stored) end ∙ kept.stored ∙ sym (ap (λ (m : Numbers). m.stored_expected) same);
     out = ap (λ (x : End). length x.out) end ∙ kept.out ∙ sym (ap (λ (m : Numbers). m.last) same);
-    role = role ∙ kept.role;
+    free = still_free e e' role (ap (λ (x : End). x.asked) end) kept.free;
   };
   entries = b.stage.entries;
   expect = k;
@@ -185,8 +186,8 @@ lost_at id n k (x ∷ []) e c a P sure which due false z holds =
     subst (λ r. LawfulRunTo id e (Keep r (Err keep.Failed) ∷ []) P) (sym is) (many_lost id n k (x ∷ []) e c a P sure which false z (λ e' end role doubt closed. holds e' end role (doubt ∙ ap Some (sym is)) closed))
 lost_at id n k (x ∷ y ∷ es) e c a P sure which due t z holds = many_lost id n k (x ∷ y ∷ es) e c a P sure which t z holds
 
-pub lost_leads : (id : Identity) (read given : List ℕ) (n k : ℕ) (b to : Sender) (e : EndState) → to.numbers ≡ b.numbers → Fits id read given n b e → (k ≡ 0) ⊎ (k ≡ n) → is_due b k ≡ true → LawfulRunTo id e (Keep (record_of b.stage.entries k) (Err keep.Failed) ∷ []) (IsInDoubt to)
-lost_leads id read given n k b to e same f which due =
+pub lost_leads : (id : Identity) (read : List ℕ) (resets : List Answer) (given : List ℕ) (n k : ℕ) (b to : Sender) (e : EndState) → to.numbers ≡ b.numbers → Fits id read resets given n b e → (k ≡ 0) ⊎ (k ≡ n) → is_due b k ≡ true → LawfulRunTo id e (Keep (record_of b.stage.entries k) (Err keep.Failed) ∷ []) (IsInDoubt to)
+lost_leads id read resets given n k b to e same f which due =
     lost_at id n k b.stage.entries e f.on.connection f.ahead (IsInDoubt to) f.certain.doubt which due (k == 0) refl
     (λ e' end role doubt closed. in_doubt n k b to e e' same f.expected due which f.certain.kept end role doubt closed)
 

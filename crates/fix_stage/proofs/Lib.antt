@@ -16,4 +16,6 @@ pub mod FlushLeads
 pub mod ServingLeads
 pub mod ApartLeads
 pub mod StagingLeads
+pub mod TellingLeads
+pub mod RoleLemmas
 pub mod Carrying

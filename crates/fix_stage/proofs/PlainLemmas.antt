@@ -1,5 +1,5 @@
 -- Frames that are no Logons with 141=Y: they ask for no reset.
-use Rattle.std.proofs.Common.{◌≡◌, inl, inr, ℕ, codes, List, [], ◌∷◌, ◌++◌, true, false, Some, None, refl, sym, ap, ◌∙◌, subst, append_assoc}
+use Rattle.std.proofs.Common.{◌≡◌, ◌⊎◌, inl, inr, map, drop, ℕ, codes, List, [], ◌∷◌, ◌++◌, true, false, Some, None, refl, sym, ap, ◌∙◌, subst, append_assoc}
 use Rattle.std.proofs.lemmas.List.{append-nil}
 use Rattle.std.specs.Fmt.{decimal}
 use Rattle.fix_base.specs.Lists.{Among, here, IsPrefixOf}
@@ -9,19 +9,20 @@ use Rattle.fix_base.specs.declared.entry.Entry.TheVariants.{App}
 use Rattle.fix_base.specs.declared.entry.By.{By}
 use Rattle.fix_base.specs.Fields.{Field, FieldsAfter}
 use Rattle.fix_base.specs.Shape.{Parts, IsFrame}
-use Rattle.fix_base.specs.Stream.{UnreadBytes, Item, Frame, TakesAll, frames}
+use Rattle.fix_base.specs.Stream.{Frame, TakesAll, frames}
 use Rattle.fix_base.specs.Says.{HasFields, value_of, is_admin_type, joined}
-use Rattle.fix_base.specs.Logon.{IsResetLogon}
+use Rattle.fix_base.specs.Logon.{IsResetLogon, Begun, Completes}
 use Rattle.fix_base.specs.Wrote as wrote
 use Rattle.fix_base.specs.Wrote.{IsSealed, original_fields, Carries, IsOriginal}
 use Rattle.fix_base.specs.EndStep as steps
-use Rattle.fix_base.specs.EndStep.{Initiator, Acceptor, Connection, EndState, IsAsking, LogonRule}
-use Rattle.fix_base.proofs.ListLemmas.{some_same, Among-append_cases, Among-append_right, Among-cons_cases, Among-prefix}
+use Rattle.fix_base.specs.EndStep.{AskedReset, Connection, EndState, IsAsking, LogonRule}
+use Rattle.fix_base.proofs.ListLemmas.{some_same, Among-append_cases, Among-append_right, Among-cons_cases, prefix_under}
 use Rattle.fix_base.proofs.Runs.{frames-append}
-use Rattle.fix_base.proofs.FramingLemmas.{front_frames}
+use Rattle.fix_base.proofs.FollowsLemmas.{asking_same}
+use Rattle.fix_base.proofs.FramingLemmas.{front_frames, takes_frames, frames_of_frames}
 use Rattle.fix_base.proofs.Seals.{AreOfMessage, sealed_is_frame, sealed_has_fields}
 use Rattle.fix_base.proofs.WrittenLemmas.{original_is}
-use Rattle.fix_stage.specs.Lawful.{IsPlainly}
+use Rattle.fix_stage.specs.Lawful.{IsPlainly, MayTellReset}
 use Rattle.fix_stage.proofs.OutgoingLemmas.{carried}
 use Rattle.fix_base.proofs.FieldLists.{fields_same}
 use Rattle.fix_base.proofs.Spans.{shape_free}
@@ -32,9 +33,9 @@ has_same text fs gs s t =
     let parts : s.parts ≡ t.parts = shape_free.value s.parts t.parts text s.shape t.shape in
     fields_same None t.parts.body fs gs (subst (λ (p : Parts). FieldsAfter None p.body fs) parts s.are) t.are
 
--- the end of an acceptor asks for no reset
-pub never_asks : (s : EndState) → s.role ≡ Acceptor → IsAsking s → ⊥
-never_asks s role asking = let both : Acceptor ≡ Initiator = sym role ∙ asking.0 in cc
+-- an end of the same role that asks as before asks for no reset still
+pub still_free : (e e' : EndState) → e'.role ≡ e.role → e'.end.asked ≡ e.end.asked → (IsAsking e → ⊥) → IsAsking e' → ⊥
+still_free e e' role asked free now = free (asking_same e' e (sym role) (sym asked) now)
 
 -- ---- what was written
 
@@ -48,27 +49,71 @@ plain_nothing = record { texts = []; are = refl; frames = λ t m. elim m [ ]; pl
 only : {x y : List ℕ} → Among x (y ∷ []) → x ≡ y
 only {x = x} {y = y} m = elim (Among-cons_cases m) as (λ _. x ≡ y) [ inl same ↦ same | inr other ↦ elim other [ ] ]
 
--- one more frame
-pub plain_more : (bytes text : List ℕ) → IsFrame text → (IsResetLogon text → ⊥) → IsPlainly bytes → IsPlainly (bytes ++ text)
-plain_more bytes text frame free h = record {
+-- behind the first there are those from before, or the new one
+behind : (texts : List (List ℕ)) (text t : List ℕ) → Among t (drop 1 (texts ++ text ∷ [])) → Among t (drop 1 texts) ⊎ (t ≡ text)
+behind [] text t m = elim m [ ]
+behind (x ∷ xs) text t m = elim (Among-append_cases xs (text ∷ []) m) as (λ _. Among t xs ⊎ (t ≡ text)) [ inl old ↦ inl old | inr new ↦ inr (only new) ]
+
+-- one more frame is no such Logon, or may be one, as the first
+pub plain_more : (c : Connection) (text : List ℕ) → IsFrame text → (IsResetLogon text → ⊥) ⊎ MayTellReset c → IsPlainly c.written → IsPlainly (c.written ++ text)
+plain_more c text frame (inl free) h = record {
   texts = h.texts ++ text ∷ [];
   are = ap (λ w. w ++ text) h.are ∙ sym (joined-append h.texts text);
   frames = λ t m. elim (Among-append_cases h.texts (text ∷ []) m) as (λ _. IsFrame t) [ inl old ↦ h.frames t old | inr new ↦ subst IsFrame (sym (only new)) frame ];
-  plain = λ t m l. elim (Among-append_cases h.texts (text ∷ []) m) [ inl old ↦ h.plain t old l | inr new ↦ free (subst IsResetLogon (only new) l) ];
+  plain = λ t m l. elim (behind h.texts text t m) [ inl old ↦ h.plain t old l | inr new ↦ free (subst IsResetLogon new l) ];
+}
+plain_more c text frame (inr told) h = record {
+  texts = text ∷ [];
+  are = ap (λ w. w ++ text) told.0 ∙ sym (append-nil text);
+  frames = λ t m. subst IsFrame (sym (only m)) frame;
+  plain = λ t m. elim m [ ];
 }
 
--- none of the frames in a front of such bytes is such a Logon
-none_resets : (bytes front : List ℕ) → IsPlainly bytes → IsPrefixOf front bytes → (items : List Item) (rest : UnreadBytes) → TakesAll (record { may_mark = true; bytes = front }) items rest → (text : List ℕ) → Among text (frames items) → IsResetLogon text → ⊥
-none_resets bytes front h p items rest takes text m l =
-    let among = front_frames h.texts front items rest (record { each = h.frames }) (subst (IsPrefixOf front) h.are p) takes in
-    h.plain text (Among-prefix among m) l
+-- what is read of frames is told by the first of them
+begun_first : (text : List ℕ) (texts : List (List ℕ)) (bytes : List ℕ) → ((t : List ℕ) → Among t (text ∷ texts) → IsFrame t) → IsPrefixOf bytes (joined (text ∷ texts)) → (begun : Begun IsResetLogon bytes) → IsResetLogon text
+begun_first text texts bytes are p begun =
+    let front = front_frames (text ∷ texts) bytes begun.items begun.rest (record { each = are }) p begun.takes in
+    let same : text ∷ texts ≡ begun.text ∷ (begun.others ++ front.rest) = front.is ∙ ap (λ w. w ++ front.rest) begun.first in
+    subst IsResetLogon (let first : begun.text ≡ text = cc in first) begun.is
 
--- a front of such bytes may be written
-pub plain_rule : (id : Identity) (s : EndState) (c : Connection) (b bytes : List ℕ) → s.role ≡ Acceptor → IsPlainly bytes → IsPrefixOf (c.written ++ b) bytes → LogonRule id s c b
-plain_rule id s c b bytes role h p =
-    steps.answers (never_asks s role)
-    (λ begun. absurd (none_resets bytes (c.written ++ b) h p begun.items begun.rest begun.takes begun.text (subst (λ w. Among begun.text w) (sym begun.first) here) begun.is))
-    (λ text w l. absurd (none_resets bytes (c.written ++ b) h p (w.before ++ Frame text ∷ []) w.rest w.takes text (subst (λ z. Among text z) (sym (frames-append w.before (Frame text ∷ []))) (Among-append_right (frames w.before) here)) l))
+-- the first of whole frames is read first
+first_begun : (text : List ℕ) (texts : List (List ℕ)) (bytes : List ℕ) → bytes ≡ joined (text ∷ texts) → ((t : List ℕ) → Among t (text ∷ texts) → IsFrame t) → IsResetLogon text → Begun IsResetLogon bytes
+first_begun text texts bytes same are l = record {
+  text = text;
+  others = texts;
+  items = map Frame (text ∷ texts);
+  rest = record { may_mark = true; bytes = [] };
+  takes = subst (λ w. TakesAll (record { may_mark = true; bytes = w }) (map Frame (text ∷ texts)) (record { may_mark = true; bytes = [] })) (sym same) (takes_frames (text ∷ texts) (record { each = are }));
+  first = frames_of_frames (text ∷ texts);
+  is = l;
+}
+
+-- what completes such a Logon stands first
+alone : (xs : List (List ℕ)) (text : List ℕ) (texts more : List (List ℕ)) → texts ≡ (xs ++ text ∷ []) ++ more → (Among text (drop 1 texts) → ⊥) → xs ≡ []
+alone [] text texts more is none = refl
+alone (x ∷ xs) text texts more is none =
+    absurd (none (subst (λ w. Among text (drop 1 w)) (sym is) (subst (λ w. Among text w) (sym (append_assoc xs (text ∷ []) more)) (Among-append_right xs here))))
+
+stands_first : (texts : List (List ℕ)) (c : Connection) (b : List ℕ) → ((t : List ℕ) → Among t texts → IsFrame t) → ((t : List ℕ) → Among t (drop 1 texts) → IsResetLogon t → ⊥) → IsPrefixOf (c.written ++ b) (joined texts) → (text : List ℕ) (w : Completes c.written b text) → IsResetLogon text → frames w.before ≡ []
+stands_first texts c b are plain p text w l =
+    let front = front_frames texts (c.written ++ b) (w.before ++ Frame text ∷ []) w.rest (record { each = are }) p w.takes in
+    alone (frames w.before) text texts front.rest (front.is ∙ ap (λ z. z ++ front.rest) (frames-append w.before (Frame text ∷ []))) (λ m. plain text m l)
+
+-- a front of such bytes may be written, by an end that asks for no reset
+pub plain_rule : (id : Identity) (s : EndState) (c : Connection) (b text : List ℕ) → (IsAsking s → ⊥) → IsFrame text → (IsResetLogon text → ⊥) ⊎ MayTellReset c → IsPlainly c.written → IsPrefixOf b text → LogonRule id s c b
+plain_rule id s c b text free frame plain h p =
+    let more = plain_more c text frame plain h in
+    let front : IsPrefixOf (c.written ++ b) (joined more.texts) = subst (IsPrefixOf (c.written ++ b)) more.are (prefix_under c.written p) in
+    steps.answers free (tells h.texts h.are h.frames plain) (stands_first more.texts c b more.frames more.plain front)
+  where
+    tells : (texts : List (List ℕ)) → c.written ≡ joined texts → ((t : List ℕ) → Among t texts → IsFrame t) → (IsResetLogon text → ⊥) ⊎ MayTellReset c → Begun IsResetLogon (c.written ++ b) → Begun IsResetLogon c.written ⊎ Among AskedReset c.kept
+    tells texts same are (inr told) begun = inr told.1
+    tells [] same are (inl clear) begun =
+        absurd (clear (begun_first text [] (c.written ++ b) (λ t m. subst IsFrame (sym (only m)) frame) (subst (IsPrefixOf (c.written ++ b)) (ap (λ w. w ++ text) same ∙ sym (append-nil text)) (prefix_under c.written p)) begun))
+    tells (x ∷ xs) same are (inl clear) begun =
+        inl (first_begun x xs c.written same are (begun_first x (xs ++ text ∷ []) (c.written ++ b)
+        (λ t m. elim (Among-append_cases (x ∷ xs) (text ∷ []) m) as (λ _. IsFrame t) [ inl old ↦ are t old | inr new ↦ subst IsFrame (sym (only new)) frame ])
+        (subst (IsPrefixOf (c.written ++ b)) (ap (λ w. w ++ text) same ∙ sym (joined-append (x ∷ xs) text)) (prefix_under c.written p)) begun))
 
 -- ---- originals
 

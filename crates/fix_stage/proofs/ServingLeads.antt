@@ -17,7 +17,7 @@ use Rattle.fix_base.specs.Logon.{IsResetLogon}
 use Rattle.fix_base.specs.Wrote as wrote
 use Rattle.fix_base.specs.Wrote.{WritesNext, WroteWhole, SkipsBetween, IsRepeat, IsGapFill, repeat_fields, gap_fields}
 use Rattle.fix_base.specs.EndStep as steps
-use Rattle.fix_base.specs.EndStep.{EndState}
+use Rattle.fix_base.specs.EndStep.{Answer, Connection, EndState}
 use Rattle.fix_base.proofs.ListLemmas.{Among-append_right, some_same}
 use Rattle.fix_base.proofs.WroteLemmas.{IsEntry-inside, SkipsBetween-more}
 use Rattle.fix_base.proofs.WholeLemmas.{withhold_grows, whole_grown, whole_more}
@@ -31,19 +31,19 @@ use Rattle.fix_outside.specs.declared.outside.Kind.TheVariants as kind
 use Rattle.fix_outside.specs.Calls.{Call, Write, Keep, Fetch, Again}
 use Rattle.fix_stage.specs.Combine as combine
 use Rattle.fix_stage.specs.Combine.{Each, AndThen}
-use Rattle.fix_stage.specs.Stage.{no_stage}
+use Rattle.fix_stage.specs.Stage.{Staged, no_stage}
 use Rattle.fix_stage.specs.Sender.{Sender, StageFault}
 use Rattle.fix_stage.specs.declared.fault.StageFault.TheVariants as fault
 use Rattle.fix_stage.specs.Flush as flush
 use Rattle.fix_stage.specs.Flush.{WroteOne}
 use Rattle.fix_stage.specs.Serving as serving
 use Rattle.fix_stage.specs.Serving.{opened, WroteGap, WroteRepeat, Withholding, AppServed, ServedOne, numbers, last_served, Served}
-use Rattle.fix_stage.specs.Lawful.{IsCertain, Level, Bare, LawfulRunTo, After, LeadsFrom}
+use Rattle.fix_stage.specs.Lawful.{IsCertain, MayTellReset, AreOriginals, Level, Bare, LawfulRunTo, After, LeadsFrom}
 use Rattle.fix_stage.specs.LawfulServing.{MayServeAt, AfterServe}
 use Rattle.fix_stage.proofs.LeadsLemmas.{leads_nowhere, leads_step, leads_call, leads_lost, leads_on, leads_weaker}
-use Rattle.fix_stage.proofs.PlainLemmas.{plain_more, sealed_free, no_logon}
+use Rattle.fix_stage.proofs.PlainLemmas.{still_free, sealed_free, no_logon}
 use Rattle.fix_stage.proofs.ServingLemmas.{numbers-none, low_served}
-use Rattle.fix_stage.proofs.WriteLeads.{StillOpen, IsWriteFault, AfterWrite, Goes, all_wrote, some_wrote, all_rule, some_rule, writing, connected}
+use Rattle.fix_stage.proofs.WriteLeads.{StillOpen, IsWriteFault, AfterWrite, Goes, goes_plain, all_wrote, some_wrote, all_rule, some_rule, writing, connected}
 
 -- nothing but what may be skipped stands in the gap that is open
 abbrev GapSkips : End → ℕ → ℕ → Type 0
@@ -104,10 +104,10 @@ gap_free id n m t text h =
 
 -- ---- one frame is written
 
-module _ (id : Identity) (read given : List ℕ) (m : ℕ) (b : Sender) (empty : b.stage ≡ no_stage)
+module _ (id : Identity) (read : List ℕ) (resets : List Answer) (given : List ℕ) (m : ℕ) (b : Sender) (empty : b.stage ≡ no_stage)
     (few : b.numbers.last ≤ 999999999) where
   abbrev Lev : EndState → Type 0
-  Lev e = Level id read given m b e
+  Lev e = Level id read resets given m b e
 
   bare : (e : EndState) → Lev e → Bare b e
   bare e l = record { certain = l.certain; here = l.here ∙ sym l.expected; empty = empty }
@@ -122,9 +122,13 @@ module _ (id : Identity) (read given : List ℕ) (m : ℕ) (b : Sender) (empty :
     kept = record {
       stored = ap (λ (x : End). x.stored) end ∙ l.certain.kept.stored;
       out = ap (λ (x : End). length x.out) end ∙ l.certain.kept.out;
-      role = role ∙ l.certain.kept.role;
+      free = still_free e e' role (ap (λ (x : End). x.asked) end) l.certain.kept.free;
     };
   }
+
+  -- with nothing staged there are no frames
+  none_staged : (c : Connection) → AreOriginals id (MayTellReset c) b.numbers.last b.stage.entries b.stage.frames
+  none_staged c = subst (λ (s : Staged). AreOriginals id (MayTellReset c) b.numbers.last s.entries s.frames) (sym empty) tt
 
   -- after a write
   abbrev Written : EndState → EndState → Type 0
@@ -146,6 +150,7 @@ module _ (id : Identity) (read given : List ℕ) (m : ℕ) (b : Sender) (empty :
         connection = h.connection;
         is_open = h.is_open;
         reads = h.read ∙ l.on.reads;
+        keeps = h.kept ∙ l.on.keeps;
         gives = h.gave ∙ l.on.gives;
         last = h.last;
         below = subst (λ (x : End). h.last ≤ length x.out) (sym h.same.end) h.below;
@@ -157,7 +162,7 @@ module _ (id : Identity) (read given : List ℕ) (m : ℕ) (b : Sender) (empty :
       base = subst (λ k. k ≤ length e'.handled) (sym h.base)
           (subst (λ w. l.on.connection.base ≤ length w) (sym h.same.handled) l.base);
       expected = l.expected;
-      frames = l.frames;
+      frames = none_staged h.connection;
     },
     h.same.end,
   )
@@ -173,7 +178,9 @@ module _ (id : Identity) (read given : List ℕ) (m : ℕ) (b : Sender) (empty :
       g : Goes id l.on.last e l.on.connection text
       g = record {
         whole = whole_more id l.on.connection.opened e.end l.on.last l.on.last l.on.connection.written text next l.on.whole;
-        plain = plain_more l.on.connection.written text frame free l.on.plain;
+        frame = frame;
+        plain = inl free;
+        before = l.on.plain;
       }
 
       by : (calls : List Call) (r : Result ⊤ StageFault) (u : ⊤) → WroteOne tt (Some text) calls r u
@@ -184,7 +191,7 @@ module _ (id : Identity) (read given : List ℕ) (m : ℕ) (b : Sender) (empty :
           (record {
             certain = l.certain.doubt;
             row = steps.wrote text l.on.connection l.on.is_open (all_wrote id l.on.last e l.on.connection text g)
-                (all_rule id l.on.last e l.on.connection text l.certain.kept.role g);
+                (all_rule id l.on.last e l.on.connection text l.certain.kept.free g);
           }) (λ held k. k.stores.2 ∙ k.stores.1)
           (leads_nowhere id to (StillOpen id e l.on.connection) (record {
             same = record { end = refl; role = refl; expected = refl; handled = refl; doubt = l.certain.doubt };
@@ -193,11 +200,12 @@ module _ (id : Identity) (read given : List ℕ) (m : ℕ) (b : Sender) (empty :
             opened = refl;
             read = refl;
             base = refl;
+            kept = refl;
             gave = refl;
             last = l.on.last;
             below = l.on.below;
             whole = g.whole;
-            plain = g.plain;
+            plain = goes_plain id l.on.last e l.on.connection text g;
           }))
       by calls r u (flush.write_lost t sent) =
           let w : List ℕ = take sent text in
@@ -207,7 +215,7 @@ module _ (id : Identity) (read given : List ℕ) (m : ℕ) (b : Sender) (empty :
           (record {
             certain = l.certain.doubt;
             row = steps.wrote w l.on.connection l.on.is_open (some_wrote id l.on.last sent e l.on.connection text g)
-                (some_rule id l.on.last sent e l.on.connection text l.certain.kept.role g);
+                (some_rule id l.on.last sent e l.on.connection text l.certain.kept.free g);
           }) (λ held k. k.stores.2 ∙ k.stores.1)
           (leads_nowhere id to (AfterWrite id (Err fault.LinkFault) e l.on.connection)
           (record { end = refl; role = refl; expected = refl; handled = refl; doubt = l.certain.doubt }, tt))
@@ -280,12 +288,13 @@ module _ (id : Identity) (read given : List ℕ) (m : ℕ) (b : Sender) (empty :
   withheld_level e n l = record {
     certain = record {
       doubt = l.certain.doubt;
-      kept = record { stored = l.certain.kept.stored; out = l.certain.kept.out; role = l.certain.kept.role };
+      kept = record { stored = l.certain.kept.stored; out = l.certain.kept.out; free = l.certain.kept.free };
     };
     on = record {
       connection = l.on.connection;
       is_open = l.on.is_open;
       reads = l.on.reads;
+      keeps = l.on.keeps;
       gives = l.on.gives;
       last = l.on.last;
       below = l.on.below;
@@ -343,7 +352,7 @@ module _ (id : Identity) (read given : List ℕ) (m : ℕ) (b : Sender) (empty :
       (record { certain = l.certain.doubt; row = steps.offers n may }) (λ held k. k.stores.2 ∙ k.stores.1)
       (leads_lost id mid to (Withhold n) (AfterServe fault.StoreFault b)
       (record { certain = l.certain.doubt; row = steps.lost_withhold n refl }) refl refl (inl (record {
-        kept = record { stored = l.certain.kept.stored; out = l.certain.kept.out; role = l.certain.kept.role };
+        kept = record { stored = l.certain.kept.stored; out = l.certain.kept.out; free = l.certain.kept.free };
         number = n;
         doubt = refl;
         closed = refl;
@@ -358,7 +367,7 @@ module _ (id : Identity) (read given : List ℕ) (m : ℕ) (b : Sender) (empty :
       (λ held k. k.stores)
       (λ so. leads_nowhere id mid (AfterServe fault.OutOfMemory b) (record {
         doubt = l.certain.doubt;
-        kept = record { stored = l.certain.kept.stored; out = l.certain.kept.out; role = l.certain.kept.role };
+        kept = record { stored = l.certain.kept.stored; out = l.certain.kept.out; free = l.certain.kept.free };
       })))
   app_leads t n time body g calls r g' e l ok by at free serving.not_asked =
       leads_call id e (Again n body whether.OutOfMemory) [] (AfterServe fault.OutOfMemory b) refl (λ held k. k.stores)
@@ -416,27 +425,27 @@ gap_at id t e g from end calls d ok = elim (cases_lt from end) [
   | inr h ↦ inl (none_served id t g (numbers from (end - from)) calls (numbers-none from end h) d)
 ]
 
-pub served_leads : (id : Identity) (read given : List ℕ) (m from to : ℕ)
-    → LeadsFrom id AfterServe (MayServeAt id read given m) (Served id from to) (MayServeAt id read given m)
-served_leads id read given m from to b calls r b' (serving.serve_ends {g = g} {e = f} d) e h =
+pub served_leads : (id : Identity) (read : List ℕ) (resets : List Answer) (given : List ℕ) (m from to : ℕ)
+    → LeadsFrom id AfterServe (MayServeAt id read resets given m) (Served id from to) (MayServeAt id read resets given m)
+served_leads id read resets given m from to b calls r b' (serving.serve_ends {g = g} {e = f} d) e h =
     leads_weaker id e calls (AfterServe f b) (AfterServe f b) (λ e' q. q)
-    (all_lead id read given m b h.empty h.last b.numbers.reading 0 from (last_served b.numbers.last to + 1 - from) calls (Err f) g e
+    (all_lead id read resets given m b h.empty h.last b.numbers.reading 0 from (last_served b.numbers.last to + 1 - from) calls (Err f) g e
     h.level (inl refl) d)
-served_leads id read given m from to b calls r b' (serving.serves {g = g} {first = first} {more = more} d w) e h =
+served_leads id read resets given m from to b calls r b' (serving.serves {g = g} {first = first} {more = more} d w) e h =
     let low : last_served b.numbers.last to ≤ b.numbers.last = low_served b.numbers.last to in
     let end : ℕ = last_served b.numbers.last to + 1 in
-    leads_on id e first more (Passed id read given m b h.empty h.last (from + (end - from)) (length e.end.out) g)
-    (After AfterServe (MayServeAt id read given m) r b) (λ e' q. q.0.certain.doubt)
-    (all_lead id read given m b h.empty h.last b.numbers.reading 0 from (end - from) first (Ok tt) g e h.level (inl refl) d)
+    leads_on id e first more (Passed id read resets given m b h.empty h.last (from + (end - from)) (length e.end.out) g)
+    (After AfterServe (MayServeAt id read resets given m) r b) (λ e' q. q.0.certain.doubt)
+    (all_lead id read resets given m b h.empty h.last b.numbers.reading 0 from (end - from) first (Ok tt) g e h.level (inl refl) d)
     (λ e' q. leads_weaker id e' more
-    (After (λ f (u : ⊤). AfterServe f b) (λ (u : ⊤). Written id read given m b h.empty h.last e') r tt)
-    (After AfterServe (MayServeAt id read given m) r b) (later e' r)
-    (gap_leads id read given m b h.empty h.last b.numbers.reading g end e' more r tt q.0
+    (After (λ f (u : ⊤). AfterServe f b) (λ (u : ⊤). Written id read resets given m b h.empty h.last e') r tt)
+    (After AfterServe (MayServeAt id read resets given m) r b) (later e' r)
+    (gap_leads id read resets given m b h.empty h.last b.numbers.reading g end e' more r tt q.0
     (gap_at id b.numbers.reading e'.end g from end first d q.1)
     (let kept = q.0.certain.kept.out in omega (arith, kept, low)) (omega (arith, low, h.last)) w))
   where
     later : (e' : EndState) (r : Result ⊤ StageFault) (e2 : EndState)
-        → After (λ f (u : ⊤). AfterServe f b) (λ (u : ⊤). Written id read given m b h.empty h.last e') r tt e2
-        → After AfterServe (MayServeAt id read given m) r b e2
+        → After (λ f (u : ⊤). AfterServe f b) (λ (u : ⊤). Written id read resets given m b h.empty h.last e') r tt e2
+        → After AfterServe (MayServeAt id read resets given m) r b e2
     later e' (Ok x) e2 k = record { level = k.0; empty = h.empty; last = h.last }
     later e' (Err f) e2 k = k

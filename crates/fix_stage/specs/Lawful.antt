@@ -1,6 +1,6 @@
 -- What a session sends is lawful: staging leaves an end as it is, and a flush is a run of it.
 use Rattle.std.specs.Prelude.{◌≡◌, ◌⊎◌, ℕ, ◌+◌, ◌≤◌, List, [], ◌∷◌, length, Option, Some, None, Result, Ok, Err, ⊤}
-use Rattle.std.specs.Prelude.{◌==◌, ◌&&◌, not, true}
+use Rattle.std.specs.Prelude.{◌==◌, ◌&&◌, not, true, drop}
 use Rattle.fix_base.specs.Lists.{Among}
 use Rattle.fix_base.specs.declared.identity.Identity.{Identity}
 use Rattle.fix_base.specs.declared.entry.Entry.{Entry}
@@ -11,7 +11,7 @@ use Rattle.fix_base.specs.Says.{joined}
 use Rattle.fix_base.specs.Logon.{IsResetLogon}
 use Rattle.fix_base.specs.End.{End, folded}
 use Rattle.fix_base.specs.Wrote.{IsOriginal, WroteWhole}
-use Rattle.fix_base.specs.EndStep.{Acceptor, Connection, EndState, Chain, EndRun}
+use Rattle.fix_base.specs.EndStep.{Answer, AskedReset, Connection, EndState, IsAsking, Chain, EndRun}
 use Rattle.fix_outside.specs.Calls.{Call, CallsStore, acts_in}
 use Rattle.fix_stage.specs.Stage.{no_stage}
 use Rattle.fix_stage.specs.Sender.{Numbers, Sender, StageFault, NumbersSpent, OutOfMemory, StoreFault, LinkFault}
@@ -20,11 +20,11 @@ use Rattle.fix_stage.specs.Outgoing.{Outgoing, IsFrameOf}
 
 -- ---- an end and the numbers of a session
 
--- the end has what the session has kept. It is the end of an acceptor
+-- the end has what the session has kept, and asks for no reset
 pub record HasKept (n : Numbers) (e : EndState) : Type 0 where
   pub stored : e.end.stored ≡ n.stored_expected
   pub out : length e.end.out ≡ n.last
-  pub role : e.role ≡ Acceptor
+  pub free : IsAsking e → ⊥
 
 -- the same, and no record is in doubt
 pub record IsCertain (n : Numbers) (e : EndState) : Type 0 where
@@ -43,19 +43,24 @@ pub record IsInDoubt (b : Sender) (e : EndState) : Type 0 where
 
 -- ---- its connection
 
--- the bytes are whole frames, and none of them is a Logon with 141=Y
+-- the bytes are whole frames, and none of them but the first is a Logon with 141=Y
 pub record IsPlainly (bytes : List ℕ) : Type 0 where
   pub texts : List (List ℕ)
   pub are : bytes ≡ joined texts
   pub frames : (text : List ℕ) → Among text texts → IsFrame text
-  pub plain : (text : List ℕ) → Among text texts → IsResetLogon text → ⊥
+  pub plain : (text : List ℕ) → Among text (drop 1 texts) → IsResetLogon text → ⊥
 
--- on the end's connection this was read, and messages of these numbers were given. What was written is whole messages,
--- none of which is a Logon with 141=Y; the last original is that of an entry
-pub record IsOn (id : Identity) (read given : List ℕ) (e : EndState) : Type 0 where
+-- a Logon with 141=Y may be written on the connection: nothing was, and a reset that the counterparty asked for is kept
+abbrev pub MayTellReset : Connection → Type 0
+MayTellReset c = (c.written ≡ []) × Among AskedReset c.kept
+
+-- on the end's connection this was read, this was kept of resets, and messages of these numbers were given. What was
+-- written is whole messages, of which the first alone may be a Logon with 141=Y; the last original is that of an entry
+pub record IsOn (id : Identity) (read : List ℕ) (resets : List Answer) (given : List ℕ) (e : EndState) : Type 0 where
   pub connection : Connection
   pub is_open : e.connection ≡ Some connection
   pub reads : connection.read ≡ read
+  pub keeps : connection.kept ≡ resets
   pub gives : connection.gave ≡ given
   pub last : ℕ
   pub below : last ≤ length e.end.out
@@ -64,20 +69,21 @@ pub record IsOn (id : Identity) (read given : List ℕ) (e : EndState) : Type 0 
 
 -- ---- what is staged
 
--- the frame is the original of the entry under this number, and no Logon with 141=Y
-pub record IsPlainOriginal (id : Identity) (n : ℕ) (entry : Entry) (text : List ℕ) : Type 0 where
+-- the frame is the original of the entry under this number, and no Logon with 141=Y, unless one may be told
+pub record IsOriginalTold (id : Identity) (Told : Type 0) (n : ℕ) (entry : Entry) (text : List ℕ) : Type 0 where
   pub fits : n ≤ 999999999
   pub original : IsOriginal id n entry text
-  pub plain : IsResetLogon text → ⊥
+  pub plain : (IsResetLogon text → ⊥) ⊎ Told
 
--- each frame, where there is one, is the original of its entry, under the numbers after this one
-abbrev pub AreOriginals : Identity → ℕ → List Entry → List (Option (List ℕ)) → Type 0
-AreOriginals id last [] [] = ⊤
-AreOriginals id last [] (frame ∷ frames) = ⊥
-AreOriginals id last (entry ∷ entries) [] = ⊥
-AreOriginals id last (entry ∷ entries) (None ∷ frames) = AreOriginals id (last + 1) entries frames
-AreOriginals id last (entry ∷ entries) (Some text ∷ frames) =
-    IsPlainOriginal id (last + 1) entry text × AreOriginals id (last + 1) entries frames
+-- each frame, where there is one, is the original of its entry, under the numbers after this one. The first alone may
+-- be a Logon with 141=Y, where one may be told
+abbrev pub AreOriginals : Identity → Type 0 → ℕ → List Entry → List (Option (List ℕ)) → Type 0
+AreOriginals id Told last [] [] = ⊤
+AreOriginals id Told last [] (frame ∷ frames) = ⊥
+AreOriginals id Told last (entry ∷ entries) [] = ⊥
+AreOriginals id Told last (entry ∷ entries) (None ∷ frames) = AreOriginals id Told (last + 1) entries frames
+AreOriginals id Told last (entry ∷ entries) (Some text ∷ frames) =
+    IsOriginalTold id Told (last + 1) entry text × AreOriginals id ⊥ (last + 1) entries frames
 
 -- no frame of the message is a Logon with 141=Y
 abbrev pub AsksNoReset : Identity → Outgoing → Type 0
@@ -92,21 +98,28 @@ pub record IsAhead (n : ℕ) (entries : List Entry) (e : EndState) (c : Connecti
   pub base : c.base ≤ length to.handled
 
 -- the end is in step with a session in the middle of a turn, which expects this number
-pub record Fits (id : Identity) (read given : List ℕ) (n : ℕ) (b : Sender) (e : EndState) : Type 0 where
+pub record Fits (id : Identity) (read : List ℕ) (resets : List Answer) (given : List ℕ) (n : ℕ) (b : Sender) (e : EndState) : Type 0 where
   pub certain : IsCertain b.numbers e
-  pub on : IsOn id read given e
+  pub on : IsOn id read resets given e
   pub ahead : IsAhead n b.stage.entries e on.connection
   pub expected : b.numbers.expected ≡ n
-  pub frames : AreOriginals id b.numbers.last b.stage.entries b.stage.frames
+  pub frames : AreOriginals id (MayTellReset on.connection) b.numbers.last b.stage.entries b.stage.frames
 
 -- the same, where the end expects this number already: no message was passed after what is staged
-pub record Level (id : Identity) (read given : List ℕ) (n : ℕ) (b : Sender) (e : EndState) : Type 0 where
+pub record Level (id : Identity) (read : List ℕ) (resets : List Answer) (given : List ℕ) (n : ℕ) (b : Sender) (e : EndState) : Type 0 where
   pub certain : IsCertain b.numbers e
-  pub on : IsOn id read given e
+  pub on : IsOn id read resets given e
   pub here : e.expected ≡ n
   pub base : on.connection.base ≤ length e.handled
   pub expected : b.numbers.expected ≡ n
-  pub frames : AreOriginals id b.numbers.last b.stage.entries b.stage.frames
+  pub frames : AreOriginals id (MayTellReset on.connection) b.numbers.last b.stage.entries b.stage.frames
+
+-- the same with nothing staged, on a connection on which a Logon with 141=Y may be written
+pub record MayTell (id : Identity) (read : List ℕ) (resets : List Answer) (given : List ℕ) (n : ℕ) (b : Sender) (e : EndState)
+    : Type 0 where
+  pub level : Level id read resets given n b e
+  pub empty : b.stage ≡ no_stage
+  pub told : MayTellReset level.on.connection
 
 -- there are no frames
 abbrev pub AreUnwritten : List (Option (List ℕ)) → Type 0
@@ -158,11 +171,11 @@ LeadsFrom {S} {E} id Failed P R Q = (s : S) (calls : List Call) (r : Result ⊤ 
     → (e : EndState) → P s e → LawfulRunTo id e calls (After Failed Q r to)
 
 -- the end after a fault of sending. Where no number is left all that was staged is kept
-abbrev pub AfterFault : Identity → List ℕ → List ℕ → ℕ → StageFault → Sender → EndState → Type 0
-AfterFault id read given n NumbersSpent b e = Level id read given n b e × (b.stage ≡ no_stage)
-AfterFault id read given n OutOfMemory b e = IsCertain b.numbers e
-AfterFault id read given n StoreFault b e = IsInDoubt b e
-AfterFault id read given n LinkFault b e = Bare b e
+abbrev pub AfterFault : Identity → List ℕ → List Answer → List ℕ → ℕ → StageFault → Sender → EndState → Type 0
+AfterFault id read resets given n NumbersSpent b e = Level id read resets given n b e × (b.stage ≡ no_stage)
+AfterFault id read resets given n OutOfMemory b e = IsCertain b.numbers e
+AfterFault id read resets given n StoreFault b e = IsInDoubt b e
+AfterFault id read resets given n LinkFault b e = Bare b e
 
 -- the same of a session that writes nothing: its connection doesn't fail
 abbrev pub AfterApart : StageFault → Sender → EndState → Type 0

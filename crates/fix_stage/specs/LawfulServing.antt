@@ -2,14 +2,14 @@
 use Rattle.std.specs.Prelude.{◌≡◌, ◌⊎◌, ◌≤◌, ℕ, List, Some, None}
 use Rattle.fix_base.specs.declared.identity.Identity.{Identity}
 use Rattle.fix_base.specs.declared.entry.Record.TheVariants.{Withhold}
-use Rattle.fix_base.specs.EndStep.{EndState}
+use Rattle.fix_base.specs.EndStep.{Answer, EndState}
 use Rattle.fix_stage.specs.Stage.{no_stage}
 use Rattle.fix_stage.specs.Sender.{Sender, StageFault, NumbersSpent, OutOfMemory, StoreFault, LinkFault}
 use Rattle.fix_stage.specs.Lawful.{HasKept, IsCertain, Level, Bare}
 
 -- the end is level with a session that has nothing staged, and whose numbers are MsgSeqNums
-pub record MayServeAt (id : Identity) (read given : List ℕ) (n : ℕ) (b : Sender) (e : EndState) : Type 0 where
-  pub level : Level id read given n b e
+pub record MayServeAt (id : Identity) (read : List ℕ) (resets : List Answer) (given : List ℕ) (n : ℕ) (b : Sender) (e : EndState) : Type 0 where
+  pub level : Level id read resets given n b e
   pub empty : b.stage ≡ no_stage
   pub last : b.numbers.last ≤ 999999999
 

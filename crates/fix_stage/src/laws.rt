@@ -4,7 +4,8 @@ ghost use Rattle.fix_base.specs.declared.identity.Identity.{Identity};
 ghost use Rattle.fix_base.specs.Session.{IsValidIdentity};
 ghost use Rattle.std.specs.List.{AllByRecursion};
 ghost use Rattle.fix_base.specs.Payload.{IsPersistentEntry};
-ghost use Rattle.fix_base.specs.EndStep.{EndState};
+ghost use Rattle.fix_base.specs.declared.act.Act.{Act};
+ghost use Rattle.fix_base.specs.EndStep.{Answer, EndState, EndRun};
 ghost use Rattle.fix_outside.specs.Calls.{Call};
 ghost use Rattle.fix_stage.specs.Sender.{Sender, StageFault};
 ghost use Rattle.fix_stage.specs.Flush.{Flushed, Settled};
@@ -13,35 +14,49 @@ ghost use Rattle.fix_stage.specs.Staging.{Staging, MakesAndStages, StagesPending
 ghost use Rattle.fix_stage.specs.Serving.{Served};
 ghost use Rattle.fix_stage.specs.Sendings.{SendsOnly, IsServing};
 ghost use Rattle.fix_stage.specs.Stated.{Total, Resumes, Stays, IsTimely, MayServe};
-ghost use Rattle.fix_stage.specs.Lawful.{AsksNoReset, Fits, Level, Apart, Bare, LawfulRunTo, After, AfterFault};
+ghost use Rattle.fix_stage.specs.Lawful.{AsksNoReset, Fits, Level, MayTell, Apart, Bare, LawfulRunTo, After, AfterFault};
 ghost use Rattle.fix_stage.specs.Lawful.{AfterApart, LeadsFrom};
 ghost use Rattle.fix_stage.specs.LawfulServing.{MayServeAt, AfterServe};
 
 /// A flush is a run of a lawful end: whatever end is in step with the session before it, its acts are a run of
 /// that end. Where it goes well the end has passed what the session has counted.
 pub fn a_flush_is_lawful()
-    ensures { (id : Identity) (read given : List ℕ) (n k : ℕ) (b : Sender) (calls : List Call) (r : Result ⊤ StageFault)
-        (to : Sender) → (k ≡ 0) ⊎ (k ≡ n) → Flushed k b calls r to → (e : EndState) → Fits id read given n b e
-        → LawfulRunTo id e calls (After (AfterFault id read given n) (Level id read given n) r to) }
+    ensures { (id : Identity) (read : List ℕ) (resets : List Answer) (given : List ℕ) (n k : ℕ) (b : Sender) (calls : List Call) (r : Result ⊤ StageFault)
+        (to : Sender) → (k ≡ 0) ⊎ (k ≡ n) → Flushed k b calls r to → (e : EndState) → Fits id read resets given n b e
+        → LawfulRunTo id e calls (After (AfterFault id read resets given n) (Level id read resets given n) r to) }
 {}
 
 /// So is the flush at the end of a turn.
 pub fn a_turn_settles_lawfully()
-    ensures { (id : Identity) (read given : List ℕ) (n : ℕ)
-        → LeadsFrom id (AfterFault id read given n) (Fits id read given n) Settled (Level id read given n) }
+    ensures { (id : Identity) (read : List ℕ) (resets : List Answer) (given : List ℕ) (n : ℕ)
+        → LeadsFrom id (AfterFault id read resets given n) (Fits id read resets given n) Settled (Level id read resets given n) }
 {}
 
 /// Staging a message that asks for no reset is a run of a lawful end, and leaves it in step.
 pub fn a_message_is_staged_lawfully()
-    ensures { (id : Identity) (read given : List ℕ) (n : ℕ) (m : Outgoing) → IsValidIdentity id
+    ensures { (id : Identity) (read : List ℕ) (resets : List Answer) (given : List ℕ) (n : ℕ) (m : Outgoing) → IsValidIdentity id
         → (IsOutgoing m → AsksNoReset id m)
-        → LeadsFrom id (AfterFault id read given n) (Fits id read given n) (Staging id m) (Fits id read given n) }
+        → LeadsFrom id (AfterFault id read resets given n) (Fits id read resets given n) (Staging id m) (Fits id read resets given n) }
 {}
 
 /// Staging the draft in hand is one too, and leaves the end level: bytes may be read after it.
 pub fn a_draft_is_staged_lawfully()
-    ensures { (id : Identity) (read given : List ℕ) (n : ℕ) → IsValidIdentity id
-        → LeadsFrom id (AfterFault id read given n) (Level id read given n) (StagesPending id) (Level id read given n) }
+    ensures { (id : Identity) (read : List ℕ) (resets : List Answer) (given : List ℕ) (n : ℕ) → IsValidIdentity id
+        → LeadsFrom id (AfterFault id read resets given n) (Level id read resets given n) (StagesPending id) (Level id read resets given n) }
+{}
+
+/// So is staging the Logon with 141=Y that answers a counterparty which asked for a reset, as the first message that is
+/// written on the connection, after the reset is kept.
+pub fn a_reset_is_told_lawfully()
+    ensures { (id : Identity) (read : List ℕ) (resets : List Answer) (given : List ℕ) (n : ℕ) (m : Outgoing)
+        → IsValidIdentity id
+        → LeadsFrom id (AfterFault id read resets given n) (MayTell id read resets given n) (MakesAndStages id m)
+        (Level id read resets given n) }
+{}
+
+/// An end keeps its role: whether it asks for resets as an initiator does is settled by its role and what it has kept.
+pub fn an_end_keeps_its_role()
+    ensures { (id : Identity) (e to : EndState) (acts : List Act) → EndRun id e acts to → to.role ≡ e.role }
 {}
 
 /// A session that writes nothing, as one with no connection, keeps its messages lawfully.
@@ -82,8 +97,8 @@ pub fn sending_keeps_and_writes()
 /// Serving a ResendRequest is a run of a lawful end: each repeat is of a message that may come again, and each gap fill
 /// passes over others only. The end has what it had, and what was withheld.
 pub fn a_served_request_is_lawful()
-    ensures { (id : Identity) (read given : List ℕ) (n from to : ℕ)
-        → LeadsFrom id AfterServe (MayServeAt id read given n) (Served id from to) (MayServeAt id read given n) }
+    ensures { (id : Identity) (read : List ℕ) (resets : List Answer) (given : List ℕ) (n from to : ℕ)
+        → LeadsFrom id AfterServe (MayServeAt id read resets given n) (Served id from to) (MayServeAt id read resets given n) }
 {}
 
 /// What is served has an end, and where it was out of memory it would have gone on.

@@ -7,6 +7,7 @@ pub mod CompleteLemmas
 pub mod AnsweringLemmas
 pub mod ReadLemmas
 pub mod StepLeads
+pub mod RenewLeads
 pub mod ToldLemmas
 pub mod ClearLemmas
 pub mod TableLemmas

@@ -9,18 +9,18 @@ use Rattle.fix_base.specs.Message.{Message}
 use Rattle.fix_base.specs.Says.{value_of, seq_num_of, is_yes, is_admin_type, new_seq_no_in, reset_of, message_with, message_from, message_of, body_of}
 use Rattle.fix_base.specs.Logon.{IsResetLogon, Begun}
 use Rattle.fix_base.specs.EndStep as steps
-use Rattle.fix_base.specs.EndStep.{Acceptor, Connection, EndState, IsBlocked, Handling, first_app}
+use Rattle.fix_base.specs.EndStep.{Answer, Connection, EndState, IsAsking, IsBlocked, Handling, first_app}
 use Rattle.fix_base.proofs.ListLemmas.{some_same, Among-cons_cases}
 use Rattle.fix_base.proofs.Runs.{takes_same}
 use Rattle.fix_base.proofs.HandledLemmas.{test}
 use Rattle.fix_machine.specs.Answer.{number_or_0}
-use Rattle.fix_stage.proofs.PlainLemmas.{never_asks}
-use Rattle.fix_steps.specs.Lawful.{BeginsPlainly}
+use Rattle.fix_steps.specs.Lawful as lawful
+use Rattle.fix_steps.specs.Lawful.{LetsCount}
 
 -- ---- the first frame
 
 -- two readings of the same bytes have one first frame
-first_frame : (a : UnreadBytes) (xs ys : List Item) (b c : UnreadBytes) (t u : List ℕ) (ts us : List (List ℕ)) → TakesAll a xs b → TakesAll a ys c → frames xs ≡ t ∷ ts → frames ys ≡ u ∷ us → t ≡ u
+pub first_frame : (a : UnreadBytes) (xs ys : List Item) (b c : UnreadBytes) (t u : List ℕ) (ts us : List (List ℕ)) → TakesAll a xs b → TakesAll a ys c → frames xs ≡ t ∷ ts → frames ys ≡ u ∷ us → t ≡ u
 first_frame a [] ys b c t u ts us p q e f = cc
 first_frame a (x ∷ xs) [] b c t u ts us p q e f = cc
 first_frame a (Frame v ∷ xs) (y ∷ ys) b c t u ts us p q e f =
@@ -34,16 +34,19 @@ first_frame a (Byte v ∷ xs) (y ∷ ys) b c t u ts us p q e f =
     let same = takes_same a (Byte v) y p.0 q.0 p.1 q.1 in
     first_frame p.0 xs ys b c t u ts us p.2 (subst (λ z. TakesAll z ys c) (sym same.1) q.2) e (subst (λ z. frames (z ∷ ys) ≡ u ∷ us) (sym same.0) f)
 
--- an acceptor isn't blocked where the first frame is no Logon with 141=Y
-pub plain_free : (e : EndState) (c : Connection) → e.role ≡ Acceptor → e.connection ≡ Some c → BeginsPlainly c.read → IsBlocked e → ⊥
-plain_free e c role is_open h (steps.asks asking) = never_asks e role asking
-plain_free e c role is_open h (steps.waits d o kept begun) =
+-- an end that asks for no reset isn't blocked where the first frame lets messages count
+pub counts_free : (e : EndState) (c : Connection) → (IsAsking e → ⊥) → e.connection ≡ Some c → LetsCount c.read c.kept → IsBlocked e → ⊥
+counts_free e c free is_open h (steps.asks asking) = free asking
+counts_free e c free is_open (lawful.begins_plainly h) (steps.waits d o kept begun) =
     let other : Begun IsResetLogon c.read = subst (λ (k : Connection). Begun IsResetLogon k.read) (sym (some_same c d (sym is_open ∙ o))) begun in
     h.is (subst IsResetLogon (first_frame _ other.items h.items other.rest h.rest other.text h.text other.others h.others other.takes h.takes other.first h.first) other.is)
+counts_free e c free is_open (lawful.kept_some some) (steps.waits d o kept begun) =
+    some (subst (λ (k : Connection). k.kept ≡ []) (sym (some_same c d (sym is_open ∙ o))) kept)
 
 -- the same of what was read
-pub read_free : (read : List ℕ) → BeginsPlainly read → (e : EndState) (c : Connection) → e.role ≡ Acceptor → e.connection ≡ Some c → c.read ≡ read → IsBlocked e → ⊥
-read_free read h e c role is_open same = plain_free e c role is_open (subst BeginsPlainly (sym same) h)
+pub read_free : (read : List ℕ) (resets : List Answer) → LetsCount read resets → (e : EndState) (c : Connection) → (IsAsking e → ⊥) → e.connection ≡ Some c → c.read ≡ read → c.kept ≡ resets → IsBlocked e → ⊥
+read_free read resets h e c free is_open same keeps =
+    counts_free e c free is_open (subst (λ (w : List Answer). LetsCount c.read w) (sym keeps) (subst (λ w. LetsCount w resets) (sym same) h))
 
 -- ---- the first application message of a number
 

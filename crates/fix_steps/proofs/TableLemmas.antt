@@ -1,13 +1,14 @@
 -- The steps of the machine's answers may be done.
-use Rattle.std.proofs.Common.{◌≡◌, ℕ, ◌≤◌, ◌+◌, ◌==◌, ◌&&◌, nat_lt, nat_le, Bool, true, false, if◌then◌else◌, List, [], ◌∷◌, codes, bytes_eq, Option, Some, None, Ok, refl, sym, ap, ◌∙◌, subst, arith}
+use Rattle.std.proofs.Common.{◌≡◌, ◌≢◌, ℕ, ◌≤◌, ◌+◌, ◌==◌, ◌&&◌, nat_lt, nat_le, Bool, true, false, if◌then◌else◌, List, [], ◌∷◌, codes, bytes_eq, Option, Some, None, Ok, refl, sym, ap, ◌∙◌, subst, arith}
 use Rattle.std.specs.Prelude.{not, is_none}
 use Rattle.std.specs.List.{AllByRecursion}
-use Rattle.std.proofs.lemmas.Bool.{ltb-true, leb-true}
+use Rattle.std.proofs.lemmas.Bool.{ltb-true, leb-true, eqb-true}
 use Rattle.std.proofs.lemmas.Bool.Decides.{nat_tests}
 use Rattle.fix_base.specs.declared.fault.Fault.{Fault}
 use Rattle.fix_base.specs.Fields.{Field}
 use Rattle.fix_base.specs.Message as message
 use Rattle.fix_base.specs.Message.{Message, IsAdminNumbered}
+use Rattle.fix_base.specs.EndStep.{Answer, AskedReset, OwnReset}
 use Rattle.fix_base.specs.Says.{value_of, is_yes, is_admin_type, message_with, message_of, body_of}
 use Rattle.fix_fields.specs.Header.{Header}
 use Rattle.fix_admin.specs.Values.{fault_of}
@@ -27,8 +28,8 @@ use Rattle.fix_machine.specs.declared.state.Role.{Role}
 use Rattle.fix_machine.specs.declared.state.Role.TheVariants.{Acceptor, Initiator}
 use Rattle.fix_machine.specs.declared.state.MachineState.{MachineState}
 use Rattle.fix_machine.specs.declared.state.Options.{Options}
-use Rattle.fix_machine.specs.State.{sent, counted, expecting, up}
-use Rattle.fix_machine.specs.Event.{Inbound, VerdictSeen, App, Admin, Bad, StepSeen, Send, Serve, Stash, Expect, Confirm, Close, Nothing}
+use Rattle.fix_machine.specs.State.{sent, counted, emptied, expecting, up}
+use Rattle.fix_machine.specs.Event.{Inbound, VerdictSeen, App, Admin, Bad, StepSeen, Send, Serve, Stash, Expect, Reset, Confirm, Close, Nothing}
 use Rattle.fix_machine.specs.Answer.{Answered, answer, padded, names, silent, refuse, refuse_with, reject, ask_step, asked, number_or_0, type_in, is_of_session}
 use Rattle.fix_machine.specs.AwaitLogon as await
 use Rattle.fix_machine.specs.Checks as found
@@ -37,8 +38,9 @@ use Rattle.fix_machine.specs.LoggedOn as on
 use Rattle.fix_machine.specs.Decide as decide
 use Rattle.fix_steps.specs.Steps.{IsCarried}
 use Rattle.fix_steps.specs.Lawful as lawful
-use Rattle.fix_steps.specs.Lawful.{Standing, Clear, Open, IsFresh, IsNoReset, MayDoAll, MayAnswer}
-use Rattle.fix_steps.specs.Told.{IsVerdict, IsTold, KeepsNumbers}
+use Rattle.fix_steps.specs.Lawful.{Standing, Clear, Open, IsFresh, IsNoReset, MayDoAll, MayAnswer, MayRenew}
+use Rattle.fix_steps.specs.Told.{IsVerdict, IsTold, IsAskedBy}
+use Rattle.fix_steps.proofs.ClearLemmas.{read_number}
 use Rattle.fix_steps.proofs.ToldLemmas.{IsReset, is_reset, CountsAs, counts_app, counts_admin, counts_as, session_numbered, app_is, gap_is, reset_is, message_is}
 
 -- the steps may be done, to some number; and the next message may be answered then
@@ -47,6 +49,19 @@ pub record May (x : Option Message) (n : ℕ) (steps : List StepSeen) : Type 0 w
   pub number : ℕ
   pub fresh : IsFresh to
   pub may : MayAnswer x n steps to number
+
+-- the same of steps that begin the numbers anew
+pub record Renews (x : Option Message) (answer : Answer) (steps : List StepSeen) : Type 0 where
+  pub to : Standing
+  pub number : ℕ
+  pub fresh : IsFresh to
+  pub may : MayRenew x answer steps to number
+
+-- the answer to the first message
+pub data FirstMay (x : Option Message) (n : ℕ) (s : MachineState) (i : Inbound) (a : Answered) : Type 0 where
+  first_refuses : a.next.phase ≡ Down → May None n a.steps → FirstMay x n s i a
+  first_counts : i.reset ≡ false → May x n a.steps → FirstMay x n s i a
+  first_renews : (answer : Answer) → s.role ≡ Acceptor → IsAskedBy i answer → Renews x answer a.steps → FirstMay x n s i a
 
 -- ---- steps that do nothing
 
@@ -93,18 +108,10 @@ module _ (x : Option Message) (n : ℕ) where
 
 -- ---- choices
 
--- the step is carried out here, and keeps the numbers
-abbrev pub Fits : Option (List ℕ) → StepSeen → Type 0
-Fits frame step = IsCarried frame step × KeepsNumbers step
-
-pub fits_both : (frame : Option (List ℕ)) (steps : List StepSeen) → AllByRecursion (IsCarried frame) steps → AllByRecursion KeepsNumbers steps → AllByRecursion (Fits frame) steps
-fits_both frame [] fit keeps = tt
-fits_both frame (step ∷ steps) fit keeps = ((fit.0, keeps.0), fits_both frame steps fit.1 keeps.1)
-
 module _ (x : Option Message) (frame : Option (List ℕ)) (n : ℕ) where
-  -- where its steps are carried out here, and the numbers don't begin anew, they may be done
+  -- where its steps are carried out here they may be done
   abbrev Claim : Answered → Type 0
-  Claim a = AllByRecursion (Fits frame) a.steps → May x n a.steps
+  Claim a = AllByRecursion (IsCarried frame) a.steps → May x n a.steps
 
   either : (b : Bool) (p q : Answered) → (b ≡ true → Claim p) → (b ≡ false → Claim q) → Claim (if b then p else q)
   either true p q h k = h refl
@@ -251,7 +258,7 @@ module _ (fs : List Field) (i : Inbound) (told : IsTold fs i) (frame : Option (L
     module _ (s : MachineState) (four : names i.header.type (codes "4") ≡ true) (unfilled : i.gap ≡ false) where
       reset_by_may : (v : VerdictSeen) → IsVerdict type fs v → Claim said frame s.expected (on.reset_to (on.new_seq_no_in v) n i s)
       reset_by_may v of = either said frame s.expected (nat_le s.expected (on.new_seq_no_in v)) (answer (Expect (on.new_seq_no_in v) ∷ []) (expecting (on.new_seq_no_in v) s)) (answer (reject n (type_in i.header) (fault_of 5 36) ∷ []) (sent s))
-          (λ e fit. goes v of e fit.0.0) (λ e fit. say_may said s.expected (say.Reject n (type_in i.header) (fault_of 5 36)) tt)
+          (λ e fit. goes v of e fit.0) (λ e fit. say_may said s.expected (say.Reject n (type_in i.header) (fault_of 5 36)) tt)
         where
           none : (k : ℕ) → k ≡ 0 → 1 ≤ k → ⊥
           none k zeroed some = omega (arith, zeroed, some)
@@ -340,28 +347,88 @@ module _ (fs : List Field) (i : Inbound) (told : IsTold fs i) (frame : Option (L
   up_by false o n s u number session same fit =
       at_expected n s (answer (Expect (n + 1) ∷ []) u) (same refl) (λ fit. counted_may n number (session_numbered type n fs session)) fit
 
-  acceptor_may : (o : Options) (reset each : Bool) (n heart : ℕ) (s : MachineState) → i.header.number ≡ Some n → is_admin_type type ≡ true → (nat_lt n s.expected && (not reset && not (each && true))) ≡ false
-      → Claim said frame s.expected (if reset then await.reset_answer o n heart s else (if each then await.own_reset_answer o n heart s else await.plain_answer o n heart s))
-  acceptor_may o true each n heart s number session low fit = absurd fit.0.1
-  acceptor_may o false true n heart s number session low fit = absurd fit.0.1
-  acceptor_may o false false n heart s number session low fit = plain_by (nat_lt s.expected n) o n heart s (await.counted_or_asked o n (await.answered heart s)) number session (λ high. neither s.expected n high (not_low (nat_lt n s.expected) true low)) fit
+  -- what may be done at the first message, where no reset is asked for by this end
+  abbrev Begins : MachineState → Answered → Type 0
+  Begins s a = AllByRecursion (IsCarried frame) a.steps → FirstMay said s.expected s i a
 
-  initiator_may : (asks : Bool) (o : Options) (reset : Bool) (n : ℕ) (s : MachineState) → i.header.number ≡ Some n → is_admin_type type ≡ true → (nat_lt n s.expected && (not reset && not (o.reset_on_logon && false))) ≡ false
-      → Claim said frame s.expected (if asks then (if reset then answer (Confirm ∷ Expect (n + 1) ∷ []) (counted n (await.confirmed s)) else refuse n refusal.ResetUnanswered s) else (if reset then refuse n refusal.ResetAsked s else answer (await.count_or_ask o n (up s) ∷ []) (await.counted_or_asked o n (up s))))
-  initiator_may true o true n s number session low fit = absurd fit.0.1
-  initiator_may true o false n s number session low fit = refuse_may n s.expected refusal.ResetUnanswered s fit
-  initiator_may false o true n s number session low fit = refuse_may n s.expected refusal.ResetAsked s fit
-  initiator_may false o false n s number session low fit = up_by (nat_lt s.expected n) o n s (await.counted_or_asked o n (up s)) number session (λ high. neither s.expected n high (role_low (nat_lt n s.expected) o.reset_on_logon low)) fit
+  pick : (s : MachineState) (b : Bool) (p q : Answered) → (b ≡ true → Begins s p) → (b ≡ false → Begins s q) → Begins s (if b then p else q)
+  pick s true p q h k = h refl
+  pick s false p q h k = k refl
 
-  taken_may : (side : Role) (o : Options) (reset : Bool) (n heart : ℕ) (s : MachineState) → i.header.number ≡ Some n → is_admin_type type ≡ true → (nat_lt n s.expected && (not reset && not (o.reset_on_logon && await.is_acceptor side))) ≡ false
-      → Claim said frame s.expected (await.taken side o reset n heart s)
-  taken_may Acceptor o reset n heart s number session low = acceptor_may o reset o.reset_on_logon n heart s number session low
-  taken_may Initiator o reset n heart s number session low = initiator_may s.reset_asked o reset n s number session low
+  refuse_first : (k : ℕ) (cause : Refusal) (s : MachineState) → Begins s (refuse k cause s)
+  refuse_first k cause s fit = first_refuses refl (close_may None s.expected (Refused k cause))
 
-  logon_may : (heart : Option ℕ) (o : Options) (reset : Bool) (n : ℕ) (s : MachineState) → i.header.number ≡ Some n → ((h : ℕ) → heart ≡ Some h → is_admin_type type ≡ true) → await.is_too_low o n s reset ≡ false → Claim said frame s.expected (await.logon_answer heart o reset n s)
-  logon_may None o reset n s number session low = refuse_may n s.expected refusal.BadLogon s
-  logon_may (Some heart) o reset n s number session low =
-      either said frame s.expected (reset && not (n == 1)) (refuse n refusal.BadLogon s) (await.taken s.role o reset n heart s) (λ e. refuse_may n s.expected refusal.BadLogon s) (λ e. taken_may s.role o reset n heart s number (session heart refl) low)
+  refuse_with_first : (t : LogoutText) (k : ℕ) (cause : Refusal) (s : MachineState) → Begins s (refuse_with t k cause s)
+  refuse_with_first t k cause s fit = first_refuses refl (say_close_may None s.expected (say.Logout t) (Refused k cause) tt)
+
+  -- after a reset number 1 is expected
+  first_number : (n : ℕ) → i.header.number ≡ Some n → nat_lt 1 n ≡ false → n ≡ 1
+  first_number n number low =
+      let some = read_number fs n (sym (ap (λ (h : Header). h.number) told.header) ∙ number) in
+      grind (arith, nat_tests, some.0)
+
+  logon_message : (n : ℕ) → i.header.number ≡ Some n → n ≡ 1 → said ≡ Some (message_with type 1 fs)
+  logon_message n number one = message_at n number ∙ ap (λ k. Some (message_with type k fs)) one
+
+  reset_first : (o : Options) (n heart : ℕ) (s : MachineState) → names i.header.type (codes "A") ≡ true → i.header.number ≡ Some n → n ≡ 1 → is_admin_type type ≡ true → s.role ≡ Acceptor → i.reset ≡ true → Begins s (await.reset_answer o n heart s)
+  reset_first o n heart s logon number one session role reset fit =
+      first_renews AskedReset role (logon, reset, number ∙ ap Some one) (record {
+        to = Open;
+        number = 2;
+        fresh = tt;
+        may = lawful.renews_asked heart o.version
+            (subst (λ k. MayDoAll said Open 1 (Expect (k + 1) ∷ Nothing ∷ []) Open 2) (sym one)
+            (lawful.first_may (lawful.passes_admin (message_with type 1 fs) (logon_message n number one) (session_numbered type 1 fs session) tt) one_idle));
+      })
+
+  own_by : (t : Bool) (o : Options) (n heart : ℕ) (s u : MachineState) → names i.header.type (codes "A") ≡ true → i.header.number ≡ Some n → (t ≡ false → n ≡ 1) → is_admin_type type ≡ true → s.role ≡ Acceptor → i.reset ≡ false
+      → Begins s (answer (Reset ∷ await.logon o heart false ∷ (if t then ask_step o n (await.answered heart (emptied s)) else Expect (n + 1)) ∷ []) u)
+  own_by true o n heart s u logon number same session role reset fit =
+      first_renews OwnReset role (logon, reset) (record {
+        to = Open;
+        number = 1;
+        fresh = tt;
+        may = lawful.renews_own (lawful.first_may (lawful.may_say (say.Logon heart false o.version) tt refl) (lawful.first_may (lawful.may_say (say.ResendRequest _ _) tt tt) one_idle));
+      })
+  own_by false o n heart s u logon number same session role reset fit =
+      first_renews OwnReset role (logon, reset) (record {
+        to = Open;
+        number = 2;
+        fresh = tt;
+        may = lawful.renews_own (lawful.first_may (lawful.may_say (say.Logon heart false o.version) tt refl)
+            (subst (λ k. MayDoAll said Open 1 (Expect (k + 1) ∷ Nothing ∷ []) Open 2) (sym (same refl))
+            (lawful.first_may (lawful.passes_admin (message_with type 1 fs) (logon_message n number (same refl)) (session_numbered type 1 fs session) tt) one_idle)));
+      })
+
+  acceptor_first : (o : Options) (reset each : Bool) (n heart : ℕ) (s : MachineState) → names i.header.type (codes "A") ≡ true → i.header.number ≡ Some n → is_admin_type type ≡ true → s.role ≡ Acceptor → i.reset ≡ reset → (reset ≡ true → n ≡ 1) → (nat_lt n s.expected && (not reset && not (each && true))) ≡ false
+      → Begins s (if reset then await.reset_answer o n heart s else (if each then await.own_reset_answer o n heart s else await.plain_answer o n heart s))
+  acceptor_first o true each n heart s logon number session role flag one low fit = reset_first o n heart s logon number (one refl) session role flag fit
+  acceptor_first o false true n heart s logon number session role flag one low fit =
+      own_by (nat_lt 1 n) o n heart s (await.counted_or_asked o n (await.answered heart (emptied s))) logon number (first_number n number) session role flag fit
+  acceptor_first o false false n heart s logon number session role flag one low fit =
+      first_counts flag (plain_by (nat_lt s.expected n) o n heart s (await.counted_or_asked o n (await.answered heart s)) number session (λ high. neither s.expected n high (not_low (nat_lt n s.expected) true low)) fit)
+
+  initiator_first : (asks : Bool) (o : Options) (reset : Bool) (n : ℕ) (s : MachineState) → asks ≡ false → i.header.number ≡ Some n → is_admin_type type ≡ true → i.reset ≡ reset → (nat_lt n s.expected && (not reset && not (o.reset_on_logon && false))) ≡ false
+      → Begins s (if asks then (if reset then answer (Confirm ∷ Expect (n + 1) ∷ []) (counted n (await.confirmed s)) else refuse n refusal.ResetUnanswered s) else (if reset then refuse n refusal.ResetAsked s else answer (await.count_or_ask o n (up s) ∷ []) (await.counted_or_asked o n (up s))))
+  initiator_first true o reset n s none number session flag low fit = cc
+  initiator_first false o true n s none number session flag low fit = refuse_first n refusal.ResetAsked s fit
+  initiator_first false o false n s none number session flag low fit =
+      first_counts flag (up_by (nat_lt s.expected n) o n s (await.counted_or_asked o n (up s)) number session (λ high. neither s.expected n high (role_low (nat_lt n s.expected) o.reset_on_logon low)) fit)
+
+  taken_first : (side : Role) (o : Options) (reset : Bool) (n heart : ℕ) (s : MachineState) → s.role ≡ side → s.reset_asked ≡ false → names i.header.type (codes "A") ≡ true → i.header.number ≡ Some n → is_admin_type type ≡ true → i.reset ≡ reset → (reset ≡ true → n ≡ 1) → (nat_lt n s.expected && (not reset && not (o.reset_on_logon && await.is_acceptor side))) ≡ false
+      → Begins s (await.taken side o reset n heart s)
+  taken_first Acceptor o reset n heart s role none logon number session flag one low = acceptor_first o reset o.reset_on_logon n heart s logon number session role flag one low
+  taken_first Initiator o reset n heart s role none logon number session flag one low = initiator_first s.reset_asked o reset n s none number session flag low
+
+  only_one : (reset : Bool) (n : ℕ) → (reset && not (n == 1)) ≡ false → reset ≡ true → n ≡ 1
+  only_one true n e h = eqb-true n 1 (not_both true (n == 1) e refl)
+  only_one false n e h = cc
+
+  logon_first : (heart : Option ℕ) (o : Options) (reset : Bool) (n : ℕ) (s : MachineState) → s.reset_asked ≡ false → names i.header.type (codes "A") ≡ true → i.header.number ≡ Some n → ((h : ℕ) → heart ≡ Some h → is_admin_type type ≡ true) → i.reset ≡ reset → await.is_too_low o n s reset ≡ false → Begins s (await.logon_answer heart o reset n s)
+  logon_first None o reset n s none logon number session flag low = refuse_first n refusal.BadLogon s
+  logon_first (Some heart) o reset n s none logon number session flag low =
+      pick s (reset && not (n == 1)) (refuse n refusal.BadLogon s) (await.taken s.role o reset n heart s) (λ e. refuse_first n refusal.BadLogon s)
+      (λ e. taken_first s.role o reset n heart s refl none logon number (session heart refl) flag (only_one reset n e) low)
 
   -- a Logon with a HeartBtInt (108) is a session message
   heart_session : (o : Options) (v : VerdictSeen) → IsVerdict type fs v → (h : ℕ) → await.heart_in o v ≡ Some h → is_admin_type type ≡ true
@@ -369,21 +436,25 @@ module _ (fs : List Field) (i : Inbound) (told : IsTold fs i) (frame : Option (L
   heart_session o (Admin a) of h e = of.0
   heart_session o (Bad fault) of h e = cc
 
-  first_by_number : (o : Options) (number : Option ℕ) (s : MachineState) → i.header.number ≡ number → Claim said frame s.expected (await.by_number o number s i)
-  first_by_number o None s is_so = refuse_may 0 s.expected refusal.NoNumber s
-  first_by_number o (Some n) s is_so =
-      either said frame s.expected (await.is_too_low o n s i.reset) (refuse_with (text.TooLow s.expected n) n refusal.TooLow s) (if not (await.is_addressed o.identity i.header) then refuse n refusal.CompId s else (if not (await.is_near o.latency s.reading i.sent) then refuse n refusal.SendingTime s else await.logon_answer (await.heart_in o i.verdict) o i.reset n s)) (λ e. refuse_with_may (text.TooLow s.expected n) n s.expected refusal.TooLow s)
-      (λ low. either said frame s.expected (not (await.is_addressed o.identity i.header)) (refuse n refusal.CompId s) (if not (await.is_near o.latency s.reading i.sent) then refuse n refusal.SendingTime s else await.logon_answer (await.heart_in o i.verdict) o i.reset n s) (λ e. refuse_may n s.expected refusal.CompId s)
-      (λ e. either said frame s.expected (not (await.is_near o.latency s.reading i.sent)) (refuse n refusal.SendingTime s) (await.logon_answer (await.heart_in o i.verdict) o i.reset n s) (λ f. refuse_may n s.expected refusal.SendingTime s)
-      (λ f. logon_may (await.heart_in o i.verdict) o i.reset n s is_so (heart_session o i.verdict told.verdict) low)))
+  first_by_number : (o : Options) (number : Option ℕ) (s : MachineState) → s.reset_asked ≡ false → names i.header.type (codes "A") ≡ true → i.header.number ≡ number → Begins s (await.by_number o number s i)
+  first_by_number o None s none logon is_so = refuse_first 0 refusal.NoNumber s
+  first_by_number o (Some n) s none logon is_so =
+      pick s (await.is_too_low o n s i.reset) (refuse_with (text.TooLow s.expected n) n refusal.TooLow s) (if not (await.is_addressed o.identity i.header) then refuse n refusal.CompId s else (if not (await.is_near o.latency s.reading i.sent) then refuse n refusal.SendingTime s else await.logon_answer (await.heart_in o i.verdict) o i.reset n s)) (λ e. refuse_with_first (text.TooLow s.expected n) n refusal.TooLow s)
+      (λ low. pick s (not (await.is_addressed o.identity i.header)) (refuse n refusal.CompId s) (if not (await.is_near o.latency s.reading i.sent) then refuse n refusal.SendingTime s else await.logon_answer (await.heart_in o i.verdict) o i.reset n s) (λ e. refuse_first n refusal.CompId s)
+      (λ e. pick s (not (await.is_near o.latency s.reading i.sent)) (refuse n refusal.SendingTime s) (await.logon_answer (await.heart_in o i.verdict) o i.reset n s) (λ f. refuse_first n refusal.SendingTime s)
+      (λ f. logon_first (await.heart_in o i.verdict) o i.reset n s none logon is_so (heart_session o i.verdict told.verdict) refl low)))
 
-  await_may : (o : Options) (s : MachineState) → Claim said frame s.expected (await.await_logon o s i)
-  await_may o s =
-      either said frame s.expected (not (names i.header.type (codes "A"))) (refuse (number_or_0 i.header.number) refusal.NotLogon s) (if not (is_of_session o.identity i.header) then refuse (number_or_0 i.header.number) refusal.BeginString s else await.by_number o i.header.number s i) (λ e. refuse_may (number_or_0 i.header.number) s.expected refusal.NotLogon s)
-      (λ e. either said frame s.expected (not (is_of_session o.identity i.header)) (refuse (number_or_0 i.header.number) refusal.BeginString s) (await.by_number o i.header.number s i) (λ f. refuse_may (number_or_0 i.header.number) s.expected refusal.BeginString s) (λ f. first_by_number o i.header.number s refl))
+  is_true : (b : Bool) → not b ≡ false → b ≡ true
+  is_true true e = refl
+  is_true false e = cc
 
-  pub message_may : (p : Phase) (o : Options) (s : MachineState) → Claim said frame s.expected (decide.message p o s i)
-  message_may Down o s fit = nothing_may said s.expected
-  message_may AwaitLogon o s fit = await_may o s fit
-  message_may Up o s fit = later_may o s fit
-  message_may LogoutSent o s fit = later_may o s fit
+  pub await_may : (o : Options) (s : MachineState) → s.reset_asked ≡ false → Begins s (await.await_logon o s i)
+  await_may o s none =
+      pick s (not (names i.header.type (codes "A"))) (refuse (number_or_0 i.header.number) refusal.NotLogon s) (if not (is_of_session o.identity i.header) then refuse (number_or_0 i.header.number) refusal.BeginString s else await.by_number o i.header.number s i) (λ e. refuse_first (number_or_0 i.header.number) refusal.NotLogon s)
+      (λ e. pick s (not (is_of_session o.identity i.header)) (refuse (number_or_0 i.header.number) refusal.BeginString s) (await.by_number o i.header.number s i) (λ f. refuse_first (number_or_0 i.header.number) refusal.BeginString s) (λ f. first_by_number o i.header.number s none (is_true (names i.header.type (codes "A")) e) refl))
+
+  pub message_may : (p : Phase) (o : Options) (s : MachineState) → p ≢ AwaitLogon → Claim said frame s.expected (decide.message p o s i)
+  message_may Down o s later fit = nothing_may said s.expected
+  message_may AwaitLogon o s later fit = absurd (later refl)
+  message_may Up o s later fit = later_may o s fit
+  message_may LogoutSent o s later fit = later_may o s fit

@@ -1,21 +1,22 @@
 -- What the steps of an answer may do so that they are a run of a lawful end. The conditions speak of the message, the
 -- steps and the numbers alone.
-use Rattle.std.specs.Prelude.{◌≡◌, ◌<◌, ◌≤◌, ℕ, ◌+◌, if◌then◌else◌, List, [], ◌∷◌, Bool, false, Option, Some, None}
+use Rattle.std.specs.Prelude.{◌≡◌, ◌≢◌, ◌<◌, ◌≤◌, ℕ, ◌+◌, if◌then◌else◌, List, [], ◌∷◌, Bool, true, false, Option, Some, None}
 use Rattle.fix_base.specs.Lists.{Among}
 use Rattle.fix_base.specs.declared.identity.Identity.{Identity}
-use Rattle.fix_base.specs.Logon.{IsResetLogon, Begun}
+use Rattle.fix_base.specs.declared.entry.Record.TheVariants as records
+use Rattle.fix_base.specs.Logon.{IsLogon, IsResetLogon, IsFirstLogon, Begun}
 use Rattle.fix_base.specs.Message.{Message, App, GapFill, ResetTo, IsAdminNumbered}
 use Rattle.fix_base.specs.Says.{Says, Shows}
-use Rattle.fix_base.specs.EndStep.{EndState, Grew}
+use Rattle.fix_base.specs.EndStep.{Answer, AskedReset, OwnReset, EndState, Grew}
 use Rattle.fix_base.specs.declared.fault.Fault.{Fault}
 use Rattle.fix_admin.specs.Say.{SaySeen, Heartbeat, TestRequest, ResendRequest, Reject, Logout, Logon}
 use Rattle.fix_admin.specs.Say as say
 use Rattle.fix_machine.specs.declared.event.Why.{Why}
-use Rattle.fix_machine.specs.Event.{StepSeen, Send, Serve, Hand, Stash, Expect, Close, Nothing}
+use Rattle.fix_machine.specs.Event.{StepSeen, Send, Serve, Hand, Stash, Expect, Reset, Close, Nothing}
 use Rattle.fix_machine.specs.Numbers.{begins_with_a_flush}
 use Rattle.fix_stage.specs.Stage.{no_stage}
 use Rattle.fix_stage.specs.declared.sender.Sender.{Sender}
-use Rattle.fix_stage.specs.Lawful.{IsCertain, IsInDoubt, Fits, Level, Bare}
+use Rattle.fix_stage.specs.Lawful.{HasKept, IsCertain, IsInDoubt, Fits, Level, Bare}
 use Rattle.fix_stage.specs.LawfulServing.{IsWithholdInDoubt}
 use Rattle.fix_steps.specs.declared.ending.Ending.{Ending}
 use Rattle.fix_steps.specs.declared.ending.Ending.TheVariants as ending
@@ -73,6 +74,14 @@ pub data MayDoAll (x : Option Message) : Standing → ℕ → List StepSeen → 
   first_may : {at at' to : Standing} {n n' m : ℕ} {step : StepSeen} {steps : List StepSeen} → MayDo x at n step at' n'
       → MayDoAll x at' n' steps to m → MayDoAll x at n (step ∷ steps) to m
 
+-- The steps of an answer that begins the numbers anew: a reset stands first. Where the counterparty asked for it the Logon
+-- with 141=Y that tells of it comes next
+pub data MayRenew (x : Option Message) : Answer → List StepSeen → Standing → ℕ → Type 0 where
+  renews_asked : {to : Standing} {m : ℕ} {steps : List StepSeen} (heart : ℕ) (version : Option ℕ)
+      → MayDoAll x Open 1 steps to m → MayRenew x AskedReset (Reset ∷ Send (Logon heart true version) ∷ steps) to m
+  renews_own : {to : Standing} {m : ℕ} {steps : List StepSeen} → MayDoAll x Clear 1 steps to m
+      → MayRenew x OwnReset (Reset ∷ steps) to m
+
 -- after a flush nothing is staged
 abbrev pub standing_first : List StepSeen → Standing
 standing_first steps = if begins_with_a_flush steps then Clear else Open
@@ -87,6 +96,11 @@ MayAnswer x n steps to m = MayDoAll x (standing_first steps) n steps to m
 abbrev pub BeginsPlainly : List ℕ → Type 0
 BeginsPlainly bytes = Begun (λ text. IsResetLogon text → ⊥) bytes
 
+-- The first frame that was read lets messages count: it is no Logon with 141=Y, or what that asks for is kept
+pub data LetsCount (read : List ℕ) (resets : List Answer) : Type 0 where
+  begins_plainly : BeginsPlainly read → LetsCount read resets
+  kept_some : resets ≢ [] → LetsCount read resets
+
 -- the first frames of the bytes say this among others
 pub record WasReadIn (read : List ℕ) (x : Message) : Type 0 where
   pub messages : List Message
@@ -94,37 +108,48 @@ pub record WasReadIn (read : List ℕ) (x : Message) : Type 0 where
   pub among : Among x messages
 
 -- the frame that is answered says this, and was read; or nothing that counts is answered
-pub data IsAnswered (read : List ℕ) : Option (List ℕ) → Option Message → Type 0 where
-  says : (text : List ℕ) (x : Message) → Says text x → BeginsPlainly read → WasReadIn read x
-      → IsAnswered read (Some text) (Some x)
-  silent : (frame : Option (List ℕ)) → IsAnswered read frame None
+pub data IsAnswered (read : List ℕ) (resets : List Answer) : Option (List ℕ) → Option Message → Type 0 where
+  says : (text : List ℕ) (x : Message) → Says text x → LetsCount read resets → WasReadIn read x
+      → IsAnswered read resets (Some text) (Some x)
+  silent : (frame : Option (List ℕ)) → IsAnswered read resets frame None
+
+-- how a reset comes about: the first frame that was read asks for it, or is a Logon that doesn't
+pub data IsHeard (read : List ℕ) : Answer → Type 0 where
+  asked : Begun IsFirstLogon read → IsHeard read AskedReset
+  unasked : Begun IsLogon read → BeginsPlainly read → IsHeard read OwnReset
 
 -- ---- the end in step with a session in the middle of an answer
 
 -- each message that was given on the connection has a lower number than the expected one
-pub record InStep (id : Identity) (read : List ℕ) (n : ℕ) (b : Sender) (e : EndState) : Type 0 where
+pub record InStep (id : Identity) (read : List ℕ) (resets : List Answer) (n : ℕ) (b : Sender) (e : EndState) : Type 0 where
   pub given : List ℕ
-  pub fits : Fits id read given n b e
+  pub fits : Fits id read resets given n b e
   pub below : (k : ℕ) → Among k given → k < n
 
 -- and nothing is staged
-pub record InStepClear (id : Identity) (read : List ℕ) (n : ℕ) (b : Sender) (e : EndState) : Type 0 where
+pub record InStepClear (id : Identity) (read : List ℕ) (resets : List Answer) (n : ℕ) (b : Sender) (e : EndState) : Type 0 where
   pub given : List ℕ
-  pub level : Level id read given n b e
+  pub level : Level id read resets given n b e
   pub empty : b.stage ≡ no_stage
   pub below : (k : ℕ) → Among k given → k < n
 
 -- the message of the expected number was handed over or rejected
-pub record HasHandled (id : Identity) (read : List ℕ) (n : ℕ) (b : Sender) (e : EndState) : Type 0 where
+pub record HasHandled (id : Identity) (read : List ℕ) (resets : List Answer) (n : ℕ) (b : Sender) (e : EndState) : Type 0 where
   pub given : List ℕ
-  pub fits : Fits id read given n b e
+  pub fits : Fits id read resets given n b e
   pub within : (k : ℕ) → Among k given → k ≤ n
   pub grew : Grew fits.on.connection fits.ahead.to.handled n
 
-abbrev pub Stands : Identity → List ℕ → Standing → ℕ → Sender → EndState → Type 0
-Stands id read Clear n b e = InStepClear id read n b e
-Stands id read Open n b e = InStep id read n b e
-Stands id read Handled n b e = HasHandled id read n b e
+abbrev pub Stands : Identity → List ℕ → List Answer → Standing → ℕ → Sender → EndState → Type 0
+Stands id read resets Clear n b e = InStepClear id read resets n b e
+Stands id read resets Open n b e = InStep id read resets n b e
+Stands id read resets Handled n b e = HasHandled id read resets n b e
+
+-- nothing was written or given on its connection, and nothing is kept of resets or staged
+pub record IsSilent (id : Identity) (read : List ℕ) (n : ℕ) (b : Sender) (e : EndState) : Type 0 where
+  pub level : Level id read [] [] n b e
+  pub empty : b.stage ≡ no_stage
+  pub silent : level.on.connection.written ≡ []
 
 -- this holds of them, and each number that a message took is a MsgSeqNum
 pub record InBounds (P : Sender → EndState → Type 0) (b : Sender) (e : EndState) : Type 0 where
@@ -134,14 +159,23 @@ pub record InBounds (P : Sender → EndState → Type 0) (b : Sender) (e : EndSt
 -- the end is in step with a session that is on its connection still: what is staged may be kept and written
 pub record IsStillOn (id : Identity) (read : List ℕ) (b : Sender) (e : EndState) : Type 0 where
   pub number : ℕ
+  pub resets : List Answer
   pub given : List ℕ
-  pub fits : Fits id read given number b e
+  pub fits : Fits id read resets given number b e
 
--- the end after the store failed: a record of what was staged or a number that is withheld is in doubt, or none, where
--- it failed at a fetch
+-- a reset is in doubt, and else the end has what the session has kept
+pub record IsResetInDoubt (b : Sender) (e : EndState) : Type 0 where
+  pub kept : HasKept b.numbers e
+  pub time : ℕ
+  pub doubt : e.doubt ≡ Some (records.Reset time)
+  pub closed : e.connection ≡ None
+
+-- the end after the store failed: a record of what was staged, a number that is withheld or a reset is in doubt, or
+-- none, where it failed at a fetch
 pub data AfterStoreFault (b : Sender) (e : EndState) : Type 0 where
   staged_in_doubt : IsInDoubt b e → AfterStoreFault b e
   withheld_in_doubt : IsWithholdInDoubt b e → AfterStoreFault b e
+  reset_in_doubt : IsResetInDoubt b e → AfterStoreFault b e
   none_in_doubt : Bare b e → AfterStoreFault b e
 
 -- The end after an answer that ended early. After a close the session is on its connection until the turn is settled;
