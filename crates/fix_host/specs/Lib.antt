@@ -11,3 +11,4 @@ pub mod Damaged
 pub mod Posting
 pub mod DraftFile
 pub mod Sending
+pub mod Taking

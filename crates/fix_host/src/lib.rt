@@ -2,6 +2,7 @@
 //! be none. This is the step from a connection that was accepted to the thread of its session.
 #![tactic(auto)]
 
+mod gate;
 mod greeting;
 #[cfg(test)]
 mod greeting_tests;
@@ -14,10 +15,14 @@ mod posting_tests;
 mod sending;
 mod slot;
 mod spawner;
+mod taking;
+#[cfg(test)]
+mod taking_tests;
 #[cfg(test)]
 mod tests;
 mod world;
 
+pub use gate::{Gate, OpenGate};
 pub use greeting::greet;
 pub use held::Held;
 pub use known::Greeted;
@@ -25,4 +30,5 @@ pub use posting::post_all;
 pub use sending::{OfSender, SenderEnd, send_file};
 pub use slot::{LinkSlot, SlotState};
 pub use spawner::{Anything, FailingSpawner, Spawner, ThreadSpawner};
-pub use world::{Ear, Gate, MakeFault, World};
+pub use taking::TakeApp;
+pub use world::{Ear, MakeFault, World};
