@@ -12,3 +12,6 @@ pub mod Posting
 pub mod DraftFile
 pub mod Sending
 pub mod Taking
+pub mod Posts
+pub mod Drafting
+pub mod Echoing

@@ -2,6 +2,10 @@
 //! be none. This is the step from a connection that was accepted to the thread of its session.
 #![tactic(auto)]
 
+mod drafting;
+mod echoing;
+#[cfg(test)]
+mod echoing_tests;
 mod gate;
 mod greeting;
 #[cfg(test)]
@@ -22,6 +26,7 @@ mod taking_tests;
 mod tests;
 mod world;
 
+pub use echoing::EchoApp;
 pub use gate::{Gate, OpenGate};
 pub use greeting::greet;
 pub use held::Held;

@@ -8,7 +8,7 @@ ghost use Rattle.fix_parts.specs.App.{AppTakes, AppAsks};
 
 use fix_base::SeqNum;
 use fix_fields::Draft;
-use fix_outbox::{Outbox, TakerPass};
+use fix_outbox::{Outbox, SenderPass, TakerPass};
 use fix_outside::Again;
 use fix_parts::{App, Handed, Said};
 use std::alloc::Global;
@@ -63,6 +63,21 @@ impl<R: Drop, A> TakeApp<R, A> {
         ensures of { IsTakerOf (outbox_of self) result.1 }
     {
         (self.inner, self.taker)
+    }
+}
+
+impl<R: Wait + Drop, A> TakeApp<R, A> {
+    ghost use Rattle.fix_outbox.specs.Passes.{IsSenderOf, capacity_of};
+    ghost use Rattle.fix_host.specs.Taking.{outbox_of};
+    ghost use Rattle.fix_host.specs.Posts.{Posts};
+
+    // Posts a draft by another pass of the same outbox. One that is refused is let go.
+    pub(crate) fn post(&self, sender: &mut SenderPass, draft: Draft)
+        requires { IsSenderOf (outbox_of self.now) sender.old }
+        ensures of { IsSenderOf (outbox_of self.now) sender.new }
+        ensures posts { Posts (capacity_of (outbox_of self.now)) draft sender.old sender.new }
+    {
+        let _posted = self.outbox.post(&self.rt, sender, draft);
     }
 }
 
