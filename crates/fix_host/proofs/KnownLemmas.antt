@@ -1,5 +1,5 @@
 -- For which session a frame is.
-use Rattle.std.proofs.Common.{◌≡◌, ℕ, ◌<◌, ◌≤◌, List, length, true, false, refl, sym, subst, arith}
+use Rattle.std.proofs.Common.{◌≡◌, ℕ, ◌<◌, ◌≤◌, List, length, arith}
 use Rattle.std.specs.List.{IsFirstMatchOrLen}
 use Rattle.fix_base.specs.Shape.{IsFrame}
 use Rattle.fix_base.specs.Fields.{Field}

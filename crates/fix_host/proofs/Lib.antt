@@ -4,3 +4,4 @@ pub mod KnownLemmas
 pub mod GreetLemmas
 mod PostLemmas
 mod SendLemmas
+mod DraftingLemmas

@@ -1,12 +1,11 @@
 -- The search for the first frame of a connection, step by step.
-use Rattle.std.proofs.Common.{◌≡◌, ℕ, zero, suc, ◌+◌, ◌-◌, ◌<◌, ◌≤◌, Bool, true, false, nat_eq, ◌||◌, List, [], ◌∷◌, ◌++◌, length, get_or, take, drop, refl, sym, ap, subst, ◌∙◌, arith}
-use Rattle.std.specs.Prelude.{slice_index, ◌==◌}
+use Rattle.std.proofs.Common.{◌≡◌, ℕ, zero, suc, ◌+◌, ◌-◌, ◌<◌, ◌≤◌, Bool, nat_eq, ◌||◌, List, [], ◌++◌, length, get_or, drop, refl, sym, ap, subst, arith}
 use Rattle.std.proofs.lemmas.List.{drop-append-le, get_or_append_left, length-append}
 use Rattle.fix_base.specs.Shape.{IsFrame}
-use Rattle.fix_base.specs.Stream.{UnreadBytes, Item, Frame, TakesAll, ahead_of}
+use Rattle.fix_base.specs.Stream.{Frame, TakesAll, ahead_of}
 use Rattle.fix_base.proofs.Runs.{all_more}
 use Rattle.fix_frame.specs.Answer.{Stands, Skipped, Waits}
-use Rattle.fix_frame.specs.Seeks.{SkipsBy, SeeksFrame}
+use Rattle.fix_frame.specs.Seeks.{SkipsBy}
 use Rattle.fix_frame.proofs.Steps.{skip_fits, skips_on, seeks_frame}
 use Rattle.fix_host.specs.Known.{stream_of, HasFirstFrame, HasNoFrame}
 use Rattle.fix_host.specs.Looking.{IsLookedTo, LooksAt}

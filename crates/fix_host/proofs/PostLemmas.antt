@@ -1,15 +1,14 @@
 -- Posting the drafts of a list, one after another.
-use Rattle.std.proofs.Common.{◌≡◌, ◌∙◌, ℕ, zero, suc, ◌+◌, ◌<◌, List, [], ◌∷◌, ◌++◌, length, take, drop, Option, Some, None, Err, refl, sym, ap, subst, append_assoc, arith}
-use Rattle.std.proofs.lemmas.List.{append-nil}
+use Rattle.std.proofs.Common.{◌≡◌, ◌∙◌, ℕ, ◌+◌, ◌<◌, List, [], ◌∷◌, ◌++◌, length, take, drop, Option, Some, None, Err, refl, sym, ap, subst, append_assoc, arith}
 use Rattle.std.specs.Prelude.{slice_index_or, slice_set, replicate}
-use Rattle.std.proofs.lemmas.List.{drop_more, take_more, drop-set-lt, drop-set, take-set, take_more_set, replicate_more, replicate-append-replicate}
+use Rattle.std.proofs.lemmas.List.{drop_more, take_more, drop-set-lt, take_more_set, replicate_more, replicate-append-replicate}
 use Rattle.fix_fields.specs.Drafted.{DraftText}
 use Rattle.fix_outbox.specs.declared.queue.Item.{Item}
 use Rattle.fix_outbox.specs.declared.queue.Part.{Part}
 use Rattle.fix_outbox.specs.declared.pass.PostFault.{PostFault}
 use Rattle.fix_outbox.specs.declared.pass.PostFault.TheVariants.{Full}
 use Rattle.fix_outbox.specs.Passes.{item, HasCause}
-use Rattle.fix_host.specs.Posting.{items_of, left_of, Loads, LoadsClosed}
+use Rattle.fix_host.specs.Posting.{items_of, Loads, LoadsClosed}
 
 pub same_at : {X : Type 0} (xs ys : List X) (k : ℕ) (d : X) → k < length xs → length xs ≡ length ys → drop k xs ≡ drop k ys → (slice_index_or xs k d ≡ slice_index_or ys k d) × (drop (k + 1) xs ≡ drop (k + 1) ys)
 same_at xs ys k d lt size is =

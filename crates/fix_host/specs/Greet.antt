@@ -1,5 +1,5 @@
 -- How a connection is greeted: what is read of it, and what that comes to.
-use Rattle.std.specs.Prelude.{◌≡◌, ℕ, ◌+◌, ◌-◌, ◌*◌, ◌<◌, ◌≤◌, min, All, List, [], ◌∷◌, ◌++◌, length, take}
+use Rattle.std.specs.Prelude.{◌≡◌, ℕ, ◌-◌, ◌*◌, ◌<◌, ◌≤◌, min, All, List, [], ◌∷◌, ◌++◌, length, take}
 use Rattle.std.specs.Prelude.{Option, ⊤}
 use Rattle.fix_base.specs.Parts.{ClockReads}
 use Rattle.fix_base.specs.declared.identity.Identity.{Identity}

@@ -11,3 +11,7 @@ pub mod Damaged
 pub mod Posting
 pub mod DraftFile
 pub mod Sending
+pub mod Taking
+pub mod Posts
+pub mod Drafting
+pub mod Echoing

@@ -1,5 +1,5 @@
 -- The search for the first frame of a connection.
-use Rattle.std.specs.Prelude.{ℕ, ◌-◌, ◌<◌, ◌≤◌, List, length, take, drop}
+use Rattle.std.specs.Prelude.{ℕ, ◌-◌, ◌≤◌, List, length, take, drop}
 use Rattle.fix_base.specs.Stream.{ahead_of}
 use Rattle.fix_frame.specs.Seeks.{SkipsBy}
 use Rattle.fix_host.specs.declared.looking.Looked.{Looked}

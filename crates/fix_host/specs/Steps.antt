@@ -6,7 +6,6 @@ use Rattle.fix_outside.specs.declared.connection.ReadTurn.{ReadTurn}
 use Rattle.fix_parts.specs.Link.{LinkSeen}
 use Rattle.fix_host.specs.declared.greeting.Step.{Step}
 use Rattle.fix_host.specs.declared.greeting.Step.TheVariants as step
-use Rattle.fix_host.specs.declared.known.Greeted.{Greeted}
 use Rattle.fix_host.specs.declared.known.Greeted.TheVariants as greeted
 use Rattle.fix_host.specs.Looking.{IsLookedTo}
 use Rattle.fix_host.specs.Greet.{Turn, ReadsOnce, IsOpen, IsEarly, IsUndecided, Decides, EndsIn}

@@ -2,6 +2,11 @@
 //! be none. This is the step from a connection that was accepted to the thread of its session.
 #![tactic(auto)]
 
+mod drafting;
+mod echoing;
+#[cfg(test)]
+mod echoing_tests;
+mod gate;
 mod greeting;
 #[cfg(test)]
 mod greeting_tests;
@@ -14,10 +19,15 @@ mod posting_tests;
 mod sending;
 mod slot;
 mod spawner;
+mod taking;
+#[cfg(test)]
+mod taking_tests;
 #[cfg(test)]
 mod tests;
 mod world;
 
+pub use echoing::EchoApp;
+pub use gate::{Gate, OpenGate};
 pub use greeting::greet;
 pub use held::Held;
 pub use known::Greeted;
@@ -25,4 +35,5 @@ pub use posting::post_all;
 pub use sending::{OfSender, SenderEnd, send_file};
 pub use slot::{LinkSlot, SlotState};
 pub use spawner::{Anything, FailingSpawner, Spawner, ThreadSpawner};
-pub use world::{Ear, Gate, MakeFault, World};
+pub use taking::TakeApp;
+pub use world::{Ear, MakeFault, World};

@@ -2,7 +2,7 @@
 //! the outbox is closed.
 ghost use Rattle.fix_outbox.specs.Passes.{IsSenderOf, IsTakerOf};
 
-use crate::{Gate, post_all, send_file};
+use crate::{Gate, OpenGate, post_all, send_file};
 use fix_base::{Bytes, Tag};
 use fix_fields::{Draft, DraftFields};
 use fix_outbox::{Outbox, SenderPass, TakerPass};
@@ -24,13 +24,6 @@ impl Gate for Noting {
         self.seen
             .set(self.seen.get().wrapping_mul(100).wrapping_add(both));
     }
-}
-
-// Holds nobody up.
-struct Open;
-
-impl Gate for Open {
-    fn wait(&self, _sender: u32, _line: u32) {}
 }
 
 // An order whose ClOrdID (11) is this digit.
@@ -104,7 +97,7 @@ fn post_three<R: Wait>(rt: &R, alloc: Global, outbox: &Outbox, pass: SenderPass)
         Some(order(alloc, b'b')?),
         Some(order(alloc, b'c')?),
     ];
-    Some(post_all(rt, outbox, &mut pass, &mut drafts, &Open))
+    Some(post_all(rt, outbox, &mut pass, &mut drafts, &OpenGate))
 }
 
 // Takes three drafts, and says which.
@@ -156,7 +149,7 @@ fn of_no_drafts<R: Wait>(rt: &R, alloc: Global) -> Option<(u32, u32)> {
     let (outbox, _taker, mut senders) = Outbox::new(alloc, 1, 1).ok()?;
     let pass = senders.pop()?;
     let file = Bytes::copy(alloc, b"\n").ok()?;
-    let end = send_file(rt, &outbox, pass, file, Vec::new(alloc), &Open);
+    let end = send_file(rt, &outbox, pass, file, Vec::new(alloc), &OpenGate);
     Some((end.drafts, end.posted))
 }
 

@@ -1,6 +1,6 @@
 //! The place for one session's connection, for one thread and for several. Who accepts a connection offers it
 //! here, and the thread of the session takes it.
-ghost use Rattle.std.specs.Prelude.{◌≡◌};
+ghost use Rattle.std.specs.Prelude.{◌≡◌, IfErr};
 ghost use Rattle.fix_host.specs.Slot.{Offers, Takes, freed};
 
 use std::mem;
@@ -70,7 +70,9 @@ impl<L: Drop> LinkSlot<L> {
     }
 
     /// Leaves a connection where the slot is free, or gives it back.
-    pub fn offer<R: Wait>(&self, rt: &R, link: L) -> Result<(), L> {
+    pub fn offer<R: Wait>(&self, rt: &R, link: L) -> Result<(), L>
+        ensures back { IfErr result (λ refused. refused ≡ link) }
+    {
         self.state.lock(rt).offer(link)
     }
 

@@ -7,7 +7,7 @@ ghost use Rattle.fix_host.specs.World.{WorldSeen, Makes, Opens, Retires, Retires
 ghost use Rattle.fix_host.specs.World.{of_app, of_threads, of_files};
 ghost use Rattle.fix_host.specs.Damaged.{IsDamage};
 
-use crate::Spawner;
+use crate::{Gate, Spawner};
 use fix_base::OutOfMemory;
 use fix_disk::{Disk, Sink, Source};
 use fix_parts::{Clock, Link};
@@ -32,12 +32,6 @@ pub trait Ear {
     /// The next connection. It may wait for one.
     fn accept(&mut self, alloc: Global) -> Result<Self::Link, MakeFault>
         ensures faults { Rises (failures_with result) (ear_faults self.old) (ear_faults self.new) };
-}
-
-/// Where a sender may be held up by a test before it posts a draft.
-pub trait Gate {
-    /// Waits until the sender may post its draft of this number. Both are numbered from 1.
-    fn wait(&self, sender: u32, line: u32);
 }
 
 /// What a host needs of the world outside. It makes the parts, and counts what failed: its own failures at once,

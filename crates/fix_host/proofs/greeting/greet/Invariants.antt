@@ -1,4 +1,4 @@
-use Rattle.std.proofs.Common.{◌≡◌, ℕ}
+use Rattle.std.proofs.Common.{◌≡◌}
 use Rattle.std.specs.Prelude.{vec_len}
 use Rattle.fix_host.specs.Held.{ahead_of, inner_of}
 use Rattle.fix_host.specs.Looking.{IsLookedTo}

@@ -1,4 +1,4 @@
-use Rattle.fix_host.proofs.LookLemmas.{looked_on, looked_at, looked_none}
+use Rattle.fix_host.proofs.LookLemmas.{looked_on, looked_at}
 use Rattle.fix_host.proofs.looking.look.Goals as goal
 
 pub returns-in-Frame : goal.returns-in-Frame

@@ -1,4 +1,4 @@
-use Rattle.std.proofs.Common.{rules, ◌≡◌, List, [], ◌∷◌, sym, subst}
+use Rattle.std.proofs.Common.{rules, ◌≡◌, [], ◌∷◌, sym, subst}
 use Rattle.fix_host.specs.DraftFile.{AreDraftsOf}
 use Rattle.fix_host.specs.DraftFile as drafts
 use Rattle.fix_host.proofs.posting_tests.of_no_drafts.Goals as goal

@@ -1,4 +1,4 @@
-use Rattle.std.proofs.Common.{rules, ◌≡◌, ◌∙◌, ℕ, sym, ap, subst, List, length}
+use Rattle.std.proofs.Common.{rules, ◌∙◌, sym, subst}
 use Rattle.std.specs.Prelude.{All, IsSome}
 use Rattle.fix_host.proofs.SendLemmas.{all_some, no_more, has_sent}
 use Rattle.fix_host.proofs.sending.send_file.Goals as goal
