@@ -1,5 +1,5 @@
 -- What comes of beginning a connection: a session stays at rest, and each fault has its cause.
-use Rattle.std.proofs.Common.{◌≡◌, ℕ, List, Bool, Some, None, Result, Ok, Err, refl, sym, ap, ◌∙◌, arith}
+use Rattle.std.proofs.Common.{◌≡◌, ◌≢◌, ℕ, List, Bool, Some, None, Result, Ok, Err, refl, sym, ap, ◌∙◌, arith}
 use Rattle.std.specs.Prelude.{⊤, length}
 use Rattle.std.specs.Ordering.{nat_cmp}
 use Rattle.std.specs.FinMap as map
@@ -7,12 +7,14 @@ use Rattle.fix_base.specs.declared.bytes.OutOfMemory.{OutOfMemory}
 use Rattle.fix_base.specs.declared.identity.Identity.{Identity}
 use Rattle.fix_base.specs.Trace.{OutsideSeen}
 use Rattle.fix_outside.specs.Calls.{Call, HasCalls}
+use Rattle.fix_machine.specs.declared.state.Phase.TheVariants.{Down}
 use Rattle.fix_machine.specs.declared.state.Role.{Role}
 use Rattle.fix_stage.specs.Combine.{AndThen, first_ends, both, Lifted, goes_well, fails}
 use Rattle.fix_stage.specs.Causes.{Blaming}
 use Rattle.fix_stage.specs.Sender.{IsInRange}
 use Rattle.fix_stage.specs.Stage.{Staged, no_stage}
 use Rattle.fix_stage.proofs.CombineLemmas.{Then-blames, has_risen}
+use Rattle.fix_session.specs.declared.stop.StopCause.{StopCause}
 use Rattle.fix_session.specs.declared.stop.BeginFault.{BeginFault}
 use Rattle.fix_session.specs.declared.stop.BeginFault.TheVariants as begins
 use Rattle.fix_session.specs.State.{State, IsWaitingUnder, AreWaiting, IsSound}
@@ -141,6 +143,45 @@ pub not_begun : (role : Role) (resets : Bool) (s : State) (calls : List Call) (e
     → to.machine.state.phase ≡ s.machine.state.phase
 not_begun role resets s calls e to h = begins_stay role resets s calls (Err e) to h
 
+opening_live : (role : Role) (s : State) (calls : List Call) (to : State) → Opening role s calls (Ok tt) to → to.machine.state.phase ≢ Down
+opening_live role s calls to begin.opened = λ e. cc
+
+-- a connection that is begun isn't Down
+pub begun_live : (role : Role) (resets : Bool) (s : State) (calls : List Call) (to : State) → Begins role resets s calls (Ok tt) to → to.machine.state.phase ≢ Down
+begun_live role resets s calls to (both (goes_well (begin.took time)) (both {mid = mid} {more = more} a o)) = opening_live role mid more to o
+
+-- ---- it doesn't answer that it was stopped before
+
+abbrev IsUnstopped : Result ⊤ BeginFault → Type 0
+IsUnstopped (Ok x) = ⊤
+IsUnstopped (Err (begins.Stopped why)) = ⊥
+IsUnstopped (Err begins.OutOfMemory) = ⊤
+IsUnstopped (Err begins.StoreFault) = ⊤
+
+pub not_stopped : (fault : BeginFault) → IsUnstopped (Err fault) → (why : StopCause) → fault ≢ begins.Stopped why
+not_stopped (begins.Stopped w) h why = absurd h
+not_stopped begins.OutOfMemory h why = λ e. cc
+not_stopped begins.StoreFault h why = λ e. cc
+
+asking_unstopped : (role : Role) (resets : Bool) (s : State) (calls : List Call) (r : Result ⊤ BeginFault) (to : State) → AsksReset role resets s calls r to → IsUnstopped r
+asking_unstopped role resets s calls r to (begin.not_asked e) = tt
+asking_unstopped role resets s calls r to (begin.ask_kept e) = tt
+asking_unstopped role resets s calls r to (begin.ask_lost e) = tt
+asking_unstopped role resets s calls r to (begin.ask_memory e) = tt
+
+opening_unstopped : (role : Role) (s : State) (calls : List Call) (r : Result ⊤ BeginFault) (to : State) → Opening role s calls r to → IsUnstopped r
+opening_unstopped role s calls r to begin.opened = tt
+opening_unstopped role s calls r to (begin.open_memory e) = tt
+
+rest_unstopped : (role : Role) (resets : Bool) (s : State) (calls : List Call) (r : Result ⊤ BeginFault) (to : State)
+    → AndThen (AsksReset role resets) (Opening role) s calls r to → IsUnstopped r
+rest_unstopped role resets s calls r to (first_ends {e = e} a) = asking_unstopped role resets s calls (Err e) to a
+rest_unstopped role resets s calls r to (both {mid = mid} {more = more} a o) = opening_unstopped role mid more r to o
+
+pub begins_unstopped : (role : Role) (resets : Bool) (s : State) (calls : List Call) (r : Result ⊤ BeginFault) (to : State) → Begins role resets s calls r to → IsUnstopped r
+begins_unstopped role resets s calls r to (first_ends (fails (begin.time_memory e))) = tt
+begins_unstopped role resets s calls r to (both {more = more} (goes_well (begin.took time)) k) = rest_unstopped role resets (read_at s time) more r to k
+
 -- ---- the clock
 
 pub time_sound : (id : Identity) (w w' : OutsideSeen) (s : State) (calls : List Call) (r : Result ⊤ OutOfMemory) (to : State) → TakesTime s calls r to → w'.open_at ≡ w.open_at
@@ -178,7 +219,7 @@ opening_blames : (role : Role) → Blaming begin_blame (Opening role)
 opening_blames role s calls r to begin.opened = tt
 opening_blames role s calls r to (begin.open_memory e) = tt
 
-begins_blames : (role : Role) (resets : Bool) → Blaming begin_blame (Begins role resets)
+pub begins_blames : (role : Role) (resets : Bool) → Blaming begin_blame (Begins role resets)
 begins_blames role resets =
     Then-blames begin_blame _ (AndThen (AsksReset role resets) (Opening role)) time_blames
     (Then-blames begin_blame (AsksReset role resets) (Opening role) (asking_blames role resets) (opening_blames role))

@@ -17,3 +17,4 @@ pub mod SendLemmas
 pub mod RestLemmas
 pub mod CloseLemmas
 pub mod LiveLemmas
+pub mod ServeLemmas

@@ -170,7 +170,7 @@ resumed_rest s stored h rest =
       waiting = rest.waiting;
     }
 
-load_failed : (fault : LoadFault) → HasFailed (load_blame fault) (Load (Err fault) ∷ [])
+pub load_failed : (fault : LoadFault) → HasFailed (load_blame fault) (Load (Err fault) ∷ [])
 load_failed load.Failed = omega arith
 load_failed (load.Damaged place) = tt
 load_failed load.OutOfMemory = tt

@@ -11,3 +11,4 @@ pub mod Stops
 pub mod Begin
 pub mod Send
 pub mod Session
+pub mod Serve
